@@ -3,8 +3,8 @@ use mathlib.Core.Path.{_≡_, refl, sym, ap, _∙_}
 use mathlib.Core.Logic.{_⊎_, ⊎-elim}
 use mathlib.Core.Bool.{Bool, true, false, _&&_}
 use mathlib.Core.List.{List, [], _∷_, _++_}
-use Prim.Native.Nat.{ℕ, zero, suc, _+_, _<_, _≤_}
-use native.Mathlib.Nat.{add-zero, not-suc-le-zero, le-of-suc-le-suc, lt-irrefl}
+use Prim.Native.Nat.{ℕ, zero, suc, _+_, _-_, _<_, _≤_}
+use native.Mathlib.Nat.{add-zero, add-sub-cancel-left, not-suc-le-zero, le-of-suc-le-suc, lt-irrefl}
 use native.Mathlib.Numerals.{add-one}
 use native.Mathlib.Omega.{arith}
 use lib.Dec.{eqb}
@@ -32,6 +32,11 @@ sameBytes xs ys = eqb (length xs) (length ys) && all (λ k. eqb (getD xs k 0) (g
 pub part-length : (xs : List ℕ) (at n : ℕ) → at + n ≤ length xs → length (part xs at n) ≡ n
 unfolding part
 part-length xs at n h = simp (length-take, length-drop) (omega arith)
+
+-- a part as the code takes it, `&xs[at..at + n]`
+pub part-range : (xs : List ℕ) (at n : ℕ) → take (at + n - at) (drop at xs) ≡ part xs at n
+unfolding part
+part-range xs at n = rw add-sub-cancel-left
 
 -- a byte of a part is a byte of the list
 pub part-byte : (xs : List ℕ) (at n k : ℕ) → k < n → getD (part xs at n) k 0 ≡ getD xs (at + k) 0

@@ -2,6 +2,7 @@
 use mathlib.Core.Path.{_≡_, refl, sym, _∙_}
 use mathlib.Core.Bool.{Bool, true, false, _&&_, _||_, not, cond, false≢true}
 use lib.Dec.{T}
+use borrow.Author.Tests.{not-true, not-false}
 
 -- `b` where `a` holds; where it does not, there is nothing to ask
 abbrev pub implies : Bool → Bool → Bool
@@ -46,3 +47,10 @@ pub same-truth : (a b : Bool) → (a ≡ true → b ≡ true) → (b ≡ true �
 same-truth true b f g = sym (f refl)
 same-truth false true f g = g refl
 same-truth false false f g = refl
+
+-- a test that a function answered and the code left by: `if !f(..)` taken, or passed
+pub fails : {r x : Bool} → r ≡ x → not r ≡ true → x ≡ false
+fails {r} e h = sym e ∙ not-true r h
+
+pub holds : {r x : Bool} → r ≡ x → not r ≡ false → x ≡ true
+holds {r} e h = sym e ∙ not-false r h

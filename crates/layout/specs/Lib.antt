@@ -1,0 +1,5 @@
+pub mod Place
+pub mod Contents
+pub mod Record
+pub mod Fields
+pub mod View
