@@ -1,0 +1,36 @@
+-- A consistent image (the papers' word is sound), and the number that the job check answers (rules 27, 33 and 47). Assumes nothing.
+use mathlib.Core.Path.{_≡_, refl}
+use mathlib.Core.Bool.{Bool, true, false, _&&_, not, cond}
+use mathlib.Core.List.{List}
+use Prim.Native.Nat.{ℕ}
+use Rattle.seq.specs.Search.{all}
+use Rattle.layout.specs.declared.Shape.{Shape}
+use Rattle.layout.specs.Contents.{layoutGood, shapeOf}
+use Rattle.layout.specs.View.{View, viewOf, isDirectory}
+use Rattle.consistency.specs.Name.{hasDuplicate}
+use Rattle.consistency.specs.Inode.{inodeGood}
+use Rattle.consistency.specs.Entry.{entryGood}
+use Rattle.consistency.specs.Others.{textGood, handleGood, journalClear}
+
+-- The records in front of the journal record. Rule 27: inode 0 is a directory. Rule 33: no two entries share parent and name.
+unfoldable pub bodiesGood : Shape → List ℕ → Bool
+bodiesGood h s =
+    isDirectory (viewOf h s) 0 && all (inodeGood h s) (h .inodes) && all (entryGood h s) (h .entries) && not (hasDuplicate (viewOf h s))
+    && all (textGood h s) (h .texts) && all (handleGood h s) (h .handles)
+
+-- A consistent image: layout, journal record and bodies.
+unfoldable pub consistent : List ℕ → Bool
+consistent s = layoutGood s && journalClear (shapeOf s) s && bodiesGood (shapeOf s) s
+
+-- rule 47: the first fault decides, in this order
+abbrev pub unsound : ℕ
+unsound = 201
+
+abbrev pub pending : ℕ
+pending = 203
+
+unfoldable pub recordsNumber : Shape → List ℕ → ℕ
+recordsNumber h s = cond (journalClear h s) (cond (bodiesGood h s) 0 unsound) pending
+
+unfoldable pub checkNumber : List ℕ → ℕ
+checkNumber s = cond (layoutGood s) (recordsNumber (shapeOf s) s) unsound

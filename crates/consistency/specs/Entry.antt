@@ -1,0 +1,34 @@
+-- A consistent directory entry: rules 17 to 19, 28 to 32, 35 and 41. Assumes nothing.
+use mathlib.Core.Path.{_≡_, refl}
+use mathlib.Core.Bool.{Bool, true, false, _&&_, not, cond}
+use mathlib.Core.List.{List}
+use Prim.Native.Nat.{ℕ, _+_, _-_}
+use lib.Dec.{eqb, leb}
+use Rattle.seq.specs.Bytes.{zeros}
+use Rattle.layout.specs.declared.Shape.{Shape}
+use Rattle.layout.specs.View.{View, viewOf, entryAt, isDirectory, isUsed}
+use Rattle.consistency.specs.Name.{nameGood}
+
+-- rule 9: the bytes that an entry has for its name
+abbrev pub nameRoom : Shape → ℕ
+nameRoom h = h .width - 8
+
+-- rule 18: a name fits its room; rule 19: the three bytes behind the length and the rest of the room are zero
+unfoldable pub entryFormed : Shape → List ℕ → ℕ → Bool
+entryFormed h s j =
+    leb (viewOf h s .nameLength j) (nameRoom h) && zeros (entryAt h s j) 5 3
+    && zeros (entryAt h s j) (8 + viewOf h s .nameLength j) (nameRoom h - viewOf h s .nameLength j)
+
+-- rule 35: a directory's field is the parent of its entry; rule 41: anything else is on its directory's file system
+abbrev pub held : View → ℕ → Bool
+held v j = cond (isDirectory v (v .target j)) (eqb (v .field (v .target j)) (v .parent j)) (eqb (v .system (v .target j)) (v .system (v .parent j)))
+
+-- rules 28 to 30, 35 and 41: what an entry in use names
+unfoldable pub entryLinked : View → ℕ → Bool
+entryLinked v j = isDirectory v (v .parent j) && isUsed v (v .target j) && not (eqb (v .target j) 0) && held v j
+
+-- rule 17: a free entry is all zero
+unfoldable pub entryGood : Shape → List ℕ → ℕ → Bool
+entryGood h s j =
+    cond (eqb (viewOf h s .nameLength j) 0) (zeros (entryAt h s j) 0 (h .width))
+    (entryFormed h s j && nameGood (viewOf h s .name j) && entryLinked (viewOf h s) j)

@@ -1,0 +1,67 @@
+-- A consistent inode, by its type: rules 13 to 16, 26, 34, 36 to 40, 42 and 43. Assumes nothing.
+use mathlib.Core.Path.{_≡_, refl}
+use mathlib.Core.Bool.{Bool, true, false, _&&_, not, cond}
+use mathlib.Core.List.{List}
+use Prim.Native.Nat.{ℕ, _+_}
+use lib.Dec.{eqb, ltb, leb}
+use Rattle.seq.specs.Search.{any}
+use Rattle.seq.specs.Bytes.{zeros}
+use Rattle.layout.specs.declared.Shape.{Shape}
+use Rattle.layout.specs.View.{View, viewOf, inodeAt, isSymlink, textUsed}
+use Rattle.consistency.specs.Tree.{entriesOf, childDirectories, leads}
+
+-- rule 26: no mode bit above the twelve
+abbrev pub modeGood : View → ℕ → Bool
+modeGood v i = ltb (v .mode i) 4096
+
+-- rule 40: the most links of any inode
+abbrev pub linkLimit : ℕ
+linkLimit = 64
+
+abbrev pub linksWithin : View → ℕ → Bool
+linksWithin v i = leb (v .links i) linkLimit
+
+-- rule 38: what is no directory has as many links as entries
+abbrev pub linksCounted : View → ℕ → Bool
+linksCounted v i = eqb (v .links i) (entriesOf v i)
+
+-- rule 39: and at least one
+abbrev pub linked : View → ℕ → Bool
+linked v i = leb 1 (v .links i)
+
+-- rule 37: a directory has two links, and one for each child directory
+abbrev pub childrenCounted : View → ℕ → Bool
+childrenCounted v i = eqb (v .links i) (2 + childDirectories v i)
+
+-- what a file and a symlink share
+unfoldable pub leafGood : View → ℕ → Bool
+leafGood v i = modeGood v i && linksWithin v i && linked v i && linksCounted v i
+
+-- rule 15: a file's field is 0
+unfoldable pub fileGood : View → ℕ → Bool
+fileGood v i = leafGood v i && eqb (v .field i) 0
+
+-- rule 16: the root is its own parent; rules 34 and 36: any other directory has one entry, and its parents lead to the root
+abbrev pub placed : View → ℕ → Bool
+placed v i = cond (eqb i 0) (eqb (v .field i) 0) (eqb (entriesOf v i) 1 && leads v (v .inodes) i)
+
+unfoldable pub directoryGood : View → ℕ → Bool
+directoryGood v i = modeGood v i && linksWithin v i && childrenCounted v i && placed v i
+
+-- rule 43: an earlier symlink has the same text
+unfoldable pub textShared : View → ℕ → Bool
+textShared v i = any (λ k. isSymlink v k && eqb (v .field k) (v .field i)) i
+
+-- rule 42: a symlink has a text in use
+unfoldable pub symlinkGood : View → ℕ → Bool
+symlinkGood v i = leafGood v i && ltb (v .field i) (v .texts) && textUsed v (v .field i) && not (textShared v i)
+
+-- rule 13: the type number decides, and there is no fifth
+abbrev pub byKind : ℕ → Bool → Bool → Bool → Bool → Bool
+byKind k free file directory symlink =
+    cond (eqb k 0) free (cond (eqb k 1) file (cond (eqb k 2) directory (cond (eqb k 3) symlink false)))
+
+-- rule 14: a free inode is all zero
+unfoldable pub inodeGood : Shape → List ℕ → ℕ → Bool
+inodeGood h s i =
+    byKind (viewOf h s .kind i) (zeros (inodeAt h s i) 0 32) (fileGood (viewOf h s) i) (directoryGood (viewOf h s) i) (symlinkGood (viewOf h s) i)

@@ -1,0 +1,45 @@
+-- Consistent symlink texts, open handles and journal record: rules 20 to 25 and 44 to 46. Assumes nothing.
+use mathlib.Core.Path.{_≡_, refl}
+use mathlib.Core.Bool.{Bool, true, false, _&&_, _||_, not, cond}
+use mathlib.Core.List.{List}
+use Prim.Native.Nat.{ℕ, _+_, _-_}
+use lib.Dec.{eqb, leb}
+use lib.ListN.{length, getD}
+use Rattle.seq.specs.Truth.{implies}
+use Rattle.seq.specs.Search.{any, all}
+use Rattle.seq.specs.Bytes.{zeros}
+use Rattle.layout.specs.declared.Shape.{Shape}
+use Rattle.layout.specs.View.{View, viewOf, textAt, handleAt, journalAt, isUsed, isSymlink, textUsed}
+
+-- rule 10: the bytes that a record has for a text
+abbrev pub textRoom : ℕ
+textRoom = 63
+
+-- rule 44: no byte of a text is 0
+unfoldable pub noZero : List ℕ → Bool
+noZero text = all (λ k. not (eqb (getD text k 0) 0)) (length text)
+
+-- rule 45: some symlink has text t
+unfoldable pub textLinked : View → ℕ → Bool
+textLinked v t = any (λ i. isSymlink v i && eqb (v .field i) t) (v .inodes)
+
+-- rule 20: a text fits its room; rule 21: what follows it is zero, so a free record is all zero
+unfoldable pub textGood : Shape → List ℕ → ℕ → Bool
+textGood h s t =
+    leb (viewOf h s .textLength t) textRoom && zeros (textAt h s t) (1 + viewOf h s .textLength t) (textRoom - viewOf h s .textLength t)
+    && noZero (viewOf h s .text t) && implies (textUsed (viewOf h s) t) (textLinked (viewOf h s) t)
+
+-- rule 22: the state decides, and there is no fourth; rule 23: the unused bytes of an open handle are zero; rule 24: a closed handle is all zero;
+-- rule 46: an open handle names an inode in use
+unfoldable pub openGood : Shape → List ℕ → ℕ → Bool
+openGood h s n = zeros (handleAt h s n) 1 1 && zeros (handleAt h s n) 4 4 && isUsed (viewOf h s) (viewOf h s .opened n)
+
+abbrev pub byState : ℕ → Bool → Bool → Bool
+byState k closed opened = cond (eqb k 0) closed (cond (eqb k 1) opened (cond (eqb k 2) opened false))
+
+unfoldable pub handleGood : Shape → List ℕ → ℕ → Bool
+handleGood h s n = byState (viewOf h s .state n) (zeros (handleAt h s n) 0 8) (openGood h s n)
+
+-- rule 25: the journal record is all zero
+unfoldable pub journalClear : Shape → List ℕ → Bool
+journalClear h s = zeros (journalAt h s) 0 32
