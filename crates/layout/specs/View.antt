@@ -79,14 +79,17 @@ viewOf h s = record {
 }
 
 -- A number names a directory, an inode in use, a symlink. A number beyond the section names none of them.
+abbrev pub isKind : View → ℕ → ℕ → Bool
+isKind v i k = ltb i (v .inodes) && eqb (v .kind i) k
+
 abbrev pub isDirectory : View → ℕ → Bool
-isDirectory v i = ltb i (v .inodes) && eqb (v .kind i) 2
+isDirectory v i = isKind v i 2
 
 abbrev pub isUsed : View → ℕ → Bool
 isUsed v i = ltb i (v .inodes) && not (eqb (v .kind i) 0)
 
 abbrev pub isSymlink : View → ℕ → Bool
-isSymlink v i = ltb i (v .inodes) && eqb (v .kind i) 3
+isSymlink v i = isKind v i 3
 
 -- an entry, and a text, is in use where its length is not 0
 abbrev pub entryUsed : View → ℕ → Bool
