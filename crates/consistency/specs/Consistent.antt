@@ -5,7 +5,7 @@ use mathlib.Core.List.{List}
 use Prim.Native.Nat.{ℕ}
 use Rattle.seq.specs.Search.{all}
 use Rattle.layout.specs.declared.Shape.{Shape}
-use Rattle.layout.specs.Contents.{layoutGood, shapeOf}
+use Rattle.layout.specs.Contents.{layoutGood, shapeOf, Read}
 use Rattle.layout.specs.View.{View, viewOf, isDirectory}
 use Rattle.consistency.specs.Name.{hasDuplicate}
 use Rattle.consistency.specs.Inode.{inodeGood}
@@ -34,3 +34,12 @@ recordsNumber h s = cond (journalClear h s) (cond (bodiesGood h s) 0 unsound) pe
 
 unfoldable pub checkNumber : List ℕ → ℕ
 checkNumber s = cond (layoutGood s) (recordsNumber (shapeOf s) s) unsound
+
+-- the ways out of the job check
+pub check-bad : (s : List ℕ) → layoutGood s ≡ false → checkNumber s ≡ unsound
+unfolding checkNumber
+check-bad s e = rw e
+
+pub check-read : (s : List ℕ) (h : Shape) → Read s h → checkNumber s ≡ recordsNumber h s
+unfolding checkNumber
+check-read s h r = rw (r .good, r .shape)

@@ -2,12 +2,17 @@
 use mathlib.Core.Path.{_≡_, refl}
 use mathlib.Core.Bool.{Bool, true, false, _&&_, not, cond}
 use mathlib.Core.List.{List}
-use Prim.Native.Nat.{ℕ, _+_, _-_}
+use Prim.Native.Nat.{ℕ, _+_, _-_, _≤_, _<_}
+use native.Mathlib.Omega.{arith}
+use borrow.Author.Tests.{leb-true, eqb-true}
 use lib.Dec.{eqb, leb}
+use Rattle.seq.specs.Truth.{and-left, and-right}
+use Rattle.seq.specs.Search.{all, all-at}
 use Rattle.seq.specs.Bytes.{zeros}
 use Rattle.layout.specs.declared.Shape.{Shape}
+use Rattle.layout.specs.Contents.{Laid}
 use Rattle.layout.specs.View.{View, viewOf, entryAt, isDirectory, isUsed}
-use Rattle.consistency.specs.Name.{nameGood}
+use Rattle.consistency.specs.Name.{nameGood, Named}
 
 -- rule 9: the bytes that an entry has for its name
 abbrev pub nameRoom : Shape → ℕ
@@ -20,15 +25,36 @@ entryFormed h s j =
     && zeros (entryAt h s j) (8 + viewOf h s .nameLength j) (nameRoom h - viewOf h s .nameLength j)
 
 -- rule 35: a directory's field is the parent of its entry; rule 41: anything else is on its directory's file system
-abbrev pub held : View → ℕ → Bool
-held v j = cond (isDirectory v (v .target j)) (eqb (v .field (v .target j)) (v .parent j)) (eqb (v .system (v .target j)) (v .system (v .parent j)))
+abbrev pub held : View → ℕ → ℕ → Bool
+held v target parent = cond (isDirectory v target) (eqb (v .field target) parent) (eqb (v .system target) (v .system parent))
 
 -- rules 28 to 30, 35 and 41: what an entry in use names
 unfoldable pub entryLinked : View → ℕ → Bool
-entryLinked v j = isDirectory v (v .parent j) && isUsed v (v .target j) && not (eqb (v .target j) 0) && held v j
+entryLinked v j = isDirectory v (v .parent j) && isUsed v (v .target j) && not (eqb (v .target j) 0) && held v (v .target j) (v .parent j)
 
 -- rule 17: a free entry is all zero
 unfoldable pub entryGood : Shape → List ℕ → ℕ → Bool
 entryGood h s j =
     cond (eqb (viewOf h s .nameLength j) 0) (zeros (entryAt h s j) 0 (h .width))
     (entryFormed h s j && nameGood (viewOf h s .name j) && entryLinked (viewOf h s) j)
+
+-- a name of a consistent entry lies within its record
+module _ (h : Shape) (s : List ℕ) (laid : Laid h s) where
+  pub formed-fits : (j : ℕ) → entryFormed h s j ≡ true → 8 + viewOf h s .nameLength j ≤ h .width
+  unfolding entryFormed
+  formed-fits j e =
+      let l = leb-true (viewOf h s .nameLength j) (nameRoom h) (search (and-left, and-right)) in
+      omega (arith, laid .width-least)
+
+  good-fits : (j : ℕ) → entryGood h s j ≡ true → 8 + viewOf h s .nameLength j ≤ h .width
+  unfolding entryGood
+  good-fits j e = go (eqb (viewOf h s .nameLength j) 0) refl e
+    where
+      go : (b : Bool) → eqb (viewOf h s .nameLength j) 0 ≡ b
+          → cond b (zeros (entryAt h s j) 0 (h .width)) (entryFormed h s j && nameGood (viewOf h s .name j) && entryLinked (viewOf h s) j) ≡ true
+          → 8 + viewOf h s .nameLength j ≤ h .width
+      go true z g = omega (arith, eqb-true (viewOf h s .nameLength j) 0 z, laid .width-least)
+      go false z g = formed-fits j (search (and-left, and-right))
+
+  pub entries-named : all (entryGood h s) (h .entries) ≡ true → Named h s
+  entries-named e = record { fits = λ j l. good-fits j (all-at (entryGood h s) (h .entries) e j l) }

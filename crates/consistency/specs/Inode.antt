@@ -4,6 +4,7 @@ use mathlib.Core.Bool.{Bool, true, false, _&&_, not, cond}
 use mathlib.Core.List.{List}
 use Prim.Native.Nat.{ℕ, _+_}
 use lib.Dec.{eqb, ltb, leb}
+use borrow.Author.Tests.{ne-eqb}
 use Rattle.seq.specs.Search.{any}
 use Rattle.seq.specs.Bytes.{zeros}
 use Rattle.layout.specs.declared.Shape.{Shape}
@@ -48,9 +49,13 @@ placed v i = cond (eqb i 0) (eqb (v .field i) 0) (eqb (entriesOf v i) 1 && leads
 unfoldable pub directoryGood : View → ℕ → Bool
 directoryGood v i = modeGood v i && linksWithin v i && childrenCounted v i && placed v i
 
+-- inode i is a symlink whose text is t
+abbrev pub hasText : View → ℕ → ℕ → Bool
+hasText v t i = isSymlink v i && eqb (v .field i) t
+
 -- rule 43: an earlier symlink has the same text
 unfoldable pub textShared : View → ℕ → Bool
-textShared v i = any (λ k. isSymlink v k && eqb (v .field k) (v .field i)) i
+textShared v i = any (hasText v (v .field i)) i
 
 -- rule 42: a symlink has a text in use
 unfoldable pub symlinkGood : View → ℕ → Bool
@@ -65,3 +70,20 @@ byKind k free file directory symlink =
 unfoldable pub inodeGood : Shape → List ℕ → ℕ → Bool
 inodeGood h s i =
     byKind (viewOf h s .kind i) (zeros (inodeAt h s i) 0 32) (fileGood (viewOf h s) i) (directoryGood (viewOf h s) i) (symlinkGood (viewOf h s) i)
+
+-- what each type number picks
+module _ (k : ℕ) (free file directory symlink : Bool) where
+  pub kind-free : k ≡ 0 → byKind k free file directory symlink ≡ free
+  kind-free e = simp e
+
+  pub kind-file : k ≡ 1 → byKind k free file directory symlink ≡ file
+  kind-file e = simp e
+
+  pub kind-directory : k ≡ 2 → byKind k free file directory symlink ≡ directory
+  kind-directory e = simp e
+
+  pub kind-symlink : k ≡ 3 → byKind k free file directory symlink ≡ symlink
+  kind-symlink e = simp e
+
+  pub kind-none : (k ≡ 0 → ⊥) → (k ≡ 1 → ⊥) → (k ≡ 2 → ⊥) → (k ≡ 3 → ⊥) → byKind k free file directory symlink ≡ false
+  kind-none a b c d = simp (ne-eqb _ _ a, ne-eqb _ _ b, ne-eqb _ _ c, ne-eqb _ _ d)

@@ -2,12 +2,13 @@
 use mathlib.Core.Path.{_≡_, refl, ap}
 use mathlib.Core.Bool.{Bool, true, false, _&&_, _||_, not}
 use mathlib.Core.List.{List, [], _∷_}
-use Prim.Native.Nat.{ℕ}
+use Prim.Native.Nat.{ℕ, _+_, _<_, _≤_}
 use lib.Dec.{eqb}
 use lib.ListN.{length, getD}
 use Rattle.seq.specs.Search.{all, any}
 use Rattle.seq.specs.Bytes.{sameBytes}
-use Rattle.layout.specs.View.{View, entryUsed}
+use Rattle.layout.specs.declared.Shape.{Shape}
+use Rattle.layout.specs.View.{View, viewOf, entryUsed}
 
 -- rule 31: no byte of a name is 0 or a slash
 abbrev pub nameByte : ℕ → Bool
@@ -30,3 +31,7 @@ clash v i j = entryUsed v i && entryUsed v j && eqb (v .parent i) (v .parent j) 
 -- some entry clashes with an earlier one
 unfoldable pub hasDuplicate : View → Bool
 hasDuplicate v = any (λ j. any (λ i. clash v i j) j) (v .entries)
+
+-- every name lies within its record: what a reader of names relies on
+pub record Named (h : Shape) (s : List ℕ) : Type 0 where
+  pub fits : (j : ℕ) → j < h .entries → 8 + viewOf h s .nameLength j ≤ h .width

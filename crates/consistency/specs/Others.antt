@@ -2,14 +2,18 @@
 use mathlib.Core.Path.{_≡_, refl}
 use mathlib.Core.Bool.{Bool, true, false, _&&_, _||_, not, cond}
 use mathlib.Core.List.{List}
-use Prim.Native.Nat.{ℕ, _+_, _-_}
+use Prim.Native.Nat.{ℕ, _+_, _-_, _≤_, _<_}
+use native.Mathlib.Decide.{decLt}
+use native.Mathlib.Omega.{arith}
+use borrow.Author.Tests.{ne-eqb}
 use lib.Dec.{eqb, leb}
 use lib.ListN.{length, getD}
 use Rattle.seq.specs.Truth.{implies}
 use Rattle.seq.specs.Search.{any, all}
 use Rattle.seq.specs.Bytes.{zeros}
 use Rattle.layout.specs.declared.Shape.{Shape}
-use Rattle.layout.specs.View.{View, viewOf, textAt, handleAt, journalAt, isUsed, isSymlink, textUsed}
+use Rattle.layout.specs.View.{View, viewOf, textAt, handleAt, journalAt, isUsed, textUsed}
+use Rattle.consistency.specs.Inode.{hasText}
 
 -- rule 10: the bytes that a record has for a text
 abbrev pub textRoom : ℕ
@@ -21,7 +25,7 @@ noZero text = all (λ k. not (eqb (getD text k 0) 0)) (length text)
 
 -- rule 45: some symlink has text t
 unfoldable pub textLinked : View → ℕ → Bool
-textLinked v t = any (λ i. isSymlink v i && eqb (v .field i) t) (v .inodes)
+textLinked v t = any (hasText v t) (v .inodes)
 
 -- rule 20: a text fits its room; rule 21: what follows it is zero, so a free record is all zero
 unfoldable pub textGood : Shape → List ℕ → ℕ → Bool
@@ -43,3 +47,18 @@ handleGood h s n = byState (viewOf h s .state n) (zeros (handleAt h s n) 0 8) (o
 -- rule 25: the journal record is all zero
 unfoldable pub journalClear : Shape → List ℕ → Bool
 journalClear h s = zeros (journalAt h s) 0 32
+
+-- what each state picks
+module _ (k : ℕ) (closed opened : Bool) where
+  pub state-closed : k ≡ 0 → byState k closed opened ≡ closed
+  state-closed e = simp e
+
+  pub state-open : (k ≡ 0 → ⊥) → k < 3 → byState k closed opened ≡ opened
+  state-open a l = go (decLt k 2)
+    where
+      go : Dec (k < 2) → byState k closed opened ≡ opened
+      go (yes m) = let e : k ≡ 1 = omega arith in simp e
+      go (no m) = let e : k ≡ 2 = omega arith in simp e
+
+  pub state-none : 3 ≤ k → byState k closed opened ≡ false
+  state-none l = simp (ne-eqb k 0 (λ e. omega arith), ne-eqb k 1 (λ e. omega arith), ne-eqb k 2 (λ e. omega arith))

@@ -1,1 +1,71 @@
-// trial
+// The consistency of an image, and the job check.
+use layout::Shape;
+use layout::contents::Contents;
+ghost use mathlib.Core.Path.{_≡_};
+ghost use Rattle.layout.specs.Contents.{Laid};
+ghost use Rattle.consistency.specs.Others.{journalClear};
+ghost use Rattle.consistency.specs.Consistent.{bodiesGood, recordsNumber, checkNumber};
+
+pub mod entries;
+pub mod handles;
+pub mod inodes;
+pub mod names;
+pub mod texts;
+pub mod tree;
+
+// Whether the records in front of the journal record are consistent.
+pub fn bodies_good(s: &[u8], h: Shape) -> bool
+    requires { ⌜ Laid h (now s) ⌝ }
+    ensures { λ r. ⌜ r ≡ bodiesGood h (now (s .entry)) ⌝ }
+{
+    if !layout::lookup::is_directory(s, h, 0) {
+        return false;
+    }
+    if !inodes::all_good(s, h) {
+        return false;
+    }
+    if !entries::all_good(s, h) {
+        return false;
+    }
+    if names::has_duplicate(s, h) {
+        return false;
+    }
+    if !texts::all_good(s, h) {
+        return false;
+    }
+    handles::all_good(s, h)
+}
+
+// Whether the journal record is all zero.
+pub fn journal_clear(s: &[u8], h: Shape) -> bool
+    requires { ⌜ Laid h (now s) ⌝ }
+    ensures { λ r. ⌜ r ≡ journalClear h (now (s .entry)) ⌝ }
+{
+    let r = layout::records::journal(s, h);
+    layout::bytes::all_zero(r, 0, 32)
+}
+
+// The number of an image with a good layout.
+fn records_number(s: &[u8], h: Shape) -> u8
+    requires { ⌜ Laid h (now s) ⌝ }
+    ensures { λ r. ⌜ r ≡ recordsNumber h (now (s .entry)) ⌝ }
+{
+    if !journal_clear(s, h) {
+        return 203;
+    }
+    if !bodies_good(s, h) {
+        return 201;
+    }
+    0
+}
+
+// The job check: 0 for a consistent image, 203 for one whose journal record is not zero, 201 for any other bytes.
+pub fn check(s: &[u8]) -> u8
+    ensures { λ r. ⌜ r ≡ checkNumber (now (s .entry)) ⌝ }
+{
+    let found = layout::contents::read(s);
+    match found {
+        Contents::Bad => 201,
+        Contents::Good(h) => records_number(s, h),
+    }
+}

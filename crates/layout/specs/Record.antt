@@ -20,6 +20,10 @@ pub record Reads (r x : List ℕ) (n : ℕ) : Type 0 where
   pub is : r ≡ x
   pub long : length r ≡ n
 
+-- a field that was read from such a record is the record's
+pub field-of : {A : Type 0} {r x : List ℕ} {n : ℕ} {v : A} (f : List ℕ → A) → Reads r x n → v ≡ f r → v ≡ f x
+field-of f reads e = e ∙ ap f (reads .is)
+
 pub record-length : (h : Shape) (s : List ℕ) (k i : ℕ) → length s ≡ imageBytes h → k < 5 → i < records h k → length (recordAt h s k i) ≡ recordBytes h k
 unfolding recordAt
 record-length h s k i long l b = part-length s (place h k i) (recordBytes h k) (let e = inside h k i l b in omega arith)

@@ -4,6 +4,8 @@ use mathlib.Core.Bool.{Bool, true, false, _&&_, not}
 use mathlib.Core.List.{List}
 use Prim.Native.Nat.{ℕ, _-_, _≤_, _<_}
 use lib.Dec.{eqb, ltb}
+use borrow.Author.Tests.{ltb-true}
+use Rattle.seq.specs.Truth.{and-left}
 use Rattle.layout.specs.declared.Shape.{Shape}
 use Rattle.layout.specs.Contents.{Laid}
 use Rattle.layout.specs.Record.{recordAt}
@@ -100,6 +102,15 @@ textUsed v t = not (eqb (v .textLength t) 0)
 
 abbrev pub handleOpen : View → ℕ → Bool
 handleOpen v n = not (eqb (v .state n) 0)
+
+-- what names an inode is below their number
+pub isKind-below : (h : Shape) (s : List ℕ) (i k : ℕ) → isKind (viewOf h s) i k ≡ true → i < h .inodes
+unfolding viewOf
+isKind-below h s i k e = ltb-true _ _ (and-left (ltb i (h .inodes)) _ e)
+
+pub isUsed-below : (h : Shape) (s : List ℕ) (i : ℕ) → isUsed (viewOf h s) i ≡ true → i < h .inodes
+unfolding viewOf
+isUsed-below h s i e = ltb-true _ _ (and-left (ltb i (h .inodes)) _ e)
 
 -- Every number in a record leads somewhere: what a reader that follows them relies on. A consistent image is readable.
 pub record Readable (h : Shape) (s : List ℕ) : Type 0 where

@@ -1,0 +1,76 @@
+// Consistent symlink texts.
+use layout::Shape;
+ghost use mathlib.Core.Path.{_≡_};
+ghost use Prim.Native.Nat.{_<_};
+ghost use Rattle.seq.specs.Search.{all};
+ghost use Rattle.layout.specs.Contents.{Laid};
+ghost use Rattle.layout.specs.View.{viewOf};
+ghost use Rattle.consistency.specs.Others.{noZero, textLinked, textGood};
+
+// Whether no byte is 0.
+fn no_zero(text: &[u8]) -> bool
+    ensures { λ r. ⌜ r ≡ noZero (now (text .entry)) ⌝ }
+{
+    let mut k: usize = 0;
+    while k < text.len() {
+        if text[k] == 0 {
+            return false;
+        }
+        k += 1;
+    }
+    true
+}
+
+// Whether some symlink has text t.
+fn linked(s: &[u8], h: Shape, t: usize) -> bool
+    requires { ⌜ Laid h (now s) ⌝ }
+    ensures { λ r. ⌜ r ≡ textLinked (viewOf h (now (s .entry))) t ⌝ }
+{
+    let n = h.inodes;
+    let mut i: usize = 0;
+    while i < n {
+        if crate::inodes::has_text(s, h, i, t) {
+            return true;
+        }
+        i += 1;
+    }
+    false
+}
+
+// Whether text t fits its room, is followed by zeros, holds no zero, and belongs to a symlink if it is in use.
+fn good(s: &[u8], h: Shape, t: usize) -> bool
+    requires { ⌜ Laid h (now s) × (t < h .texts) ⌝ }
+    ensures { λ r. ⌜ r ≡ textGood h (now (s .entry)) t ⌝ }
+{
+    let r = layout::records::text(s, h, t);
+    let n = layout::text::length(r);
+    if 63 < n {
+        return false;
+    }
+    if !layout::bytes::all_zero(r, 1 + n, 63 - n) {
+        return false;
+    }
+    if !no_zero(layout::text::bytes(r)) {
+        return false;
+    }
+    if n == 0 {
+        return true;
+    }
+    linked(s, h, t)
+}
+
+// Whether every text is consistent.
+pub fn all_good(s: &[u8], h: Shape) -> bool
+    requires { ⌜ Laid h (now s) ⌝ }
+    ensures { λ r. ⌜ r ≡ all (textGood h (now (s .entry))) (h .texts) ⌝ }
+{
+    let n = h.texts;
+    let mut t: usize = 0;
+    while t < n {
+        if !good(s, h, t) {
+            return false;
+        }
+        t += 1;
+    }
+    true
+}
