@@ -1,0 +1,3 @@
+//! The commands of the reference model.
+
+fn main() {}
