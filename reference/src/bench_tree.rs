@@ -4,17 +4,7 @@ use crate::builder::{Entry, Handle, Inode, Tree};
 use crate::layout::{DIRECTORY, FILE, SYMLINK};
 
 fn inode(kind: u8, links: u16, field: u16) -> Inode {
-    Inode {
-        kind,
-        file_system: 0,
-        mode: 0o755,
-        owner: 100,
-        group: 100,
-        links,
-        field,
-        modified: 100,
-        changed: 100,
-    }
+    Inode { kind, file_system: 0, mode: 0o755, owner: 100, group: 100, links, field, modified: 100, changed: 100 }
 }
 
 pub fn bench_tree() -> Tree {
@@ -67,10 +57,7 @@ mod tests {
         assert_eq!(&image[..8], b"NODE\x28\x00\x07\x00");
         assert_eq!(&image[32..40], b"NOTE\x50\x02\x01\x00");
         assert_eq!(&image[40..56], b"\x02\x00\xed\x01d\0\0\0d\0\0\0\x04\0\0\0");
-        assert_eq!(
-            &image[264 + 4 * 32..264 + 4 * 32 + 9],
-            b"\x01\0\x05\0\x01\0\0\0d"
-        );
+        assert_eq!(&image[264 + 4 * 32..264 + 4 * 32 + 9], b"\x01\0\x05\0\x01\0\0\0d");
         assert_eq!(&image[520..523], b"\x01a\0");
         assert_eq!(&image[584..592], b"\x01\0\x02\0\0\0\0\0");
     }

@@ -1,8 +1,6 @@
 //! Builds images from records, and keeps link counts and parents in step with the entries.
 
-use crate::layout::{
-    Layout, DIRECTORY, ENTRIES, FREE, HANDLES, INODES, NAME_MAX, ROW_LEN, SECTIONS, TEXTS, TEXT_MAX,
-};
+use crate::layout::{Layout, DIRECTORY, ENTRIES, FREE, HANDLES, INODES, NAME_MAX, ROW_LEN, SECTIONS, TEXTS, TEXT_MAX};
 
 #[derive(Clone, Debug, Default, PartialEq, Eq)]
 pub struct Inode {
@@ -42,11 +40,7 @@ pub struct Tree {
 
 impl Entry {
     pub fn new(parent: u16, target: u16, name: &[u8]) -> Entry {
-        Entry {
-            parent,
-            target,
-            name: name.to_vec(),
-        }
+        Entry { parent, target, name: name.to_vec() }
     }
 
     pub fn is_free(&self) -> bool {
@@ -56,26 +50,13 @@ impl Entry {
 
 impl Tree {
     pub fn encode(&self) -> Vec<u8> {
-        let layout = Layout::of_counts([
-            self.inodes.len(),
-            self.entries.len(),
-            self.texts.len(),
-            self.handles.len(),
-            1,
-        ]);
+        let layout =
+            Layout::of_counts([self.inodes.len(), self.entries.len(), self.texts.len(), self.handles.len(), 1]);
         let mut image = vec![0; layout.image_len()];
         for (i, rule) in SECTIONS.iter().enumerate() {
             put(&mut image, i * ROW_LEN, rule.name);
-            put(
-                &mut image,
-                i * ROW_LEN + 4,
-                &(layout.offsets[i] as u16).to_le_bytes(),
-            );
-            put(
-                &mut image,
-                i * ROW_LEN + 6,
-                &(layout.counts[i] as u16).to_le_bytes(),
-            );
+            put(&mut image, i * ROW_LEN + 4, &(layout.offsets[i] as u16).to_le_bytes());
+            put(&mut image, i * ROW_LEN + 6, &(layout.counts[i] as u16).to_le_bytes());
         }
         for (i, inode) in self.inodes.iter().enumerate() {
             put(&mut image, layout.position(INODES, i), &inode.encode());
@@ -101,14 +82,8 @@ impl Tree {
                 continue;
             }
             let (links, field) = if inode.kind == DIRECTORY {
-                let parent = names
-                    .first()
-                    .filter(|_| number != 0)
-                    .map(|&slot| self.entries[slot].parent);
-                (
-                    2 + self.subdirectories(number as u16),
-                    parent.unwrap_or(inode.field),
-                )
+                let parent = names.first().filter(|_| number != 0).map(|&slot| self.entries[slot].parent);
+                (2 + self.subdirectories(number as u16), parent.unwrap_or(inode.field))
             } else {
                 (names.len(), inode.field)
             };
@@ -128,9 +103,7 @@ impl Tree {
     }
 
     pub fn kind(&self, inode: u16) -> u8 {
-        self.inodes
-            .get(usize::from(inode))
-            .map_or(FREE, |inode| inode.kind)
+        self.inodes.get(usize::from(inode)).map_or(FREE, |inode| inode.kind)
     }
 
     /// Makes the first free slot an entry; false where none is free.
@@ -146,15 +119,11 @@ impl Tree {
 
     fn subdirectories(&self, directory: u16) -> usize {
         let below = self.entries_in(directory).into_iter();
-        below
-            .filter(|&slot| self.kind(self.entries[slot].target) == DIRECTORY)
-            .count()
+        below.filter(|&slot| self.kind(self.entries[slot].target) == DIRECTORY).count()
     }
 
     fn slots(&self, wanted: impl Fn(&Entry) -> bool) -> Vec<usize> {
-        (0..self.entries.len())
-            .filter(|&slot| wanted(&self.entries[slot]))
-            .collect()
+        (0..self.entries.len()).filter(|&slot| wanted(&self.entries[slot])).collect()
     }
 }
 
@@ -179,11 +148,7 @@ impl Inode {
 
 impl Entry {
     fn encode(&self) -> [u8; 32] {
-        assert!(
-            self.name.len() <= NAME_MAX,
-            "a name of {} bytes",
-            self.name.len()
-        );
+        assert!(self.name.len() <= NAME_MAX, "a name of {} bytes", self.name.len());
         let mut record = [0; 32];
         put(&mut record, 0, &self.parent.to_le_bytes());
         put(&mut record, 2, &self.target.to_le_bytes());

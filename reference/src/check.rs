@@ -1,8 +1,6 @@
 //! The check of an image: one function for each rule of a consistent (*sound*) one.
 
-use crate::layout::{
-    Entry, Handle, Image, Inode, Text, DIRECTORY, FILE, FREE, NAME_MAX, SYMLINK, TEXT_MAX,
-};
+use crate::layout::{Entry, Handle, Image, Inode, Text, DIRECTORY, FILE, FREE, NAME_MAX, SYMLINK, TEXT_MAX};
 
 /// The answers of the check.
 pub const CONSISTENT: u8 = 0;
@@ -80,16 +78,10 @@ pub const RULES: [(Rule, Holds); 36] = [
     (Rule::NameBytes, names_have_no_zero_or_slash),
     (Rule::NameDots, names_are_not_dot_or_dot_dot),
     (Rule::DistinctNames, names_in_a_directory_are_distinct),
-    (
-        Rule::OneEntryPerDirectory,
-        each_other_directory_has_one_entry,
-    ),
+    (Rule::OneEntryPerDirectory, each_other_directory_has_one_entry),
     (Rule::ParentFields, parent_fields_match_the_entries),
     (Rule::ParentsLeadToRoot, parents_lead_to_root),
-    (
-        Rule::DirectoryLinks,
-        directory_links_are_two_and_the_subdirectories,
-    ),
+    (Rule::DirectoryLinks, directory_links_are_two_and_the_subdirectories),
     (Rule::OtherLinks, other_links_are_the_entries),
     (Rule::AtLeastOneLink, non_directories_have_a_link),
     (Rule::LinksLimit, links_are_within_the_limit),
@@ -146,11 +138,7 @@ impl<'a> Body<'a> {
                 }
             }
         }
-        Body {
-            image,
-            names,
-            subdirectories,
-        }
+        Body { image, names, subdirectories }
     }
 
     fn root(&self) -> Option<Inode<'a>> {
@@ -158,9 +146,7 @@ impl<'a> Body<'a> {
     }
 
     fn inodes_of(&self, kind: u8) -> impl Iterator<Item = Inode<'a>> {
-        self.image
-            .inodes()
-            .filter(move |inode| inode.kind() == kind)
+        self.image.inodes().filter(move |inode| inode.kind() == kind)
     }
 
     fn non_directories(&self) -> impl Iterator<Item = (usize, Inode<'a>)> {
@@ -205,8 +191,7 @@ fn field_of_a_file_is_zero(body: &Body) -> bool {
 }
 
 fn root_is_its_own_parent(body: &Body) -> bool {
-    body.root()
-        .is_some_and(|root| root.kind() != DIRECTORY || root.field() == 0)
+    body.root().is_some_and(|root| root.kind() != DIRECTORY || root.field() == 0)
 }
 
 fn entry_pads_are_zero(body: &Body) -> bool {
@@ -226,8 +211,7 @@ fn texts_are_zero_filled(body: &Body) -> bool {
 }
 
 fn handle_states_are_known(body: &Body) -> bool {
-    body.open_handles()
-        .all(|handle| matches!(handle.state(), 1 | 2))
+    body.open_handles().all(|handle| matches!(handle.state(), 1 | 2))
 }
 
 fn second_bytes_of_handles_are_zero(body: &Body) -> bool {
@@ -275,8 +259,7 @@ fn entry_targets_are_used(body: &Body) -> bool {
 }
 
 fn names_fit_their_records(body: &Body) -> bool {
-    body.used_entries()
-        .all(|entry| entry.name_len() <= NAME_MAX)
+    body.used_entries().all(|entry| entry.name_len() <= NAME_MAX)
 }
 
 fn names_have_no_zero_or_slash(body: &Body) -> bool {
@@ -289,9 +272,7 @@ fn names_are_not_dot_or_dot_dot(body: &Body) -> bool {
 
 /// Sorted, entries with the same parent and name become neighbours.
 fn names_in_a_directory_are_distinct(body: &Body) -> bool {
-    let mut keys: Vec<(u16, &[u8])> = (body.used_entries())
-        .map(|entry| (entry.parent(), entry.name()))
-        .collect();
+    let mut keys: Vec<(u16, &[u8])> = (body.used_entries()).map(|entry| (entry.parent(), entry.name())).collect();
     keys.sort_unstable();
     keys.windows(2).all(|pair| pair[0] != pair[1])
 }
@@ -302,13 +283,10 @@ fn each_other_directory_has_one_entry(body: &Body) -> bool {
 }
 
 fn parent_fields_match_the_entries(body: &Body) -> bool {
-    body.used_entries()
-        .all(|entry| match body.image.inode(entry.target()) {
-            Some(inode) if inode.kind() == DIRECTORY && entry.target() != 0 => {
-                inode.field() == entry.parent()
-            }
-            _ => true,
-        })
+    body.used_entries().all(|entry| match body.image.inode(entry.target()) {
+        Some(inode) if inode.kind() == DIRECTORY && entry.target() != 0 => inode.field() == entry.parent(),
+        _ => true,
+    })
 }
 
 /// Climbs from each directory to one already known to lead to root, then marks the way it came,
@@ -341,8 +319,7 @@ fn parents_lead_to_root(body: &Body) -> bool {
 
 fn directory_links_are_two_and_the_subdirectories(body: &Body) -> bool {
     let directories = body.image.inodes().zip(&body.subdirectories);
-    (directories.filter(|(inode, _)| inode.kind() == DIRECTORY))
-        .all(|(inode, &below)| inode.links() == 2 + below)
+    (directories.filter(|(inode, _)| inode.kind() == DIRECTORY)).all(|(inode, &below)| inode.links() == 2 + below)
 }
 
 fn other_links_are_the_entries(body: &Body) -> bool {
@@ -363,9 +340,7 @@ fn non_directories_share_the_file_system(body: &Body) -> bool {
         let held = body.image.inode(entry.target());
         match (holder, held) {
             (Some(holder), Some(held)) if holder.kind() == DIRECTORY => {
-                held.kind() == FREE
-                    || held.kind() == DIRECTORY
-                    || held.file_system() == holder.file_system()
+                held.kind() == FREE || held.kind() == DIRECTORY || held.file_system() == holder.file_system()
             }
             _ => true,
         }
@@ -373,17 +348,11 @@ fn non_directories_share_the_file_system(body: &Body) -> bool {
 }
 
 fn symlinks_have_a_used_text(body: &Body) -> bool {
-    (body.inodes_of(SYMLINK)).all(|symlink| {
-        body.image
-            .text(symlink.field())
-            .is_some_and(|text| text.text_len() != 0)
-    })
+    (body.inodes_of(SYMLINK)).all(|symlink| body.image.text(symlink.field()).is_some_and(|text| text.text_len() != 0))
 }
 
 fn no_two_symlinks_share_a_text(body: &Body) -> bool {
-    body.symlinks_of_texts()
-        .iter()
-        .all(|&symlinks| symlinks <= 1)
+    body.symlinks_of_texts().iter().all(|&symlinks| symlinks <= 1)
 }
 
 fn symlink_texts_have_no_zero(body: &Body) -> bool {
@@ -398,6 +367,5 @@ fn used_texts_have_a_symlink(body: &Body) -> bool {
 }
 
 fn open_handles_name_used_inodes(body: &Body) -> bool {
-    body.open_handles()
-        .all(|handle| body.image.is_used(handle.inode()))
+    body.open_handles().all(|handle| body.image.is_used(handle.inode()))
 }

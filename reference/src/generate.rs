@@ -45,33 +45,13 @@ pub const FULL: Aim = Aim {
 };
 
 /// Full size with about a third of the records in use.
-pub const SPARSE: Aim = Aim {
-    directories: 60,
-    files: 80,
-    symlinks: 20,
-    names: 300,
-    open_handles: 5,
-    ..FULL
-};
+pub const SPARSE: Aim = Aim { directories: 60, files: 80, symlinks: 20, names: 300, open_handles: 5, ..FULL };
 
 /// Every inode a directory, each inside the one before.
-pub const DEEPEST: Aim = Aim {
-    directories: 511,
-    files: 0,
-    symlinks: 0,
-    names: 511,
-    shape: Shape::Chain,
-    ..FULL
-};
+pub const DEEPEST: Aim = Aim { directories: 511, files: 0, symlinks: 0, names: 511, shape: Shape::Chain, ..FULL };
 
 /// A deep chain with files at every depth.
-pub const DEEP: Aim = Aim {
-    directories: 300,
-    files: 150,
-    symlinks: 61,
-    shape: Shape::Chain,
-    ..FULL
-};
+pub const DEEP: Aim = Aim { directories: 300, files: 150, symlinks: 61, shape: Shape::Chain, ..FULL };
 
 /// The aim of a small tree: some records of each kind, most of them used.
 pub fn small_aim(random: &mut Random) -> Aim {
@@ -89,11 +69,7 @@ pub fn small_aim(random: &mut Random) -> Aim {
         symlinks,
         names,
         open_handles,
-        shape: if random.one_in(4) {
-            Shape::Chain
-        } else {
-            Shape::Bushy
-        },
+        shape: if random.one_in(4) { Shape::Chain } else { Shape::Bushy },
     }
 }
 
@@ -213,24 +189,17 @@ impl Grower {
     }
 
     fn open_handles(&mut self, wanted: usize) {
-        let used: Vec<u16> = (0..self.tree.inodes.len() as u16)
-            .filter(|&number| self.tree.kind(number) != FREE)
-            .collect();
+        let used: Vec<u16> =
+            (0..self.tree.inodes.len() as u16).filter(|&number| self.tree.kind(number) != FREE).collect();
         let places = shuffled(&mut self.random, 0..self.tree.handles.len());
         for &place in places.iter().take(wanted) {
-            self.tree.handles[place] = Handle {
-                state: 1 + (self.random.byte() & 1),
-                inode: *self.random.pick(&used),
-            };
+            self.tree.handles[place] = Handle { state: 1 + (self.random.byte() & 1), inode: *self.random.pick(&used) };
         }
     }
 
     /// Puts an inode into a free record, with an entry in `parent`.
     fn place(&mut self, inode: Inode, parent: u16) -> u16 {
-        let number = self
-            .numbers
-            .pop()
-            .expect("the aim has an inode for each file");
+        let number = self.numbers.pop().expect("the aim has an inode for each file");
         self.tree.inodes[usize::from(number)] = inode;
         self.enter(parent, number);
         number
@@ -243,17 +212,13 @@ impl Grower {
     }
 
     fn text(&mut self) -> u16 {
-        let number = self
-            .texts
-            .pop()
-            .expect("the aim has a text for each symlink");
+        let number = self.texts.pop().expect("the aim has a text for each symlink");
         let len = match self.random.below(4) {
             0 => 1,
             1 => TEXT_MAX,
             _ => 1 + self.random.below(TEXT_MAX),
         };
-        self.tree.texts[usize::from(number)] =
-            (0..len).map(|_| 1 + self.random.byte() % 255).collect();
+        self.tree.texts[usize::from(number)] = (0..len).map(|_| 1 + self.random.byte() % 255).collect();
         number
     }
 
@@ -316,10 +281,7 @@ impl Grower {
     fn name_bytes(&mut self, len: usize) -> Vec<u8> {
         let allowed = |byte: u8| byte != 0 && byte != b'/';
         let random = &mut self.random;
-        std::iter::repeat_with(|| random.byte())
-            .filter(|&byte| allowed(byte))
-            .take(len)
-            .collect()
+        std::iter::repeat_with(|| random.byte()).filter(|&byte| allowed(byte)).take(len).collect()
     }
 }
 
@@ -332,11 +294,7 @@ mod tests {
     fn every_generated_image_is_consistent() {
         for seed in 0..100 {
             let aim = small_aim(&mut Random::new(seed));
-            assert_eq!(
-                check(&generate(aim, seed).encode()),
-                CONSISTENT,
-                "seed {seed}, {aim:?}"
-            );
+            assert_eq!(check(&generate(aim, seed).encode()), CONSISTENT, "seed {seed}, {aim:?}");
         }
         for aim in [FULL, SPARSE, DEEPEST, DEEP] {
             let image = generate(aim, 1).encode();

@@ -9,17 +9,8 @@ pub struct SectionRule {
     pub counts: RangeInclusive<usize>,
 }
 
-const fn section(
-    name: &'static [u8; 4],
-    record_len: usize,
-    least: usize,
-    most: usize,
-) -> SectionRule {
-    SectionRule {
-        name,
-        record_len,
-        counts: least..=most,
-    }
+const fn section(name: &'static [u8; 4], record_len: usize, least: usize, most: usize) -> SectionRule {
+    SectionRule { name, record_len, counts: least..=most }
 }
 
 /// The sections in the order of the table of contents: inodes, directory entries, symlink texts,
@@ -59,9 +50,7 @@ impl Layout {
     /// The layout of an image whose table of contents is right; nothing where any part of it is wrong.
     pub fn read(bytes: &[u8]) -> Option<Layout> {
         let contents = bytes.get(..CONTENTS_LEN)?;
-        let layout = Layout::of_counts(std::array::from_fn(|i| {
-            u16_at(contents, i * ROW_LEN + 6).into()
-        }));
+        let layout = Layout::of_counts(std::array::from_fn(|i| u16_at(contents, i * ROW_LEN + 6).into()));
         let right = names_stand_in_order(contents)
             && layout.counts_are_in_range()
             && layout.offsets_leave_no_gap(contents)
@@ -101,8 +90,7 @@ impl Layout {
 }
 
 fn names_stand_in_order(contents: &[u8]) -> bool {
-    (SECTIONS.iter().zip(contents.chunks_exact(ROW_LEN)))
-        .all(|(rule, row)| row.starts_with(rule.name))
+    (SECTIONS.iter().zip(contents.chunks_exact(ROW_LEN))).all(|(rule, row)| row.starts_with(rule.name))
 }
 
 fn u16_at(bytes: &[u8], at: usize) -> u16 {
@@ -166,8 +154,7 @@ impl<'a> Image<'a> {
     }
 
     pub fn is_directory(&self, number: u16) -> bool {
-        self.inode(number)
-            .is_some_and(|inode| inode.kind() == DIRECTORY)
+        self.inode(number).is_some_and(|inode| inode.kind() == DIRECTORY)
     }
 
     pub fn is_used(&self, number: u16) -> bool {

@@ -1,7 +1,9 @@
+//! The reference model: checks images, and makes the test vectors that the proved library must answer alike.
 
 pub mod bench_tree;
 pub mod builder;
 pub mod check;
+pub mod damage;
 pub mod generate;
 pub mod layout;
 pub mod random;

@@ -4,17 +4,7 @@ use crate::builder::{Entry, Handle, Inode, Tree};
 use crate::layout::{DIRECTORY, FILE, SYMLINK};
 
 fn inode(kind: u8, file_system: u8, field: u16) -> Inode {
-    Inode {
-        kind,
-        file_system,
-        mode: 0o644,
-        owner: 7,
-        group: 8,
-        links: 0,
-        field,
-        modified: 1000,
-        changed: 2000,
-    }
+    Inode { kind, file_system, mode: 0o644, owner: 7, group: 8, links: 0, field, modified: 1000, changed: 2000 }
 }
 
 fn recounted(mut tree: Tree) -> Tree {
@@ -24,10 +14,7 @@ fn recounted(mut tree: Tree) -> Tree {
 
 /// Root alone, and no other record but the journal's.
 pub fn minimal() -> Tree {
-    recounted(Tree {
-        inodes: vec![inode(DIRECTORY, 0, 0)],
-        ..Tree::default()
-    })
+    recounted(Tree { inodes: vec![inode(DIRECTORY, 0, 0)], ..Tree::default() })
 }
 
 /// Root alone among as many free records as an image can hold.
@@ -75,14 +62,7 @@ pub fn workshop() -> Tree {
     texts[1] = b"a".to_vec();
     texts[3] = vec![b'x'; 63];
     let handles = [(0, 0), (1, 4), (2, 1), (0, 0), (1, 7), (2, 14)];
-    recounted(Tree {
-        inodes,
-        entries,
-        texts,
-        handles: handles
-            .map(|(state, inode)| Handle { state, inode })
-            .to_vec(),
-    })
+    recounted(Tree { inodes, entries, texts, handles: handles.map(|(state, inode)| Handle { state, inode }).to_vec() })
 }
 
 /// A file and a symlink with as many names as the link count allows, and free slots for more.
@@ -91,12 +71,7 @@ pub fn many_names() -> Tree {
     entries.extend((0..64).map(|i| Entry::new(0, 3, &[b'l', 48 + i])));
     entries.extend([Entry::default(), Entry::default()]);
     recounted(Tree {
-        inodes: vec![
-            inode(DIRECTORY, 128, 0),
-            inode(FILE, 128, 0),
-            Inode::default(),
-            inode(SYMLINK, 128, 0),
-        ],
+        inodes: vec![inode(DIRECTORY, 128, 0), inode(FILE, 128, 0), Inode::default(), inode(SYMLINK, 128, 0)],
         entries,
         texts: vec![b"./f0".to_vec()],
         handles: vec![],
@@ -109,10 +84,7 @@ pub fn many_subdirectories() -> Tree {
         inodes: vec![inode(DIRECTORY, 0, 0); 64],
         entries: vec![Entry::new(0, 1, b"top")],
         texts: vec![],
-        handles: vec![Handle {
-            state: 2,
-            inode: 63,
-        }],
+        handles: vec![Handle { state: 2, inode: 63 }],
     };
     (tree.entries).extend((0..62).map(|i| Entry::new(1, 2 + u16::from(i), &[48 + i])));
     tree.inodes.push(Inode::default());
@@ -144,11 +116,7 @@ pub fn near_names() -> Tree {
     inodes.extend([inode(FILE, 3, 0), inode(SYMLINK, 3, 0)]);
     let mut entries = vec![Entry::new(0, 1, b"1"), Entry::new(1, 2, b"1")];
     for parent in 0..3 {
-        entries.extend(
-            names
-                .iter()
-                .map(|name| Entry::new(parent, 3 + parent % 2, name)),
-        );
+        entries.extend(names.iter().map(|name| Entry::new(parent, 3 + parent % 2, name)));
     }
     recounted(Tree {
         inodes,
