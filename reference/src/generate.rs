@@ -93,7 +93,26 @@ pub fn generate(aim: Aim, seed: u64) -> Tree {
         }
     }
     grower.open_handles(aim.open_handles);
+    siblings_to_the_ends(&mut grower.tree);
     grower.tree
+}
+
+/// Exchanges slots so that entries with short names, of one directory, stand first and last: the
+/// pairs that a search for equal names could miss at its limits.
+fn siblings_to_the_ends(tree: &mut Tree) {
+    let short = |tree: &Tree, directory: u16| -> Vec<usize> {
+        tree.entries_in(directory).into_iter().filter(|&slot| tree.entries[slot].name.len() <= 5).collect()
+    };
+    let directory = (0..tree.inodes.len() as u16).find(|&directory| short(tree, directory).len() >= 4);
+    let Some(directory) = directory else {
+        return;
+    };
+    let last = tree.entries.len() - 1;
+    for (from_the_end, end) in [(false, 0), (true, last), (false, 1), (true, last - 1)] {
+        let slots = short(tree, directory);
+        let nearest = if from_the_end { slots[slots.len() - 1 - (last - end)] } else { slots[end] };
+        tree.entries.swap(nearest, end);
+    }
 }
 
 /// A tree under construction, with the records that are still free in a shuffled order.
@@ -225,7 +244,7 @@ impl Grower {
     fn inode(&mut self, kind: u8, file_system: u8, field: u16) -> Inode {
         let mut wide = |common: u64| match self.random.below(4) {
             0 => u64::MAX,
-            1 => self.random.next(),
+            1 => self.random.word(),
             2 => 0,
             _ => common,
         };

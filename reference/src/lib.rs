@@ -2,9 +2,13 @@
 
 pub mod bench_tree;
 pub mod builder;
+pub mod cases;
+pub mod chance;
 pub mod check;
 pub mod damage;
 pub mod generate;
 pub mod layout;
 pub mod random;
 pub mod samples;
+pub mod variants;
+pub mod vectors;

@@ -20,7 +20,7 @@ fn count_at(row: usize) -> usize {
 
 pub fn name_letters(subject: &Subject) -> Images {
     let letters = (0..20).map(|i| i / 4 * ROW_LEN + i % 4).collect();
-    each(letters, &[1, 32, 128, 255], |at, bits| subject.poke(at, subject.bytes[at] ^ bits))
+    each(letters, &[1, 32, 128], |at, bits| subject.poke(at, subject.bytes[at] ^ bits))
 }
 
 pub fn names_exchanged(subject: &Subject) -> Images {
@@ -135,7 +135,8 @@ pub fn wrapping_counts(subject: &Subject) -> Images {
 }
 
 pub fn any_byte(subject: &Subject) -> Images {
-    let values: [fn(u8) -> u8; 5] = [|_| 0, |_| 255, |old| old ^ 128, |old| old.wrapping_add(1), |old| old ^ 8];
+    let values: [fn(u8) -> u8; 3] =
+        [|old| if old == 255 { 0 } else { 255 }, |old| old ^ 128, |old| old.wrapping_add(1)];
     each((0..CONTENTS_LEN).collect(), &values, |at, value| subject.poke(at, value(subject.bytes[at])))
 }
 

@@ -109,14 +109,19 @@ fn copy_name(tree: &mut Tree, from: usize, to: usize) {
     tree.entries[to].name = tree.entries[from].name.clone();
 }
 
-/// Pairs of slots of one directory: neighbours, and the first with the last.
+/// Pairs of slots of one directory: the first and the last, then neighbours from both ends. The
+/// directory of the first slot comes first, since its pairs may lie at the ends already.
 fn pairs(subject: &Subject) -> Vec<(usize, usize)> {
+    let mut directories = subject.directories();
+    directories.sort_by_key(|&directory| subject.tree.entries_in(directory as u16).first().copied());
     let mut pairs = vec![];
-    for directory in subject.directories() {
+    for directory in directories {
         let slots = subject.tree.entries_in(directory as u16);
         if let [first, .., last] = slots[..] {
+            let mut neighbours: Vec<(usize, usize)> = slots.windows(2).map(|pair| (pair[0], pair[1])).collect();
+            neighbours.rotate_right(1);
             pairs.push((first, last));
-            pairs.extend(slots.windows(2).map(|pair| (pair[0], pair[1])));
+            pairs.extend(neighbours);
         }
     }
     pairs
@@ -141,7 +146,9 @@ pub fn same_names_at_the_ends(subject: &Subject) -> Images {
     let pairs = pairs(subject);
     let last = subject.tree.entries.len().saturating_sub(1);
     let ends = [(0, last), (0, 1), (last.saturating_sub(1), last)];
-    each(spread((0..pairs.len()).collect()), &ends, |number, (low, high)| {
+    let mut numbers = spread((0..pairs.len()).collect());
+    numbers.extend((2..pairs.len()).take(1));
+    each(numbers, &ends, |number, (low, high)| {
         let (one, other) = pairs[number];
         subject.vary(|tree| {
             copy_name(tree, one, other);

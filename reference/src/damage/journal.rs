@@ -10,7 +10,7 @@ fn journal_at(subject: &Subject) -> usize {
 }
 
 pub fn any_byte(subject: &Subject) -> Images {
-    each((0..RECORD_LEN).collect(), &[1, 2, 128, 255], |at, value| subject.poke(journal_at(subject) + at, value))
+    each((0..RECORD_LEN).collect(), &[1, 128, 255], |at, value| subject.poke(journal_at(subject) + at, value))
 }
 
 /// A byte after the mark is enough, though nothing is said to be pending.

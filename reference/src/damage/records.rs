@@ -1,7 +1,7 @@
 //! Damage to types, states, zero bytes, modes and free records.
 
 use super::{each, spread, Images, Subject};
-use crate::layout::{FILE, NAME_MAX, TEXT_MAX};
+use crate::layout::{ENTRIES, HANDLES, INODES, NAME_MAX, SECTIONS, TEXTS, TEXT_MAX};
 
 pub fn inode_types(subject: &Subject) -> Images {
     each(spread(subject.used_inodes()), &[4, 5, 128, 130, 255], |number, kind| {
@@ -27,36 +27,30 @@ pub fn entry_pads(subject: &Subject) -> Images {
     })
 }
 
+/// Bytes after the name: the first, and the record's last.
 pub fn name_fill(subject: &Subject) -> Images {
-    each(spread(subject.used_slots()), &[1, b'a', 255], |slot, value| {
-        let len = subject.tree.entries[slot].name.len();
-        let first = subject.entry_at(slot) + 8 + len;
-        (len < NAME_MAX).then(|| subject.poke(first, value))?
-    })
-    .into_iter()
-    .chain(each(spread(subject.used_slots()), &[1, 128], |slot, value| {
-        let len = subject.tree.entries[slot].name.len();
-        (len < NAME_MAX).then(|| subject.poke(subject.entry_at(slot) + 31, value))?
-    }))
-    .collect()
+    let shorter = |&slot: &usize| subject.tree.entries[slot].name.len() < NAME_MAX;
+    let slots: Vec<usize> = subject.used_slots().into_iter().filter(shorter).collect();
+    let first = each(spread(slots.clone()), &[1, b'a', 255], |slot, value| {
+        subject.poke(subject.entry_at(slot) + 8 + subject.tree.entries[slot].name.len(), value)
+    });
+    let last = each(spread(slots), &[1, 128], |slot, value| subject.poke(subject.entry_at(slot) + 7 + NAME_MAX, value));
+    [first, last].concat()
 }
 
 pub fn text_lengths(subject: &Subject) -> Images {
     each(spread(subject.used_texts()), &[64, 65, 128, 255], |text, len| subject.poke(subject.text_at(text), len))
 }
 
+/// Bytes after the text: the first, and the record's last.
 pub fn text_fill(subject: &Subject) -> Images {
-    each(spread(subject.used_texts()), &[1, b'a', 255], |text, value| {
-        let len = subject.tree.texts[text].len();
-        let first = subject.text_at(text) + 1 + len;
-        (len < TEXT_MAX).then(|| subject.poke(first, value))?
-    })
-    .into_iter()
-    .chain(each(spread(subject.used_texts()), &[1, 128], |text, value| {
-        let len = subject.tree.texts[text].len();
-        (len < TEXT_MAX).then(|| subject.poke(subject.text_at(text) + 63, value))?
-    }))
-    .collect()
+    let shorter = |&text: &usize| subject.tree.texts[text].len() < TEXT_MAX;
+    let texts: Vec<usize> = subject.used_texts().into_iter().filter(shorter).collect();
+    let first = each(spread(texts.clone()), &[1, b'a', 255], |text, value| {
+        subject.poke(subject.text_at(text) + 1 + subject.tree.texts[text].len(), value)
+    });
+    let last = each(spread(texts), &[1, 128], |text, value| subject.poke(subject.text_at(text) + TEXT_MAX, value));
+    [first, last].concat()
 }
 
 pub fn handle_states(subject: &Subject) -> Images {
@@ -76,16 +70,19 @@ pub fn handle_pads(subject: &Subject) -> Images {
     })
 }
 
-/// Every byte of a record of `len` bytes but the one that would make it a used record.
-fn bytes_but(len: usize, state_at: usize) -> Vec<(usize, u8)> {
-    let places = (0..len).filter(|&at| at != state_at);
-    places.map(|at| (at, [1, 128, 255][at % 3])).collect()
+/// Every byte of a free record in turn, but the one that would make it used. Where several records
+/// are free the bytes are spread over them.
+fn one_byte_each(subject: &Subject, free: Vec<usize>, section: usize, state_at: usize) -> Images {
+    let places = (0..SECTIONS[section].record_len).filter(|&at| at != state_at);
+    let image = |at: usize| {
+        let record = *free.get(at % free.len().max(1))?;
+        subject.poke(subject.layout.position(section, record) + at, [1, 128, 255][at % 3])
+    };
+    places.filter_map(image).collect()
 }
 
 pub fn free_inodes(subject: &Subject) -> Images {
-    each(spread(subject.free_inodes()), &bytes_but(32, 0), |number, (at, value)| {
-        subject.poke(subject.inode_at(number) + at, value)
-    })
+    one_byte_each(subject, subject.free_inodes(), INODES, 0)
 }
 
 pub fn freed_inodes(subject: &Subject) -> Images {
@@ -93,9 +90,7 @@ pub fn freed_inodes(subject: &Subject) -> Images {
 }
 
 pub fn free_entries(subject: &Subject) -> Images {
-    each(spread(subject.free_slots()), &bytes_but(32, 4), |slot, (at, value)| {
-        subject.poke(subject.entry_at(slot) + at, value)
-    })
+    one_byte_each(subject, subject.free_slots(), ENTRIES, 4)
 }
 
 pub fn freed_entries(subject: &Subject) -> Images {
@@ -103,9 +98,7 @@ pub fn freed_entries(subject: &Subject) -> Images {
 }
 
 pub fn free_texts(subject: &Subject) -> Images {
-    each(spread(subject.free_texts()), &bytes_but(64, 0), |text, (at, value)| {
-        subject.poke(subject.text_at(text) + at, value)
-    })
+    one_byte_each(subject, subject.free_texts(), TEXTS, 0)
 }
 
 pub fn freed_texts(subject: &Subject) -> Images {
@@ -113,9 +106,7 @@ pub fn freed_texts(subject: &Subject) -> Images {
 }
 
 pub fn closed_handles(subject: &Subject) -> Images {
-    each(spread(subject.closed_handles()), &bytes_but(8, 0), |handle, (at, value)| {
-        subject.poke(subject.handle_at(handle) + at, value)
-    })
+    one_byte_each(subject, subject.closed_handles(), HANDLES, 0)
 }
 
 /// Only handles on an inode other than 0: the others are all zero once closed.
@@ -127,14 +118,12 @@ pub fn freed_handles(subject: &Subject) -> Images {
 }
 
 pub fn modes(subject: &Subject) -> Images {
-    let bits = [0x1000, 0x2000, 0x8000, 0xf000];
-    each(spread(subject.used_inodes()), &bits, |number, high| {
+    let raised = each(spread(subject.used_inodes()), &[0x1000, 0x2000, 0x8000], |number, high| {
         let mode = usize::from(subject.tree.inodes[number].mode) | high;
         subject.poke_u16(subject.inode_at(number) + 2, mode)
-    })
-    .into_iter()
-    .chain(each(spread(subject.inodes_where(|_, kind| kind >= FILE)), &[4096, 65_535], |number, mode| {
+    });
+    let set = each(spread(subject.used_inodes()), &[4096, 65_535], |number, mode| {
         subject.poke_u16(subject.inode_at(number) + 2, mode)
-    }))
-    .collect()
+    });
+    [raised, set].concat()
 }
