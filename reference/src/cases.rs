@@ -141,15 +141,41 @@ impl Collection {
 #[cfg(test)]
 mod tests {
     use super::*;
+    use crate::check::{Rule, RULES};
     use crate::vectors::read;
+
+    fn images(collection: &Collection) -> Vec<Vec<u8>> {
+        read(&collection.writer.data).expect("the format is kept")
+    }
 
     #[test]
     fn the_stored_images_have_the_stored_answers() {
         let collection = all();
         assert!((4_000..=8_000).contains(&collection.answers.len()));
         assert!(collection.writer.data.len() <= 3_000_000);
-        let images = read(&collection.writer.data).expect("the format is kept");
-        let answers: Vec<u8> = images.iter().map(|image| check(image)).collect();
+        let answers: Vec<u8> = images(&collection).iter().map(|image| check(image)).collect();
         assert_eq!(answers, collection.answers);
+    }
+
+    /// A root that is no directory always breaks another rule too, since its link count cannot be right.
+    #[test]
+    fn every_other_rule_is_broken_alone() {
+        let broken = images(&all()).into_iter().filter_map(|image| broken_rules(&image));
+        let alone: Vec<Rule> = broken.filter(|broken| broken.len() == 1).map(|broken| broken[0]).collect();
+        for (rule, _) in RULES.iter().filter(|(rule, _)| *rule != Rule::RootDirectory) {
+            assert!(alone.contains(rule), "{rule:?} is never broken alone");
+        }
+    }
+
+    #[test]
+    fn the_document_counts_every_class() {
+        let document = include_str!("../../docs/VECTORS.md");
+        let collection = all();
+        let whole = Class { name: "all", answers: collection.answers };
+        for Class { name, answers } in collection.classes.iter().chain([&whole]) {
+            let count = |wanted: u8| answers.iter().filter(|&&answer| answer == wanted).count();
+            let row = format!("| {name} | {} | {} | {} | {} |", answers.len(), count(0), count(201), count(203));
+            assert!(document.lines().any(|line| line == row), "docs/VECTORS.md lacks the row {row}");
+        }
     }
 }

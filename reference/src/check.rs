@@ -1,6 +1,6 @@
 //! The check of an image: one function for each rule of a consistent (*sound*) one.
 
-use crate::layout::{Entry, Handle, Image, Inode, Text, DIRECTORY, FILE, FREE, NAME_MAX, SYMLINK, TEXT_MAX};
+use crate::layout::{Entry, Handle, Image, Inode, Text, DIRECTORY, FILE, FREE, LINKS_MAX, NAME_MAX, SYMLINK, TEXT_MAX};
 
 /// The answers of the check.
 pub const CONSISTENT: u8 = 0;
@@ -8,7 +8,6 @@ pub const INCONSISTENT: u8 = 201;
 pub const JOURNAL_PENDING: u8 = 203;
 
 const MODE_LIMIT: u16 = 4096;
-const LINKS_MAX: u16 = 64;
 
 /// What may be wrong with the records of an image, in the order in which the format tells it.
 #[derive(Clone, Copy, Debug, PartialEq, Eq)]

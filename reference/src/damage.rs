@@ -265,7 +265,7 @@ pub fn each<T: Copy>(numbers: Vec<usize>, values: &[T], image: impl Fn(usize, T)
 #[cfg(test)]
 mod tests {
     use super::*;
-    use crate::check::{broken_rules, check, RULES};
+    use crate::check::{broken_rules, check};
     use crate::samples::samples;
 
     fn subjects() -> impl Iterator<Item = Subject> {
@@ -290,21 +290,6 @@ mod tests {
                 let broken = broken_rules(&image).expect("the layout is right");
                 assert!(broken.iter().any(|&rule| Breaks::Rule(rule) == clause.breaks), "{}", clause.name);
             }
-        }
-    }
-
-    /// A root that is no directory always breaks another rule too, since its link count cannot be right.
-    #[test]
-    fn every_other_rule_is_broken_alone() {
-        let images =
-            || RECORD_CLAUSES.iter().flat_map(|clause| subjects().flat_map(|subject| (clause.images)(&subject)));
-        let alone: Vec<Rule> = images()
-            .filter_map(|image| broken_rules(&image))
-            .filter(|broken| broken.len() == 1)
-            .map(|broken| broken[0])
-            .collect();
-        for (rule, _) in RULES.iter().filter(|(rule, _)| *rule != Rule::RootDirectory) {
-            assert!(alone.contains(rule), "{rule:?} is never broken alone");
         }
     }
 }

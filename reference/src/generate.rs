@@ -1,11 +1,9 @@
 //! Generated consistent trees, small to full size.
 
 use crate::builder::{Entry, Handle, Inode, Tree};
-use crate::layout::{DIRECTORY, FILE, FREE, NAME_MAX, SYMLINK, TEXT_MAX};
+use crate::layout::{DIRECTORY, FILE, FREE, LINKS_MAX, NAME_MAX, SYMLINK, TEXT_MAX};
 use crate::random::Random;
 use std::collections::BTreeSet;
-
-const LINKS_MAX: u16 = 64;
 
 /// How the directories of a tree hang together.
 #[derive(Clone, Copy, Debug)]
@@ -316,7 +314,7 @@ mod tests {
             assert_eq!(check(&generate(aim, seed).encode()), CONSISTENT, "seed {seed}, {aim:?}");
         }
         for aim in [FULL, SPARSE, DEEPEST, DEEP] {
-            let image = generate(aim, 1).encode();
+            let image = generate(aim, 0).encode();
             assert_eq!(image.len(), 53_448);
             assert_eq!(check(&image), CONSISTENT, "{aim:?}");
         }
@@ -324,7 +322,7 @@ mod tests {
 
     #[test]
     fn the_full_tree_has_no_free_record() {
-        let tree = generate(FULL, 1);
+        let tree = generate(FULL, 0);
         assert!(tree.inodes.iter().all(|inode| inode.kind != FREE));
         assert!(tree.entries.iter().all(|entry| !entry.is_free()));
         assert!(tree.texts.iter().all(|text| !text.is_empty()));

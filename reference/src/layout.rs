@@ -33,6 +33,7 @@ pub const ROW_LEN: usize = 8;
 pub const CONTENTS_LEN: usize = SECTIONS.len() * ROW_LEN;
 pub const NAME_MAX: usize = 24;
 pub const TEXT_MAX: usize = 63;
+pub const LINKS_MAX: u16 = 64;
 
 pub const FREE: u8 = 0;
 pub const FILE: u8 = 1;
@@ -239,7 +240,7 @@ impl<'a> Text<'a> {
     }
 }
 
-/// A HAND record: an open directory handle, or a closed one where the state is 0.
+/// A HAND record: a handle, closed where its state is 0.
 #[derive(Clone, Copy)]
 pub struct Handle<'a>(pub &'a [u8]);
 

@@ -62,7 +62,7 @@ fn main() -> ExitCode {
             ExitCode::SUCCESS
         }
         Err(sentence) => {
-            eprintln!("{sentence}");
+            eprintln!("mirepillar-reference: {sentence}");
             ExitCode::from(1)
         }
     }

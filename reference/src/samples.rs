@@ -29,19 +29,36 @@ pub fn vacant() -> Tree {
 
 /// A small tree with each kind of record in each of its states, used and free side by side.
 pub fn workshop() -> Tree {
+    let mut texts = vec![vec![]; 5];
+    texts[1] = b"a".to_vec();
+    texts[3] = vec![b'x'; 63];
+    let handles = [(0, 0), (1, 4), (2, 1), (0, 0), (1, 7), (2, 14)];
+    recounted(Tree {
+        inodes: workshop_inodes(),
+        entries: workshop_entries(),
+        texts,
+        handles: handles.map(|(state, inode)| Handle { state, inode }).to_vec(),
+    })
+}
+
+fn workshop_inodes() -> Vec<Inode> {
     let mut inodes = vec![Inode::default(); 15];
     inodes[0] = inode(DIRECTORY, 0, 0);
     inodes[1] = inode(DIRECTORY, 0, 0); // a
     inodes[2] = inode(DIRECTORY, 0, 0); // a/b
     inodes[3] = inode(DIRECTORY, 0, 0); // a/b/c
-    inodes[4] = inode(FILE, 0, 0); // f, a/f, a/b/...
-    inodes[6] = inode(FILE, 0, 0); // a/b with a name of 24 bytes
+    inodes[4] = inode(FILE, 0, 0); // f, a/f and a/b/...
+    inodes[6] = inode(FILE, 0, 0); // in a/b, with the longest name
     inodes[7] = inode(SYMLINK, 0, 1); // l and a/l
     inodes[9] = inode(SYMLINK, 0, 3); // a/k
-    inodes[10] = inode(DIRECTORY, 200, 0); // m, another file system
+    inodes[10] = inode(DIRECTORY, 200, 0); // m, of another file system
     inodes[11] = inode(FILE, 200, 0); // m/f and m/g
-    inodes[12] = inode(DIRECTORY, 0, 0); // e, empty
-    inodes[14] = inode(DIRECTORY, 200, 0); // m/d, empty
+    inodes[12] = inode(DIRECTORY, 0, 0); // e
+    inodes[14] = inode(DIRECTORY, 200, 0); // m/d
+    inodes
+}
+
+fn workshop_entries() -> Vec<Entry> {
     let mut entries = vec![Entry::default(); 20];
     entries[0] = Entry::new(0, 4, b"f");
     entries[1] = Entry::new(0, 1, b"a");
@@ -58,11 +75,7 @@ pub fn workshop() -> Tree {
     entries[14] = Entry::new(10, 11, b"g");
     entries[16] = Entry::new(10, 14, b"d");
     entries[19] = Entry::new(0, 12, b"e");
-    let mut texts = vec![vec![]; 5];
-    texts[1] = b"a".to_vec();
-    texts[3] = vec![b'x'; 63];
-    let handles = [(0, 0), (1, 4), (2, 1), (0, 0), (1, 7), (2, 14)];
-    recounted(Tree { inodes, entries, texts, handles: handles.map(|(state, inode)| Handle { state, inode }).to_vec() })
+    entries
 }
 
 /// A file and a symlink with as many names as the link count allows, and free slots for more.

@@ -2,9 +2,7 @@
 
 use crate::builder::{Entry, Handle, Inode, Tree};
 use crate::damage::{clause, each, spread, Breaks, Clause, Images, Subject};
-use crate::layout::{DIRECTORY, FREE, NAME_MAX, TEXT_MAX};
-
-const LINKS_MAX: u16 = 64;
+use crate::layout::{DIRECTORY, ENTRIES, FREE, HANDLES, INODES, LINKS_MAX, NAME_MAX, SECTIONS, TEXTS, TEXT_MAX};
 
 pub const VARIANT_CLAUSES: &[Clause] = &[
     clause("owner, group or time", Breaks::Nothing, owners_and_times),
@@ -204,17 +202,20 @@ fn handles(subject: &Subject) -> Images {
     [opened, closed].concat()
 }
 
-/// Every section in turn one record longer, while the count allows it.
+/// Every section in turn one record longer, where the count allows it.
 fn records_added(subject: &Subject) -> Images {
-    let [inodes, entries, texts, handles, _] = subject.layout.counts;
-    let grown = [
-        (inodes < 512).then(|| subject.vary(|tree| push(&mut tree.inodes))),
-        (entries < 1024).then(|| subject.vary(|tree| push(&mut tree.entries))),
-        (texts < 64).then(|| subject.vary(|tree| push(&mut tree.texts))),
-        (handles < 16).then(|| subject.vary(|tree| push(&mut tree.handles))),
+    let grow: [fn(&mut Tree) -> bool; 4] = [
+        |tree| push(&mut tree.inodes),
+        |tree| push(&mut tree.entries),
+        |tree| push(&mut tree.texts),
+        |tree| push(&mut tree.handles),
     ];
-    // The records behind the new one move, so that the whole image has to be stored.
-    grown.into_iter().flatten().flatten().filter(|image| image.len() <= 4096).collect()
+    let sections = vec![INODES, ENTRIES, TEXTS, HANDLES];
+    each(sections, &[()], |section, ()| {
+        let room = SECTIONS[section].counts.contains(&(subject.layout.counts[section] + 1));
+        // The records behind the new one move, so that the whole image has to be stored.
+        (room && subject.bytes.len() <= 4096).then(|| subject.vary(grow[section]))?
+    })
 }
 
 fn push<T: Default>(records: &mut Vec<T>) -> bool {

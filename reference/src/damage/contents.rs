@@ -3,8 +3,7 @@
 use super::{each, put_u16, Images, Subject};
 use crate::builder::{Entry, Handle, Inode, Tree};
 use crate::layout::{CONTENTS_LEN, ROW_LEN, SECTIONS};
-
-const LONGEST: usize = 131_072;
+use crate::vectors::{LONGEST_BASE, LONGEST_CASE};
 
 fn rows() -> Vec<usize> {
     (0..5).collect()
@@ -108,7 +107,7 @@ pub fn counts_out_of_range(subject: &Subject) -> Images {
         journal_count(subject, 2),
     ];
     // A larger image than the largest base could not be stored with few edits.
-    images.into_iter().flatten().filter(|image| image.len() <= 53_448).collect()
+    images.into_iter().flatten().filter(|image| image.len() <= LONGEST_BASE).collect()
 }
 
 /// Counts too large by a multiple of 65536 bytes: 16-bit sums would find every section where it is.
@@ -152,7 +151,7 @@ pub fn near_lengths(subject: &Subject) -> Images {
 }
 
 pub fn far_lengths(subject: &Subject) -> Images {
-    let mut lens = vec![0, 1, 7, 8, 39, 40, 41, 71, 72, 73, 103, 104, 53_448, 65_535, 65_536, LONGEST];
+    let mut lens = vec![0, 1, 7, 8, 39, 40, 41, 71, 72, 73, 103, 104, LONGEST_BASE, 65_535, 65_536, LONGEST_CASE];
     lens.extend(subject.layout.offsets);
     each(lens, &[()], |len, ()| cut_or_extended(subject, len))
 }

@@ -2,9 +2,7 @@
 
 use super::{each, put_u16, spread, Images, Subject};
 use crate::builder::{Entry, Inode};
-use crate::layout::{DIRECTORY, FILE, FREE};
-
-const LINKS_MAX: u16 = 64;
+use crate::layout::{DIRECTORY, FILE, FREE, LINKS_MAX};
 
 /// Counts beside the right one; 256 more is the same in its low byte.
 fn wrong_counts(subject: &Subject, inodes: Vec<usize>) -> Images {
