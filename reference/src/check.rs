@@ -368,3 +368,35 @@ fn used_texts_have_a_symlink(body: &Body) -> bool {
 fn open_handles_name_used_inodes(body: &Body) -> bool {
     body.open_handles().all(|handle| body.image.is_used(handle.inode()))
 }
+
+#[cfg(test)]
+mod tests {
+    use super::*;
+    use crate::layout::{Layout, CONTENTS_LEN, JOURNAL};
+    use crate::random::Random;
+    use crate::samples::workshop;
+
+    /// Random records under a right layout, with small numbers so that records often name each other.
+    #[test]
+    fn any_records_are_answered() {
+        let mut random = Random::new(1);
+        let tree = workshop().encode();
+        let journal = Layout::read(&tree).expect("the layout is right").offsets[JOURNAL];
+        for round in 0..2_000 {
+            let mut image = tree.clone();
+            let mask = [1, 3, 15, 255][round % 4];
+            image[CONTENTS_LEN..journal].fill_with(|| random.byte() & mask);
+            assert_eq!(check(&image), INCONSISTENT);
+            assert!(broken_rules(&image).is_some_and(|broken| !broken.is_empty()));
+        }
+    }
+
+    #[test]
+    fn any_length_is_answered() {
+        let tree = workshop().encode();
+        for len in 0..tree.len() {
+            assert_eq!(check(&tree[..len]), INCONSISTENT);
+            assert_eq!(check(&vec![0xff; len]), INCONSISTENT);
+        }
+    }
+}

@@ -3,6 +3,8 @@
 mod contents;
 mod directories;
 mod entries;
+mod file_systems;
+mod handles;
 mod journal;
 mod links;
 mod records;
@@ -10,7 +12,7 @@ mod symlinks;
 
 use crate::builder::Tree;
 use crate::check::{Rule, CONSISTENT, INCONSISTENT, JOURNAL_PENDING};
-use crate::layout::{Layout, DIRECTORY, ENTRIES, FILE, FREE, HANDLES, INODES, SYMLINK, TEXTS};
+use crate::layout::{Layout, DIRECTORY, ENTRIES, FILE, FREE, HANDLES, INODES, SECTIONS, SYMLINK, TEXTS};
 
 pub type Images = Vec<Vec<u8>>;
 
@@ -73,17 +75,17 @@ pub const RECORD_CLAUSES: &[Clause] = &[
     rule("name fill", Rule::NameFill, records::name_fill),
     rule("text length over 63", Rule::TextLength, records::text_lengths),
     rule("text fill", Rule::TextFill, records::text_fill),
-    rule("handle state unknown", Rule::HandleStates, records::handle_states),
-    rule("handle's second byte", Rule::HandleSecondByte, records::handle_second_bytes),
-    rule("handle pad", Rule::HandlePad, records::handle_pads),
+    rule("handle state unknown", Rule::HandleStates, handles::states),
+    rule("handle's second byte", Rule::HandleSecondByte, handles::second_bytes),
+    rule("handle pad", Rule::HandlePad, handles::pads),
     rule("free inode, one byte", Rule::FreeInodes, records::free_inodes),
     rule("inode freed without clearing", Rule::FreeInodes, records::freed_inodes),
     rule("free entry, one byte", Rule::FreeEntries, records::free_entries),
     rule("entry freed without clearing", Rule::FreeEntries, records::freed_entries),
     rule("free text, one byte", Rule::FreeTexts, records::free_texts),
     rule("text freed without clearing", Rule::FreeTexts, records::freed_texts),
-    rule("closed handle, one byte", Rule::ClosedHandles, records::closed_handles),
-    rule("handle closed without clearing", Rule::ClosedHandles, records::freed_handles),
+    rule("closed handle, one byte", Rule::ClosedHandles, handles::closed),
+    rule("handle closed without clearing", Rule::ClosedHandles, handles::freed),
     rule("mode over 4095", Rule::Modes, records::modes),
     rule("root no directory", Rule::RootDirectory, directories::root_kinds),
     rule("entry that targets root", Rule::RootUntargeted, directories::root_targeted),
@@ -113,15 +115,15 @@ pub const RECORD_CLAUSES: &[Clause] = &[
     rule("last name removed", Rule::AtLeastOneLink, links::last_names_removed),
     rule("65 names", Rule::LinksLimit, links::too_many_names),
     rule("63 subdirectories", Rule::LinksLimit, links::too_many_subdirectories),
-    rule("file system of a non-directory", Rule::FileSystems, links::file_systems),
-    rule("file system of one directory", Rule::FileSystems, links::directory_file_systems),
+    rule("file system of a non-directory", Rule::FileSystems, file_systems::of_non_directories),
+    rule("file system of one directory", Rule::FileSystems, file_systems::of_directories),
     rule("symlink with text free", Rule::SymlinkTextUsed, symlinks::texts_free),
     rule("symlink with text beyond", Rule::SymlinkTextUsed, symlinks::texts_beyond),
     rule("text shared by two symlinks", Rule::SymlinkTextOwn, symlinks::texts_shared),
     rule("text with byte 0", Rule::SymlinkTextBytes, symlinks::texts_with_zero),
     rule("text without symlink", Rule::TextsHaveSymlinks, symlinks::texts_alone),
-    rule("handle on a free inode", Rule::HandleInodes, symlinks::handles_on_free),
-    rule("handle beyond the count", Rule::HandleInodes, symlinks::handles_beyond),
+    rule("handle on a free inode", Rule::HandleInodes, handles::on_free),
+    rule("handle beyond the count", Rule::HandleInodes, handles::beyond),
 ];
 
 /// The journal record, which is looked at after the layout and ahead of the other records.
@@ -260,6 +262,17 @@ pub fn each<T: Copy>(numbers: Vec<usize>, values: &[T], image: impl Fn(usize, T)
     let image = &image;
     let pairs = numbers.into_iter().flat_map(|number| values.iter().map(move |&value| (number, value)));
     pairs.filter_map(|(number, value)| image(number, value)).collect()
+}
+
+/// Every byte of a free record in turn, but the one that would make it used. Where several records
+/// are free the bytes are spread over them.
+fn one_byte_each(subject: &Subject, free: Vec<usize>, section: usize, state_at: usize) -> Images {
+    let places = (0..SECTIONS[section].record_len).filter(|&at| at != state_at);
+    let image = |at: usize| {
+        let record = *free.get(at % free.len().max(1))?;
+        subject.poke(subject.layout.position(section, record) + at, [1, 128, 255][at % 3])
+    };
+    places.filter_map(image).collect()
 }
 
 #[cfg(test)]

@@ -6,13 +6,16 @@ use std::process::ExitCode;
 
 const USAGE: &str = "usage: mirepillar-reference write | verify";
 
-/// The two files, with what should stand in them.
-fn files(collection: &Collection) -> [(PathBuf, Vec<u8>); 2] {
-    let folder = Path::new(env!("CARGO_MANIFEST_DIR")).join("../crates/vectors");
+/// The two files by their paths in the repository, with what should stand in them.
+fn files(collection: &Collection) -> [(&'static str, Vec<u8>); 2] {
     [
-        (folder.join("data/check"), collection.writer.data.clone()),
-        (folder.join("stdout"), collection.expected().into_bytes()),
+        ("crates/vectors/data/check", collection.writer.data.clone()),
+        ("crates/vectors/stdout", collection.expected().into_bytes()),
     ]
+}
+
+fn full_path(file: &str) -> PathBuf {
+    Path::new(env!("CARGO_MANIFEST_DIR")).join("..").join(file)
 }
 
 /// The number of cases, and how many have each answer.
@@ -22,11 +25,12 @@ fn summary(name: &str, answers: &[u8]) -> String {
 }
 
 fn write(collection: &Collection) -> Result<(), String> {
-    for (path, contents) in files(collection) {
-        let folder = path.parent().unwrap_or(Path::new("."));
+    for (file, contents) in files(collection) {
+        let path = full_path(file);
+        let folder = path.parent().unwrap_or(&path);
         std::fs::create_dir_all(folder)
             .and_then(|()| std::fs::write(&path, contents))
-            .map_err(|error| format!("cannot write {}: {error}", path.display()))?;
+            .map_err(|error| format!("{file} cannot be written: {error}"))?;
     }
     for Class { name, answers } in &collection.classes {
         println!("{}", summary(name, answers));
@@ -35,11 +39,11 @@ fn write(collection: &Collection) -> Result<(), String> {
 }
 
 fn verify(collection: &Collection) -> Result<(), String> {
-    for (path, contents) in files(collection) {
-        let stored = std::fs::read(&path).map_err(|error| format!("cannot read {}: {error}", path.display()))?;
+    for (file, contents) in files(collection) {
+        let stored = std::fs::read(full_path(file)).map_err(|error| format!("{file} cannot be read: {error}"))?;
         if stored != contents {
             let same = stored.iter().zip(&contents).take_while(|(one, other)| one == other).count();
-            return Err(format!("{} differs from the model's at byte {same}", path.display()));
+            return Err(format!("{file} is not what the model makes: they differ from byte {same} on"));
         }
     }
     Ok(())

@@ -1,12 +1,12 @@
-//! Damage to types, states, zero bytes, modes and free records.
+//! Damage to the types, zero bytes, modes and free records of inodes, entries and texts.
 
-use super::{each, spread, Images, Subject};
-use crate::layout::{ENTRIES, HANDLES, INODES, NAME_MAX, SECTIONS, TEXTS, TEXT_MAX};
+use super::{each, one_byte_each, spread, Images, Subject};
+use crate::layout::{ENTRIES, INODES, NAME_MAX, TEXTS, TEXT_MAX};
 
 pub fn inode_types(subject: &Subject) -> Images {
-    each(spread(subject.used_inodes()), &[4, 5, 128, 130, 255], |number, kind| {
-        subject.poke(subject.inode_at(number), kind)
-    })
+    // On a directory an unknown type breaks other rules too.
+    let inodes = [spread(subject.non_directories()), spread(subject.used_inodes())].concat();
+    each(inodes, &[4, 5, 128, 130, 255], |number, kind| subject.poke(subject.inode_at(number), kind))
 }
 
 pub fn file_fields(subject: &Subject) -> Images {
@@ -53,34 +53,6 @@ pub fn text_fill(subject: &Subject) -> Images {
     [first, last].concat()
 }
 
-pub fn handle_states(subject: &Subject) -> Images {
-    let handles = (0..subject.tree.handles.len()).collect();
-    each(spread(handles), &[3, 4, 128, 129, 255], |handle, state| subject.poke(subject.handle_at(handle), state))
-}
-
-pub fn handle_second_bytes(subject: &Subject) -> Images {
-    each(spread(subject.open_handles()), &[1, 128, 255], |handle, value| {
-        subject.poke(subject.handle_at(handle) + 1, value)
-    })
-}
-
-pub fn handle_pads(subject: &Subject) -> Images {
-    each(spread(subject.open_handles()), &[(4, 1), (5, 255), (6, 128), (7, 1)], |handle, (at, value)| {
-        subject.poke(subject.handle_at(handle) + at, value)
-    })
-}
-
-/// Every byte of a free record in turn, but the one that would make it used. Where several records
-/// are free the bytes are spread over them.
-fn one_byte_each(subject: &Subject, free: Vec<usize>, section: usize, state_at: usize) -> Images {
-    let places = (0..SECTIONS[section].record_len).filter(|&at| at != state_at);
-    let image = |at: usize| {
-        let record = *free.get(at % free.len().max(1))?;
-        subject.poke(subject.layout.position(section, record) + at, [1, 128, 255][at % 3])
-    };
-    places.filter_map(image).collect()
-}
-
 pub fn free_inodes(subject: &Subject) -> Images {
     one_byte_each(subject, subject.free_inodes(), INODES, 0)
 }
@@ -103,18 +75,6 @@ pub fn free_texts(subject: &Subject) -> Images {
 
 pub fn freed_texts(subject: &Subject) -> Images {
     each(spread(subject.used_texts()), &[0], |text, len| subject.poke(subject.text_at(text), len))
-}
-
-pub fn closed_handles(subject: &Subject) -> Images {
-    one_byte_each(subject, subject.closed_handles(), HANDLES, 0)
-}
-
-/// Only handles on an inode other than 0: the others are all zero once closed.
-pub fn freed_handles(subject: &Subject) -> Images {
-    each(spread(subject.open_handles()), &[0], |handle, state| {
-        let named = subject.tree.handles[handle].inode != 0;
-        named.then(|| subject.poke(subject.handle_at(handle), state))?
-    })
 }
 
 pub fn modes(subject: &Subject) -> Images {

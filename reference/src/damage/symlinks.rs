@@ -1,4 +1,4 @@
-//! Damage to symlinks, their texts, and what open handles name.
+//! Damage to symlinks and their texts.
 
 use super::{each, spread, Images, Subject};
 use crate::builder::Tree;
@@ -73,25 +73,4 @@ pub fn texts_alone(subject: &Subject) -> Images {
         })
     });
     [filled, turned].concat()
-}
-
-pub fn handles_on_free(subject: &Subject) -> Images {
-    let inodes = spread(subject.free_inodes());
-    let handles = (0..subject.tree.handles.len()).collect();
-    each(spread(handles), &inodes, |handle, inode| {
-        subject.vary(|tree| {
-            tree.handles[handle].state = tree.handles[handle].state.max(1);
-            tree.handles[handle].inode = inode as u16;
-            true
-        })
-    })
-}
-
-pub fn handles_beyond(subject: &Subject) -> Images {
-    let count = subject.tree.inodes.len();
-    each(spread(subject.open_handles()), &[0, 1, 2, 3, 4], |handle, which: usize| {
-        let inode = usize::from(subject.tree.handles[handle].inode);
-        let numbers = [count, count + 1, inode + 2048, inode | 0x8000, 65_535];
-        subject.poke_u16(subject.handle_at(handle) + 2, numbers[which])
-    })
 }
