@@ -1,0 +1,14 @@
+//! The reference model: checks images, and makes the test vectors that the proved library must answer alike.
+
+pub mod bench_tree;
+pub mod builder;
+pub mod cases;
+pub mod chance;
+pub mod check;
+pub mod damage;
+pub mod generate;
+pub mod layout;
+pub mod random;
+pub mod samples;
+pub mod variants;
+pub mod vectors;
