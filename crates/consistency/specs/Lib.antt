@@ -5,3 +5,6 @@ pub mod Entry
 pub mod Others
 pub mod Consistent
 pub mod Bench
+pub mod InodeFacts
+pub mod RecordFacts
+pub mod Facts

@@ -71,6 +71,11 @@ module _ (p : ℕ → Bool) where
   any-not (suc n) none k below =
       last-or-below n k below (λ e. rw e (any-last n none)) (λ l. any-not n (any-front n none) k l)
 
+  pub any-false : (n : ℕ) → ((k : ℕ) → k < n → p k ≡ false) → any p n ≡ false
+  unfolding any
+  any-false zero f = refl
+  any-false (suc n) f = rw (any-false n (λ k l. f k (omega arith)), f n (le-refl (suc n)))
+
   -- some number passes, and here it is
   pub any-at : (n : ℕ) → any p n ≡ true → (k : ℕ) × (k < n) × (p k ≡ true)
   unfolding any
