@@ -1,8 +1,8 @@
 -- The bench tree: a small image, written record by record, that is consistent by computation of the definition. Assumes nothing.
 use mathlib.Core.Path.{_≡_, refl}
-use mathlib.Core.Bool.{true, false}
+use mathlib.Core.Bool.{true}
 use mathlib.Core.List.{List, [], _∷_, _++_}
-use Prim.Native.Nat.{ℕ, _+_, _-_}
+use Prim.Native.Nat.{ℕ, _-_}
 use lib.ListN.{length, replicate}
 use Rattle.seq.specs.Search.{any, all, count}
 use Rattle.seq.specs.Bytes.{part, zeros, sameBytes}

@@ -1,12 +1,12 @@
 -- A consistent image (the papers' word is sound), and the number that the job check answers (rules 27, 33 and 47). Assumes nothing.
-use mathlib.Core.Path.{_≡_, refl}
-use mathlib.Core.Bool.{Bool, true, false, _&&_, not, cond}
+use mathlib.Core.Path.{_≡_}
+use mathlib.Core.Bool.{Bool, false, _&&_, not, cond}
 use mathlib.Core.List.{List}
 use Prim.Native.Nat.{ℕ}
 use Rattle.seq.specs.Search.{all}
 use Rattle.layout.specs.declared.Shape.{Shape}
 use Rattle.layout.specs.Contents.{layoutGood, shapeOf, Read}
-use Rattle.layout.specs.View.{View, viewOf, isDirectory}
+use Rattle.layout.specs.View.{viewOf, isDirectory}
 use Rattle.consistency.specs.Name.{hasDuplicate}
 use Rattle.consistency.specs.Inode.{inodeGood}
 use Rattle.consistency.specs.Entry.{entryGood}

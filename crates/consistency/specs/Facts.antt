@@ -1,17 +1,17 @@
 -- What a consistent image gives those who reason with it, both directions, and that it is readable. Assumes nothing.
-use mathlib.Core.Path.{_≡_, refl, sym, _∙_}
-use mathlib.Core.Bool.{Bool, true, false, _&&_, not}
+use mathlib.Core.Path.{_≡_, refl}
+use mathlib.Core.Bool.{Bool, true, false}
 use mathlib.Core.List.{List}
-use Prim.Native.Nat.{ℕ, _+_, _-_, _≤_, _<_}
+use Prim.Native.Nat.{ℕ, _-_, _≤_, _<_}
 use native.Mathlib.Decide.{ℕ-discrete}
 use native.Mathlib.Omega.{arith}
 use lib.Dec.{eqb, ltb}
 use borrow.Author.Tests.{eqb-true, eqb-false, not-true, not-false}
 use Rattle.seq.specs.Truth.{and-left, and-right}
-use Rattle.seq.specs.Search.{any, any-not, any-false, all, all-at, all-of}
+use Rattle.seq.specs.Search.{any-not, any-false, all-at, all-of}
 use Rattle.layout.specs.declared.Shape.{Shape}
 use Rattle.layout.specs.Contents.{layoutGood, shapeOf, Laid, good-laid}
-use Rattle.layout.specs.View.{View, viewOf, isDirectory, entryUsed, isKind-below, Readable}
+use Rattle.layout.specs.View.{viewOf, isDirectory, entryUsed, isKind-below, Readable}
 use Rattle.consistency.specs.Name.{clash, hasDuplicate}
 use Rattle.consistency.specs.Tree.{leads-field}
 use Rattle.consistency.specs.Inode.{inodeGood}
@@ -53,21 +53,27 @@ module _ (h : Shape) (s : List ℕ) where
     entry = λ j l. entry-is h s j (all-at (entryGood h s) (h .entries) (search (and-left, and-right)) j l);
     distinct = distinct-is (not-true (hasDuplicate (viewOf h s)) (search (and-left, and-right)));
     text = λ t l. text-is h s t (all-at (textGood h s) (h .texts) (search (and-left, and-right)) t l);
-    handle = λ n l. handle-is h s n (all-at (handleGood h s) (h .handles) (search (and-left, and-right)) n l)
+    handle = λ n l. handle-is h s n (all-at (handleGood h s) (h .handles) (search (and-left, and-right)) n l);
   }
 
   pub is-bodies : Bodies h s → bodiesGood h s ≡ true
   unfolding bodiesGood
   is-bodies f =
-      rw (f .root, all-of (inodeGood h s) (h .inodes) (λ i l. is-inode h s i (f .inode i l)), all-of (entryGood h s) (h .entries) (λ j l. is-entry h s j (f .entry j l)),
-      is-distinct (f .distinct), all-of (textGood h s) (h .texts) (λ t l. is-text h s t (f .text t l)), all-of (handleGood h s) (h .handles) (λ n l. is-handle h s n (f .handle n l)))
+      rw (
+        f .root,
+        all-of (inodeGood h s) (h .inodes) (λ i l. is-inode h s i (f .inode i l)),
+        all-of (entryGood h s) (h .entries) (λ j l. is-entry h s j (f .entry j l)),
+        is-distinct (f .distinct),
+        all-of (textGood h s) (h .texts) (λ t l. is-text h s t (f .text t l)),
+        all-of (handleGood h s) (h .handles) (λ n l. is-handle h s n (f .handle n l)),
+      )
 
 pub consistent-is : (s : List ℕ) → consistent s ≡ true → Consistent s
 unfolding consistent
 consistent-is s e = record {
   layout = search (and-left, and-right);
   journal = search (and-left, and-right);
-  bodies = bodies-is (shapeOf s) s (search (and-left, and-right))
+  bodies = bodies-is (shapeOf s) s (search (and-left, and-right));
 }
 
 pub is-consistent : (s : List ℕ) → Consistent s → consistent s ≡ true
@@ -89,8 +95,10 @@ module _ (h : Shape) (s : List ℕ) (laid : Laid h s) (f : Bodies h s) where
     where
       below : i < h .inodes
       below = isKind-below h s i 2 d
+
       facts : Directory (viewOf h s) i
       facts = f .inode i below .directory (eqb-true _ _ (and-right (ltb i (h .inodes)) (eqb (viewOf h s .kind i) 2) d))
+
       go : Dec (i ≡ 0) → viewOf h s .field i < h .inodes
       go (yes z) = let e = facts .own-parent z in omega (arith, laid .inodes-least)
       go (no n) = leads-field (viewOf h s) (h .inodes) i (omega (arith, laid .inodes-least)) n (facts .leads-up n)
@@ -107,7 +115,7 @@ module _ (h : Shape) (s : List ℕ) (laid : Laid h s) (f : Bodies h s) where
     above = parent-below;
     symlinks = λ i k. f .inode i (isKind-below h s i 3 k) .symlink (eqb-true _ _ (and-right (ltb i (h .inodes)) (eqb (viewOf h s .kind i) 3) k)) .text;
     texts = λ t l. f .text t l .short;
-    handles = λ n l o. f .handle n l .opened (eqb-false (viewOf h s .state n) 0 (not-true _ o)) .used
+    handles = λ n l o. f .handle n l .opened (eqb-false (viewOf h s .state n) 0 (not-true _ o)) .used;
   }
 
 pub consistent-readable : (s : List ℕ) → consistent s ≡ true → Readable (shapeOf s) s

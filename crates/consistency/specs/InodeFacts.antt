@@ -1,6 +1,6 @@
 -- What a consistent inode gives those who reason with it: records of facts, made from the tests and made into them. Assumes nothing.
 use mathlib.Core.Path.{_≡_, refl, sym, _∙_}
-use mathlib.Core.Bool.{Bool, true, false, _&&_, not, cond, false≢true}
+use mathlib.Core.Bool.{Bool, true, false, _&&_, cond, false≢true}
 use mathlib.Core.List.{List}
 use Prim.Native.Nat.{ℕ, _+_, _≤_, _<_}
 use native.Mathlib.Decide.{ℕ-discrete, decLe}
@@ -53,7 +53,7 @@ module _ (v : View) (i : ℕ) where
     mode = ltb-true _ _ (search (and-left, and-right));
     within = leb-true _ _ (search (and-left, and-right));
     linked = leb-true _ _ (search (and-left, and-right));
-    counted = eqb-true _ _ (search (and-left, and-right))
+    counted = eqb-true _ _ (search (and-left, and-right));
   }
 
   is-leaf : Leaf v i → leafGood v i ≡ true
@@ -89,14 +89,14 @@ module _ (v : View) (i : ℕ) where
         counted = eqb-true _ _ (search (and-left, and-right));
         own-parent = λ z. eqb-true _ _ (p .0 (eq-eqb _ _ z));
         one-entry = λ n. eqb-true _ _ (p .1 (ne-eqb _ _ n));
-        leads-up = λ n. p .2 (ne-eqb _ _ n)
+        leads-up = λ n. p .2 (ne-eqb _ _ n);
       }
 
   is-directory : Directory v i → directoryGood v i ≡ true
   unfolding directoryGood
   is-directory f =
       let p = is-placed (eqb i 0) (eqb (v .field i) 0) (eqb (entriesOf v i) 1) (leads v (v .inodes) i)
-          (λ b. eq-eqb _ _ (f .own-parent (eqb-true _ _ b))) (λ b. eq-eqb _ _ (f .one-entry (eqb-false _ _ b))) (λ b. f .leads-up (eqb-false _ _ b)) in
+      (λ b. eq-eqb _ _ (f .own-parent (eqb-true _ _ b))) (λ b. eq-eqb _ _ (f .one-entry (eqb-false _ _ b))) (λ b. f .leads-up (eqb-false _ _ b)) in
       rw (lt-ltb _ _ (f .mode), le-leb _ _ (f .within), eq-eqb _ _ (f .counted)) p
 
   symlink-is : symlinkGood v i ≡ true → Symlink v i
@@ -105,7 +105,7 @@ module _ (v : View) (i : ℕ) where
     leaf = leaf-is (search (and-left, and-right));
     text = ltb-true _ _ (search (and-left, and-right));
     used = search (and-left, and-right);
-    own = not-true (textShared v i) (search (and-left, and-right))
+    own = not-true (textShared v i) (search (and-left, and-right));
   }
 
   is-symlink : Symlink v i → symlinkGood v i ≡ true
@@ -140,7 +140,7 @@ module _ (h : Shape) (s : List ℕ) (i : ℕ) where
     free = λ z. sym (kind-free _ _ _ _ _ z) ∙ e;
     file = λ z. file-is _ i (sym (kind-file _ _ _ _ _ z) ∙ e);
     directory = λ z. directory-is _ i (sym (kind-directory _ _ _ _ _ z) ∙ e);
-    symlink = λ z. symlink-is _ i (sym (kind-symlink _ _ _ _ _ z) ∙ e)
+    symlink = λ z. symlink-is _ i (sym (kind-symlink _ _ _ _ _ z) ∙ e);
   }
 
   pub is-inode : Inode h s i → inodeGood h s i ≡ true

@@ -1,8 +1,8 @@
 -- What a consistent entry, text and handle give those who reason with them: records of facts, made from the tests and made into them. Assumes nothing.
 use mathlib.Core.Path.{_≡_, refl, sym, _∙_}
-use mathlib.Core.Bool.{Bool, true, false, _&&_, not, cond, false≢true}
+use mathlib.Core.Bool.{Bool, true, false, _&&_, cond, false≢true}
 use mathlib.Core.List.{List}
-use Prim.Native.Nat.{ℕ, _+_, _-_, _≤_, _<_}
+use Prim.Native.Nat.{ℕ, _+_, _-_, _≤_}
 use native.Mathlib.Decide.{ℕ-discrete, decLe}
 use native.Mathlib.Omega.{arith}
 use lib.Dec.{eqb}
@@ -66,20 +66,20 @@ module _ (v : View) (j : ℕ) where
   unfolding entryLinked
   linked-is e =
       let c = choice-is (isDirectory v (v .target j)) (eqb (v .field (v .target j)) (v .parent j)) (eqb (v .system (v .target j)) (v .system (v .parent j)))
-          (search (and-left, and-right)) in
+      (search (and-left, and-right)) in
       record {
         parent = search (and-left, and-right);
         target = search (and-left, and-right);
         below-root = eqb-false _ _ (not-true (eqb (v .target j) 0) (search (and-left, and-right)));
         up = λ d. eqb-true _ _ (c .0 d);
-        system = λ d. eqb-true _ _ (c .1 d)
+        system = λ d. eqb-true _ _ (c .1 d);
       }
 
   is-linked : Linked v j → entryLinked v j ≡ true
   unfolding entryLinked
   is-linked f =
       let c = is-choice (isDirectory v (v .target j)) (eqb (v .field (v .target j)) (v .parent j)) (eqb (v .system (v .target j)) (v .system (v .parent j)))
-          (λ d. eq-eqb _ _ (f .up d)) (λ d. eq-eqb _ _ (f .system d)) in
+      (λ d. eq-eqb _ _ (f .up d)) (λ d. eq-eqb _ _ (f .system d)) in
       rw (f .parent, f .target, ne-eqb _ _ (f .below-root)) c
 
 module _ (h : Shape) (s : List ℕ) (j : ℕ) where
@@ -90,7 +90,7 @@ module _ (h : Shape) (s : List ℕ) (j : ℕ) where
     padded = search (and-left, and-right);
     filled = search (and-left, and-right);
     name = search (and-left, and-right);
-    linked = linked-is (viewOf h s) j (search (and-left, and-right))
+    linked = linked-is (viewOf h s) j (search (and-left, and-right));
   }
 
   is-used : Used h s j → (entryFormed h s j && nameGood (viewOf h s .name j) && entryLinked (viewOf h s) j) ≡ true
@@ -101,7 +101,7 @@ module _ (h : Shape) (s : List ℕ) (j : ℕ) where
   unfolding entryGood
   entry-is e =
       let c = choice-is (eqb (viewOf h s .nameLength j) 0) (zeros (entryAt h s j) 0 (h .width))
-          (entryFormed h s j && nameGood (viewOf h s .name j) && entryLinked (viewOf h s) j) e in
+      (entryFormed h s j && nameGood (viewOf h s .name j) && entryLinked (viewOf h s) j) e in
       record { free = λ u. c .0 (not-false _ u); used = λ u. used-is (c .1 (not-true _ u)) }
 
   pub is-entry : Entry h s j → entryGood h s j ≡ true
@@ -115,7 +115,7 @@ module _ (h : Shape) (s : List ℕ) (t : ℕ) where
     short = leb-true _ _ (search (and-left, and-right));
     filled = search (and-left, and-right);
     bytes = search (and-left, and-right);
-    linked = implies-at (textUsed (viewOf h s) t) (textLinked (viewOf h s) t) (search (and-left, and-right))
+    linked = implies-at (textUsed (viewOf h s) t) (textLinked (viewOf h s) t) (search (and-left, and-right));
   }
 
   pub is-text : Text h s t → textGood h s t ≡ true
@@ -154,7 +154,7 @@ module _ (h : Shape) (s : List ℕ) (n : ℕ) where
       record {
         state = within;
         closed = λ z. sym (state-closed _ _ _ z) ∙ e;
-        opened = λ m. open-is (sym (state-open _ _ _ m (omega arith)) ∙ e)
+        opened = λ m. open-is (sym (state-open _ _ _ m (omega arith)) ∙ e);
       }
 
   pub is-handle : Handle h s n → handleGood h s n ≡ true

@@ -1,17 +1,16 @@
 -- Ranges of bytes in a list: a part read, a part written over, and what stays. Assumes nothing.
-use mathlib.Core.Path.{_≡_, refl, sym, ap, _∙_}
+use mathlib.Core.Path.{_≡_, refl, _∙_}
 use mathlib.Core.Logic.{_⊎_, ⊎-elim}
-use mathlib.Core.Bool.{Bool, true, false, _&&_}
+use mathlib.Core.Bool.{Bool, _&&_}
 use mathlib.Core.List.{List, [], _∷_, _++_}
 use Prim.Native.Nat.{ℕ, zero, suc, _+_, _-_, _<_, _≤_}
 use native.Mathlib.Nat.{add-zero, add-sub-cancel-left, not-suc-le-zero, le-of-suc-le-suc, lt-irrefl}
 use native.Mathlib.Numerals.{add-one}
 use native.Mathlib.Omega.{arith}
 use lib.Dec.{eqb}
-use borrow.Author.Tests.{eqb-true}
 use lib.ListN.{length, getD, take, drop, set, length-set, length-take, length-drop}
 use lib.Seq.{sets, sets-eq, length-sets, getD-set-same, getD-set-other, take-suc, length-take-le, ext-getD, getD-take, getD-drop}
-use Rattle.seq.specs.Search.{all, all-at}
+use Rattle.seq.specs.Search.{all}
 
 -- the n bytes of xs from index at on
 unfoldable pub part : List ℕ → ℕ → ℕ → List ℕ

@@ -1,61 +1,43 @@
-use mathlib.Core.Path.{sym, _∙_, ap}
-use Rattle.seq.specs.Truth.{fails, holds}
-use Rattle.layout.specs.View.{viewOf}
-use Rattle.consistency.specs.Entry.{entries-named}
-use Rattle.consistency.specs.Consistent.{bodiesGood}
+-- `consistency::bodies_good` meets its contract. Assumes nothing.
+use mathlib.Core.Path.{sym, _∙_}
 use borrow.Author.Needs.{needs}
+use Rattle.seq.specs.Truth.{fails, holds}
+use Rattle.consistency.specs.Consistent.{bodiesGood}
+use Rattle.consistency.specs.Entry.{entries-named}
 use Rattle.consistency.proofs.bodies_good.Statement.{statement}
 use Rattle.consistency.proofs.bodies_good.Tie as tie
-use Rattle.consistency.proofs.bodies_good.Reads as reads
-use Rattle.consistency.proofs.bodies_good.Lts as lts
-use Rattle.consistency.proofs.entries.all_good.Reads as entries-all-good-reads
-use Rattle.consistency.proofs.handles.all_good.Reads as handles-all-good-reads
-use Rattle.consistency.proofs.inodes.all_good.Reads as inodes-all-good-reads
-use Rattle.consistency.proofs.names.has_duplicate.Reads as has-duplicate-reads
-use Rattle.consistency.proofs.texts.all_good.Reads as texts-all-good-reads
-use Rattle.layout.proofs.lookup.is_directory.Reads as is-directory-reads
 
--- src/lib.rt:21:9
 is-directory-requires : tie.Need-is-directory-requires
 is-directory-requires c κs = search needs
 
--- src/lib.rt:22:9
 returns : tie.Need-returns
 unfolding bodiesGood
 returns c = simp (fails (c .before .is-directory .ensures) (c .if1 .taken))
 
--- src/lib.rt:24:9
 all-good-requires : tie.Need-all-good-requires
 all-good-requires c κs = search needs
 
--- src/lib.rt:25:9
 returns-2 : tie.Need-returns-2
 unfolding bodiesGood
 returns-2 c = simp (holds (c .before .before .before .is-directory .ensures) (c .before .before .if1 .left), fails (c .before .all-good .ensures) (c .if2 .taken))
 
--- src/lib.rt:27:9
 all-good-requires-2 : tie.Need-all-good-requires-2
 all-good-requires-2 c κs = search needs
 
--- src/lib.rt:28:9
 returns-3 : tie.Need-returns-3
 unfolding bodiesGood
 returns-3 c = simp (holds (c .before .before .before .before .before .is-directory .ensures) (c .before .before .before .before .if1 .left), holds (c .before .before .before .all-good .ensures) (c .before .before .if2 .left), fails (c .before .all-good2 .ensures) (c .if3 .taken))
 
--- src/lib.rt:30:8
 has-duplicate-requires : tie.Need-has-duplicate-requires
 has-duplicate-requires c κs = (search needs, entries-named (c .before .before .before .before .before .before .before .args .h) (c .before .before .before .before .before .before .before .args .s .now) (c .before .before .before .before .before .before .before .pre) (holds (c .before .all-good2 .ensures) (c .if3 .left)))
 
--- src/lib.rt:31:9
 returns-4 : tie.Need-returns-4
 unfolding bodiesGood
 returns-4 c = simp (holds (c .before .before .before .before .before .before .before .is-directory .ensures) (c .before .before .before .before .before .before .if1 .left), holds (c .before .before .before .before .before .all-good .ensures) (c .before .before .before .before .if2 .left), holds (c .before .before .before .all-good2 .ensures) (c .before .before .if3 .left), sym (c .before .has-duplicate .ensures) ∙ c .if4 .taken)
 
--- src/lib.rt:33:9
 all-good-requires-3 : tie.Need-all-good-requires-3
 all-good-requires-3 c κs = search needs
 
--- src/lib.rt:34:9
 returns-5 : tie.Need-returns-5
 unfolding bodiesGood
 returns-5 c = simp (
@@ -66,11 +48,9 @@ returns-5 c = simp (
   fails (c .before .all-good3 .ensures) (c .if5 .taken),
 )
 
--- src/lib.rt:36:5
 all-good-requires-4 : tie.Need-all-good-requires-4
 all-good-requires-4 c κs = search needs
 
--- src/lib.rt:17:1
 returns-6 : tie.Need-returns-6
 unfolding bodiesGood
 returns-6 c = simp (

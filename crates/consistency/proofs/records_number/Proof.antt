@@ -1,32 +1,24 @@
+-- `consistency::records_number` meets its contract. Assumes nothing.
+use borrow.Author.Needs.{needs}
 use Rattle.seq.specs.Truth.{fails, holds}
 use Rattle.consistency.specs.Consistent.{recordsNumber}
-use borrow.Author.Needs.{needs}
 use Rattle.consistency.proofs.records_number.Statement.{statement}
 use Rattle.consistency.proofs.records_number.Tie as tie
-use Rattle.consistency.proofs.records_number.Reads as reads
-use Rattle.consistency.proofs.records_number.Lts as lts
-use Rattle.consistency.proofs.bodies_good.Reads as bodies-good-reads
-use Rattle.consistency.proofs.journal_clear.Reads as journal-clear-reads
 
--- src/lib.rt:53:9
 journal-clear-requires : tie.Need-journal-clear-requires
 journal-clear-requires c κs = search needs
 
--- src/lib.rt:54:9
 returns : tie.Need-returns
 unfolding recordsNumber
 returns c = simp (fails (c .before .journal-clear .ensures) (c .if1 .taken))
 
--- src/lib.rt:56:9
 bodies-good-requires : tie.Need-bodies-good-requires
 bodies-good-requires c κs = search needs
 
--- src/lib.rt:57:9
 returns-2 : tie.Need-returns-2
 unfolding recordsNumber
 returns-2 c = simp (holds (c .before .before .before .journal-clear .ensures) (c .before .before .if1 .left), fails (c .before .bodies-good .ensures) (c .if2 .taken))
 
--- src/lib.rt:49:1
 returns-3 : tie.Need-returns-3
 unfolding recordsNumber
 returns-3 c = simp (holds (c .before .before .before .journal-clear .ensures) (c .before .before .if1 .left), holds (c .before .bodies-good .ensures) (c .if2 .left))

@@ -1,63 +1,46 @@
+-- `consistency::entries::linked` meets its contract. Assumes nothing.
 use mathlib.Core.Path.{sym, _∙_, ap}
-use borrow.Author.Tests.{eq-eqb, ne-eqb, lt-ltb, le-ltb, le-leb, lt-leb}
+use borrow.Author.Needs.{needs}
+use borrow.Author.Tests.{eq-eqb, ne-eqb}
 use Rattle.seq.specs.Truth.{fails, holds}
+use Rattle.layout.specs.Fields.{entryParent, entryTarget}
 use Rattle.layout.specs.Record.{field-of}
 use Rattle.layout.specs.View.{viewOf, isDirectory, isUsed, isKind-below, isUsed-below}
-use Rattle.layout.specs.Fields.{entryParent, entryTarget}
 use Rattle.consistency.specs.Entry.{entryLinked}
-use borrow.Author.Needs.{needs}
 use Rattle.consistency.proofs.entries.linked.Statement.{statement}
 use Rattle.consistency.proofs.entries.linked.Tie as tie
-use Rattle.consistency.proofs.entries.linked.Reads as reads
-use Rattle.consistency.proofs.entries.linked.Lts as lts
-use Rattle.consistency.proofs.entries.held_rightly.Reads as held-rightly-reads
-use Rattle.layout.proofs.entry.parent.Reads as parent-reads
-use Rattle.layout.proofs.entry.target.Reads as target-reads
-use Rattle.layout.proofs.lookup.is_directory.Reads as is-directory-reads
-use Rattle.layout.proofs.lookup.is_used.Reads as is-used-reads
-use Rattle.layout.proofs.records.entry.Reads as entry-reads
 
--- src/entries.rt:45:9
 entry-requires : tie.Need-entry-requires
 entry-requires c κs = search needs
 
--- src/entries.rt:46:9
 parent-requires : tie.Need-parent-requires
 parent-requires c κs = search needs
 
--- src/entries.rt:47:9
 is-directory-requires : tie.Need-is-directory-requires
 is-directory-requires c κs = search needs
 
--- src/entries.rt:48:9
 returns : tie.Need-returns
 unfolding entryLinked viewOf
 returns c = simp (ap (λ x. isDirectory (viewOf (c .before .before .before .before .before .args .h) (c .before .before .before .before .before .args .s .now)) x) (sym (field-of entryParent (c .before .before .before .entry .ensures) (c .before .before .parent .ensures .0))) ∙ fails (c .before .is-directory .ensures) (c .if1 .taken))
 
--- src/entries.rt:50:9
 target-requires : tie.Need-target-requires
 target-requires c κs = search needs
 
--- src/entries.rt:51:9
 is-used-requires : tie.Need-is-used-requires
 is-used-requires c κs = search needs
 
--- src/entries.rt:52:9
 returns-2 : tie.Need-returns-2
 unfolding entryLinked viewOf
 returns-2 c = simp (ap (λ x. isDirectory (viewOf (c .before .before .before .before .before .before .before .before .args .h) (c .before .before .before .before .before .before .before .before .args .s .now)) x) (sym (field-of entryParent (c .before .before .before .before .before .before .entry .ensures) (c .before .before .before .before .before .parent .ensures .0))) ∙ holds (c .before .before .before .before .is-directory .ensures) (c .before .before .before .if1 .left), ap (λ x. isUsed (viewOf (c .before .before .before .before .before .before .before .before .args .h) (c .before .before .before .before .before .before .before .before .args .s .now)) x) (sym (field-of entryTarget (c .before .before .before .before .before .before .entry .ensures) (c .before .before .target .ensures .0))) ∙ fails (c .before .is-used .ensures) (c .if2 .taken))
 
--- src/entries.rt:55:9
 returns-3 : tie.Need-returns-3
 unfolding entryLinked viewOf
 returns-3 c = simp (ap (λ x. isDirectory (viewOf (c .before .before .before .before .before .before .before .before .before .args .h) (c .before .before .before .before .before .before .before .before .before .args .s .now)) x) (sym (field-of entryParent (c .before .before .before .before .before .before .before .entry .ensures) (c .before .before .before .before .before .before .parent .ensures .0))) ∙ holds (c .before .before .before .before .before .is-directory .ensures) (c .before .before .before .before .if1 .left), ap (λ x. isUsed (viewOf (c .before .before .before .before .before .before .before .before .before .args .h) (c .before .before .before .before .before .before .before .before .before .args .s .now)) x) (sym (field-of entryTarget (c .before .before .before .before .before .before .before .entry .ensures) (c .before .before .before .target .ensures .0))) ∙ holds (c .before .before .is-used .ensures) (c .before .if2 .left), eq-eqb _ _ (sym (field-of entryTarget (c .before .before .before .before .before .before .before .entry .ensures) (c .before .before .before .target .ensures .0)) ∙ c .if3 .taken))
 
--- src/entries.rt:57:5
 held-rightly-requires : tie.Need-held-rightly-requires
 held-rightly-requires c κs = let v = viewOf (c .before .before .before .before .before .before .before .before .before .args .h) (c .before .before .before .before .before .before .before .before .before .args .s .now) in
     (search needs, isUsed-below (c .before .before .before .before .before .before .before .before .before .args .h) (c .before .before .before .before .before .before .before .before .before .args .s .now) _ (holds (c .before .before .is-used .ensures) (c .before .if2 .left)), isKind-below (c .before .before .before .before .before .before .before .before .before .args .h) (c .before .before .before .before .before .before .before .before .before .args .s .now) _ 2 (holds (c .before .before .before .before .before .is-directory .ensures) (c .before .before .before .before .if1 .left)))
 
--- src/entries.rt:41:1
 returns-4 : tie.Need-returns-4
 unfolding entryLinked viewOf
 returns-4 c = let p = field-of entryParent (c .before .before .before .before .before .before .before .before .entry .ensures) (c .before .before .before .before .before .before .before .parent .ensures .0) in

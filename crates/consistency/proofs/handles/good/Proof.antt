@@ -1,48 +1,36 @@
+-- `consistency::handles::good` meets its contract. Assumes nothing.
 use mathlib.Core.Path.{sym, _∙_, ap}
-use Rattle.layout.specs.Record.{field-of}
-use Rattle.layout.specs.View.{viewOf}
+use borrow.Author.Needs.{needs}
 use Rattle.seq.specs.Bytes.{zeros}
 use Rattle.layout.specs.Fields.{handleState}
+use Rattle.layout.specs.Record.{field-of}
+use Rattle.layout.specs.View.{viewOf}
 use Rattle.consistency.specs.Others.{handleGood, state-closed, state-open, state-none}
-use borrow.Author.Needs.{needs}
 use Rattle.consistency.proofs.handles.good.Statement.{statement}
 use Rattle.consistency.proofs.handles.good.Tie as tie
-use Rattle.consistency.proofs.handles.good.Reads as reads
-use Rattle.consistency.proofs.handles.good.Lts as lts
-use Rattle.consistency.proofs.handles.open_good.Reads as open-good-reads
-use Rattle.layout.proofs.bytes.all_zero.Reads as all-zero-reads
-use Rattle.layout.proofs.handle.state.Reads as state-reads
-use Rattle.layout.proofs.records.handle.Reads as handle-reads
 
--- src/handles.rt:29:9
 handle-requires : tie.Need-handle-requires
 handle-requires c κs = search needs
 
--- src/handles.rt:30:9
 state-requires : tie.Need-state-requires
 state-requires c κs = search needs
 
--- src/handles.rt:32:14
 all-zero-requires : tie.Need-all-zero-requires
 all-zero-requires c κs = search needs
 
--- src/handles.rt:33:18
 open-good-requires : tie.Need-open-good-requires
 open-good-requires c κs = search needs
 
--- src/handles.rt:25:1
 returns : tie.Need-returns
 unfolding handleGood viewOf
 returns c = c .all-zero .ensures ∙ ap (λ x. zeros x 0 8) (c .before .before .before .handle .ensures .is)
     ∙ sym (state-closed _ _ _ (sym (field-of handleState (c .before .before .before .handle .ensures) (c .before .before .state .ensures)) ∙ c .before .match .keys1))
 
--- src/handles.rt:25:1
 returns-2 : tie.Need-returns-2
 unfolding handleGood viewOf
 returns-2 c = let k = field-of handleState (c .before .before .before .before .handle .ensures) (c .before .before .before .state .ensures) in
     c .open-good .ensures ∙ sym (state-open _ _ _ (λ e. c .before .before .match .rest .1 (k ∙ e)) (rw k at (c .before .if1 .taken)))
 
--- src/handles.rt:25:1
 returns-3 : tie.Need-returns-3
 unfolding handleGood viewOf
 returns-3 c = let k = field-of handleState (c .before .before .before .handle .ensures) (c .before .before .state .ensures) in

@@ -1,63 +1,47 @@
+-- `consistency::inodes::directory_good` meets its contract. Assumes nothing.
 use mathlib.Core.Path.{sym, _∙_, ap}
 use Prim.Native.Nat.{_+_}
+use borrow.Author.Needs.{needs}
 use borrow.Author.Tests.{eq-eqb, ne-eqb, lt-ltb, le-ltb, le-leb, lt-leb}
+use Rattle.layout.specs.Fields.{inodeMode, inodeLinks}
 use Rattle.layout.specs.Record.{field-of}
 use Rattle.layout.specs.View.{viewOf}
-use Rattle.layout.specs.Fields.{inodeMode, inodeLinks}
 use Rattle.consistency.specs.Inode.{directoryGood}
-use borrow.Author.Needs.{needs}
 use Rattle.consistency.proofs.inodes.directory_good.Statement.{statement}
 use Rattle.consistency.proofs.inodes.directory_good.Tie as tie
-use Rattle.consistency.proofs.inodes.directory_good.Reads as reads
-use Rattle.consistency.proofs.inodes.directory_good.Lts as lts
-use Rattle.consistency.proofs.inodes.directory_placed.Reads as directory-placed-reads
-use Rattle.consistency.proofs.tree.child_directories.Reads as child-directories-reads
-use Rattle.layout.proofs.inode.links.Reads as links-reads
-use Rattle.layout.proofs.inode.mode.Reads as mode-reads
-use Rattle.layout.proofs.records.inode.Reads as inode-reads
 
--- src/inodes.rt:59:9
 inode-requires : tie.Need-inode-requires
 inode-requires c κs = search needs
 
--- src/inodes.rt:60:16
 mode-requires : tie.Need-mode-requires
 mode-requires c κs = search needs
 
--- src/inodes.rt:61:9
 returns : tie.Need-returns
 unfolding directoryGood viewOf
 returns c = simp (le-ltb _ _ (rw (field-of inodeMode (c .before .before .inode .ensures) (c .before .mode .ensures .0)) at (c .if1 .taken)))
 
--- src/inodes.rt:63:9
 links-requires : tie.Need-links-requires
 links-requires c κs = search needs
 
--- src/inodes.rt:65:9
 returns-2 : tie.Need-returns-2
 unfolding directoryGood viewOf
 returns-2 c = simp (lt-ltb _ _ (rw (field-of inodeMode (c .before .before .before .before .inode .ensures) (c .before .before .before .mode .ensures .0)) at (c .before .before .if1 .left)), lt-leb _ _ (rw (field-of inodeLinks (c .before .before .before .before .inode .ensures) (c .before .links .ensures .0)) at (c .if2 .taken)))
 
--- src/inodes.rt:67:21
 child-directories-requires : tie.Need-child-directories-requires
 child-directories-requires c κs = search needs
 
--- src/inodes.rt:67:17
 add-if3 : tie.Need-add-if3
 add-if3 c = search needs
 
--- src/inodes.rt:68:9
 returns-3 : tie.Need-returns-3
 unfolding directoryGood viewOf
 returns-3 c = let l = field-of inodeLinks (c .before .before .before .before .before .before .inode .ensures) (c .before .before .before .links .ensures .0) in
     let k = c .before .child-directories .ensures .0 in
     simp (lt-ltb _ _ (rw (field-of inodeMode (c .before .before .before .before .before .before .inode .ensures) (c .before .before .before .before .before .mode .ensures .0)) at (c .before .before .before .before .if1 .left)), le-leb _ _ (rw (field-of inodeLinks (c .before .before .before .before .before .before .inode .ensures) (c .before .before .before .links .ensures .0)) at (c .before .before .if2 .left)), ne-eqb _ _ (λ e. c .if3 .taken (l ∙ e ∙ ap (λ m. 2 + m) (sym k))))
 
--- src/inodes.rt:70:5
 directory-placed-requires : tie.Need-directory-placed-requires
 directory-placed-requires c κs = search needs
 
--- src/inodes.rt:55:1
 returns-4 : tie.Need-returns-4
 unfolding directoryGood viewOf
 returns-4 c = let l = field-of inodeLinks (c .before .before .before .before .before .before .before .inode .ensures) (c .before .before .before .before .links .ensures .0) in

@@ -1,57 +1,42 @@
+-- `consistency::inodes::symlink_good` meets its contract. Assumes nothing.
 use mathlib.Core.Path.{sym, _∙_, ap}
-use borrow.Author.Tests.{eq-eqb, ne-eqb, lt-ltb, le-ltb, le-leb, lt-leb}
+use borrow.Author.Needs.{needs}
+use borrow.Author.Tests.{lt-ltb, le-ltb}
 use Rattle.seq.specs.Truth.{fails, holds}
+use Rattle.layout.specs.Fields.{inodeField}
 use Rattle.layout.specs.Record.{field-of}
 use Rattle.layout.specs.View.{viewOf, textUsed}
-use Rattle.layout.specs.Fields.{inodeField}
 use Rattle.consistency.specs.Inode.{symlinkGood}
-use borrow.Author.Needs.{needs}
 use Rattle.consistency.proofs.inodes.symlink_good.Statement.{statement}
 use Rattle.consistency.proofs.inodes.symlink_good.Tie as tie
-use Rattle.consistency.proofs.inodes.symlink_good.Reads as reads
-use Rattle.consistency.proofs.inodes.symlink_good.Lts as lts
-use Rattle.consistency.proofs.inodes.leaf_good.Reads as leaf-good-reads
-use Rattle.consistency.proofs.inodes.text_shared.Reads as text-shared-reads
-use Rattle.consistency.proofs.inodes.text_used.Reads as text-used-reads
-use Rattle.layout.proofs.inode.field.Reads as field-reads
-use Rattle.layout.proofs.records.inode.Reads as inode-reads
 
--- src/inodes.rt:115:9
 leaf-good-requires : tie.Need-leaf-good-requires
 leaf-good-requires c κs = search needs
 
--- src/inodes.rt:116:9
 returns : tie.Need-returns
 unfolding symlinkGood
 returns c = simp (fails (c .before .leaf-good .ensures) (c .if1 .taken))
 
--- src/inodes.rt:118:9
 inode-requires : tie.Need-inode-requires
 inode-requires c κs = search needs
 
--- src/inodes.rt:119:9
 field-requires : tie.Need-field-requires
 field-requires c κs = search needs
 
--- src/inodes.rt:121:9
 returns-2 : tie.Need-returns-2
 unfolding symlinkGood viewOf
 returns-2 c = simp (holds (c .before .before .before .before .before .leaf-good .ensures) (c .before .before .before .before .if1 .left), le-ltb _ _ (rw (field-of inodeField (c .before .before .before .inode .ensures) (c .before .before .field .ensures .0)) at (c .if2 .taken)))
 
--- src/inodes.rt:123:9
 text-used-requires : tie.Need-text-used-requires
 text-used-requires c κs = search needs
 
--- src/inodes.rt:124:9
 returns-3 : tie.Need-returns-3
 unfolding symlinkGood viewOf
 returns-3 c = simp (holds (c .before .before .before .before .before .before .before .leaf-good .ensures) (c .before .before .before .before .before .before .if1 .left), lt-ltb _ _ (rw (field-of inodeField (c .before .before .before .before .before .inode .ensures) (c .before .before .before .before .field .ensures .0)) at (c .before .before .if2 .left)), ap (λ x. textUsed (viewOf (c .before .before .before .before .before .before .before .before .before .args .h) (c .before .before .before .before .before .before .before .before .before .args .s .now)) x) (sym (field-of inodeField (c .before .before .before .before .before .inode .ensures) (c .before .before .before .before .field .ensures .0))) ∙ fails (c .before .text-used .ensures) (c .if3 .taken))
 
--- src/inodes.rt:126:6
 text-shared-requires : tie.Need-text-shared-requires
 text-shared-requires c κs = search needs
 
--- src/inodes.rt:111:1
 returns-4 : tie.Need-returns-4
 unfolding symlinkGood viewOf
 returns-4 c = simp (holds (c .before .before .before .before .before .before .before .before .leaf-good .ensures) (c .before .before .before .before .before .before .before .if1 .left), lt-ltb _ _ (rw (field-of inodeField (c .before .before .before .before .before .before .inode .ensures) (c .before .before .before .before .before .field .ensures .0)) at (c .before .before .before .if2 .left)), ap (λ x. textUsed (viewOf (c .before .before .before .before .before .before .before .before .before .before .args .h) (c .before .before .before .before .before .before .before .before .before .before .args .s .now)) x) (sym (field-of inodeField (c .before .before .before .before .before .before .inode .ensures) (c .before .before .before .before .before .field .ensures .0))) ∙ holds (c .before .before .text-used .ensures) (c .before .if3 .left), c .text-shared .ensures)

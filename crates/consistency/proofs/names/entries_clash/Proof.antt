@@ -1,77 +1,58 @@
+-- `consistency::names::entries_clash` meets its contract. Assumes nothing.
 use mathlib.Core.Path.{sym, _∙_, ap}
 use native.Mathlib.Omega.{arith}
-use borrow.Author.Tests.{eq-eqb, ne-eqb, lt-ltb, le-ltb, le-leb, lt-leb}
+use borrow.Author.Needs.{needs}
+use borrow.Author.Tests.{eq-eqb, ne-eqb}
+use Rattle.layout.specs.Fields.{entryNameLength, entryParent, entryName}
 use Rattle.layout.specs.Record.{field-of}
 use Rattle.layout.specs.View.{viewOf}
-use Rattle.layout.specs.Fields.{entryNameLength, entryParent, entryName}
 use Rattle.consistency.specs.Name.{clash}
-use borrow.Author.Needs.{needs}
 use Rattle.consistency.proofs.names.entries_clash.Statement.{statement}
 use Rattle.consistency.proofs.names.entries_clash.Tie as tie
-use Rattle.consistency.proofs.names.entries_clash.Reads as reads
-use Rattle.consistency.proofs.names.entries_clash.Lts as lts
-use Rattle.layout.proofs.bytes.same.Reads as same-reads
-use Rattle.layout.proofs.entry.name.Reads as name-reads
-use Rattle.layout.proofs.entry.name_length.Reads as name-length-reads
-use Rattle.layout.proofs.entry.parent.Reads as parent-reads
-use Rattle.layout.proofs.records.entry.Reads as entry-reads
 
--- src/names.rt:51:9
 entry-requires : tie.Need-entry-requires
 entry-requires c κs = search needs
 
--- src/names.rt:52:8
 name-length-requires : tie.Need-name-length-requires
 name-length-requires c κs = search needs
 
--- src/names.rt:53:9
 returns : tie.Need-returns
 unfolding clash viewOf
 returns c = simp (eq-eqb _ _ (sym (field-of entryNameLength (c .before .before .entry .ensures) (c .before .name-length .ensures .0)) ∙ c .if1 .taken))
 
--- src/names.rt:55:9
 entry-requires-2 : tie.Need-entry-requires-2
 entry-requires-2 c κs = search needs
 
--- src/names.rt:56:8
 name-length-requires-2 : tie.Need-name-length-requires-2
 name-length-requires-2 c κs = search needs
 
--- src/names.rt:57:9
 returns-2 : tie.Need-returns-2
 unfolding clash viewOf
 returns-2 c = simp (ne-eqb _ _ (λ e. c .before .before .before .if1 .left (field-of entryNameLength (c .before .before .before .before .before .entry .ensures) (c .before .before .before .before .name-length .ensures .0) ∙ e)), eq-eqb _ _ (sym (field-of entryNameLength (c .before .before .entry2 .ensures) (c .before .name-length2 .ensures .0)) ∙ c .if2 .taken))
 
--- src/names.rt:59:8
 parent-requires : tie.Need-parent-requires
 parent-requires c κs = search needs
 
--- src/names.rt:59:36
 parent-requires-2 : tie.Need-parent-requires-2
 parent-requires-2 c κs = search needs
 
--- src/names.rt:60:9
 returns-3 : tie.Need-returns-3
 unfolding clash viewOf
 returns-3 c = simp (ne-eqb _ _ (λ e. c .before .before .before .before .before .before .if1 .left (field-of entryNameLength (c .before .before .before .before .before .before .before .before .entry .ensures) (c .before .before .before .before .before .before .before .name-length .ensures .0) ∙ e)), ne-eqb _ _ (λ e. c .before .before .before .if2 .left (field-of entryNameLength (c .before .before .before .before .before .entry2 .ensures) (c .before .before .before .before .name-length2 .ensures .0) ∙ e)), ne-eqb _ _ (λ e. c .if3 .taken (field-of entryParent (c .before .before .before .before .before .before .before .before .entry .ensures) (c .before .before .parent .ensures .0) ∙ e ∙ sym (field-of entryParent (c .before .before .before .before .before .entry2 .ensures) (c .before .parent2 .ensures .0)))))
 
--- src/names.rt:62:25
 name-requires : tie.Need-name-requires
 unfolding viewOf
 name-requires c κs = let n = ap entryNameLength (c .before .before .before .before .before .before .before .before .entry .ensures .is) in
     omega (arith, c .before .before .before .before .before .before .before .before .before .before .pre .1 .fits (c .before .before .before .before .before .before .before .before .before .before .args .i) (c .before .before .before .before .before .before .before .before .before .before .pre .2), c .before .before .before .before .before .before .before .before .entry .ensures .long, c .before .before .before .before .before .before .before .before .before .before .pre .0 .width-least)
 
--- src/names.rt:62:49
 name-requires-2 : tie.Need-name-requires-2
 unfolding viewOf
 name-requires-2 c κs = let n = ap entryNameLength (c .before .before .before .before .before .before .entry2 .ensures .is) in
     omega (arith, c .before .before .before .before .before .before .before .before .before .before .before .pre .1 .fits (c .before .before .before .before .before .before .before .before .before .before .before .args .j) (c .before .before .before .before .before .before .before .before .before .before .before .pre .3), c .before .before .before .before .before .before .entry2 .ensures .long, c .before .before .before .before .before .before .before .before .before .before .before .pre .0 .width-least)
 
--- src/names.rt:62:5
 same-requires : tie.Need-same-requires
 same-requires c κs = search needs
 
--- src/names.rt:47:1
 returns-4 : tie.Need-returns-4
 unfolding clash viewOf
 returns-4 c = let a = c .before .before .name .ensures ∙ ap entryName (c .before .before .before .before .before .before .before .before .before .before .before .entry .ensures .is) in

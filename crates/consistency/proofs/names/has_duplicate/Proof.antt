@@ -1,16 +1,14 @@
-use mathlib.Core.Bool.{true, false}
+-- `consistency::names::has_duplicate` meets its contract. Assumes nothing.
+use mathlib.Core.Path.{_≡_, sym, _∙_}
+use mathlib.Core.Bool.{false}
+use Prim.Native.Nat.{_≤_, _-_}
+use native.Mathlib.Omega.{arith}
+use borrow.Author.Needs.{needs}
 use Rattle.seq.specs.Search.{any, any-none, any-miss, any-hit}
 use Rattle.layout.specs.View.{viewOf}
 use Rattle.consistency.specs.Name.{clash, hasDuplicate}
-use mathlib.Core.Path.{_≡_, sym, _∙_}
-use Prim.Native.Nat.{_≤_, _<_, _-_, _+_, _*_}
-use native.Mathlib.Omega.{arith}
-use borrow.Author.Needs.{needs}
 use Rattle.consistency.proofs.names.has_duplicate.Statement.{statement}
 use Rattle.consistency.proofs.names.has_duplicate.Tie as tie
-use Rattle.consistency.proofs.names.has_duplicate.Reads as reads
-use Rattle.consistency.proofs.names.has_duplicate.Lts as lts
-use Rattle.consistency.proofs.names.entries_clash.Reads as entries-clash-reads
 
 abbrev Inv-loop : tie.InvT-loop
 Inv-loop s h n found₀ j i₀ found i = (i ≤ j) × (found ≡ false) × (any (λ k. clash (viewOf h s) k j) i ≡ false)
@@ -24,50 +22,39 @@ Inv-pairs s h n found₀ j₀ found j = (j ≤ n) × (found ≡ false) × (any (
 abbrev μ-pairs : tie.MeasureT-pairs
 μ-pairs s h n found₀ j₀ found j = n - j
 
--- src/names.rt:73:5
 pairs-holds : tie.Need-pairs-holds Inv-loop μ-loop Inv-pairs μ-pairs
 pairs-holds c = (search needs, search needs, any-none _)
 
--- src/names.rt:75:9
 loop-holds : tie.Need-loop-holds Inv-loop μ-loop Inv-pairs μ-pairs
 loop-holds c = (search needs, search needs, any-none _)
 
--- src/names.rt:76:16
 entries-clash-requires : tie.Need-entries-clash-requires Inv-loop μ-loop Inv-pairs μ-pairs
 entries-clash-requires c κs = search needs
 
--- src/names.rt:80:13
 add-i : tie.Need-add-i Inv-loop μ-loop Inv-pairs μ-pairs
 add-i c = search needs
 
--- src/names.rt:75:9
 loop-less : tie.Need-loop-less Inv-loop μ-loop Inv-pairs μ-pairs
 loop-less c = search needs
 
--- src/names.rt:75:9
 loop-again : tie.Need-loop-again Inv-loop μ-loop Inv-pairs μ-pairs
 loop-again c = (search needs, search needs, any-miss _ _ (c .before .before .before .loop .inv .2) (sym (c .before .entries-clash .ensures) ∙ c .if1 .left))
 
--- src/names.rt:82:9
 add-j : tie.Need-add-j Inv-loop μ-loop Inv-pairs μ-pairs
 add-j c = search needs
 
--- src/names.rt:73:5
 pairs-less : tie.Need-pairs-less Inv-loop μ-loop Inv-pairs μ-pairs
 pairs-less c = search needs
 
--- src/names.rt:73:5
 pairs-again : tie.Need-pairs-again Inv-loop μ-loop Inv-pairs μ-pairs
 pairs-again c = let e : c .before .loop .i ≡ c .before .before .before .pairs .j = omega arith in
     (search needs, search needs, any-miss _ _ (c .before .before .before .pairs .inv .2) (rw e at (c .before .loop .inv .2)))
 
--- src/names.rt:66:1
 returns : tie.Need-returns Inv-loop μ-loop Inv-pairs μ-pairs
 unfolding hasDuplicate viewOf
 returns c = let e : c .before .pairs .j ≡ c .before .before .before .args .h .entries = omega arith in
     c .before .pairs .inv .1 ∙ sym (rw e at (c .before .pairs .inv .2))
 
--- src/names.rt:66:1
 returns-2 : tie.Need-returns-2 Inv-loop μ-loop Inv-pairs μ-pairs
 unfolding hasDuplicate viewOf
 returns-2 c = sym (any-hit _ _ _ (c .before .before .before .before .pairs-test .taken) (any-hit _ _ _ (c .before .before .loop-test .taken) (sym (c .before .entries-clash .ensures) ∙ c .if1 .taken)))

@@ -1,16 +1,14 @@
-use mathlib.Core.Bool.{true, false}
-use Rattle.seq.specs.Truth.{fails, holds}
-use Rattle.seq.specs.Search.{all, all-none, all-more, all-not}
-use Rattle.consistency.specs.Others.{textGood}
-use mathlib.Core.Path.{_≡_, sym, _∙_}
-use Prim.Native.Nat.{_≤_, _<_, _-_, _+_, _*_}
+-- `consistency::texts::all_good` meets its contract. Assumes nothing.
+use mathlib.Core.Path.{_≡_, sym}
+use mathlib.Core.Bool.{true}
+use Prim.Native.Nat.{_≤_, _-_}
 use native.Mathlib.Omega.{arith}
 use borrow.Author.Needs.{needs}
+use Rattle.seq.specs.Search.{all, all-none, all-more, all-not}
+use Rattle.seq.specs.Truth.{fails, holds}
+use Rattle.consistency.specs.Others.{textGood}
 use Rattle.consistency.proofs.texts.all_good.Statement.{statement}
 use Rattle.consistency.proofs.texts.all_good.Tie as tie
-use Rattle.consistency.proofs.texts.all_good.Reads as reads
-use Rattle.consistency.proofs.texts.all_good.Lts as lts
-use Rattle.consistency.proofs.texts.good.Reads as good-reads
 
 abbrev Inv-loop : tie.InvT-loop
 Inv-loop s h n t₀ t = (t ≤ n) × (all (textGood h s) t ≡ true)
@@ -18,31 +16,24 @@ Inv-loop s h n t₀ t = (t ≤ n) × (all (textGood h s) t ≡ true)
 abbrev μ-loop : tie.MeasureT-loop
 μ-loop s h n t₀ t = n - t
 
--- src/texts.rt:69:5
 loop-holds : tie.Need-loop-holds Inv-loop μ-loop
 loop-holds c = (search needs, all-none _)
 
--- src/texts.rt:70:13
 good-requires : tie.Need-good-requires Inv-loop μ-loop
 good-requires c κs = search needs
 
--- src/texts.rt:71:13
 returns : tie.Need-returns Inv-loop μ-loop
 returns c = sym (all-not _ _ _ (c .before .before .loop-test .taken) (fails (c .before .good2 .ensures) (c .if1 .taken)))
 
--- src/texts.rt:73:9
 add-t : tie.Need-add-t Inv-loop μ-loop
 add-t c = search needs
 
--- src/texts.rt:69:5
 loop-less : tie.Need-loop-less Inv-loop μ-loop
 loop-less c = search needs
 
--- src/texts.rt:69:5
 loop-again : tie.Need-loop-again Inv-loop μ-loop
 loop-again c = (search needs, all-more _ _ (c .before .before .before .loop .inv .1) (holds (c .before .good2 .ensures) (c .if1 .left)))
 
--- src/texts.rt:63:1
 returns-2 : tie.Need-returns-2 Inv-loop μ-loop
 returns-2 c = let e : c .before .loop .t ≡ c .before .before .before .args .h .texts = omega arith in
     sym (rw e at (c .before .loop .inv .1))

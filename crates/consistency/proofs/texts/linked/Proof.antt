@@ -1,17 +1,15 @@
-use mathlib.Core.Bool.{true, false}
+-- `consistency::texts::linked` meets its contract. Assumes nothing.
+use mathlib.Core.Path.{_≡_, sym, _∙_}
+use mathlib.Core.Bool.{false}
+use Prim.Native.Nat.{_≤_, _-_}
+use native.Mathlib.Omega.{arith}
+use borrow.Author.Needs.{needs}
 use Rattle.seq.specs.Search.{any, any-none, any-miss, any-hit}
 use Rattle.layout.specs.View.{viewOf}
 use Rattle.consistency.specs.Inode.{hasText}
 use Rattle.consistency.specs.Others.{textLinked}
-use mathlib.Core.Path.{_≡_, sym, _∙_}
-use Prim.Native.Nat.{_≤_, _<_, _-_, _+_, _*_}
-use native.Mathlib.Omega.{arith}
-use borrow.Author.Needs.{needs}
 use Rattle.consistency.proofs.texts.linked.Statement.{statement}
 use Rattle.consistency.proofs.texts.linked.Tie as tie
-use Rattle.consistency.proofs.texts.linked.Reads as reads
-use Rattle.consistency.proofs.texts.linked.Lts as lts
-use Rattle.consistency.proofs.inodes.has_text.Reads as has-text-reads
 
 abbrev Inv-loop : tie.InvT-loop
 Inv-loop s h t n i₀ i = (i ≤ n) × (any (hasText (viewOf h s) t) i ≡ false)
@@ -19,34 +17,27 @@ Inv-loop s h t n i₀ i = (i ≤ n) × (any (hasText (viewOf h s) t) i ≡ false
 abbrev μ-loop : tie.MeasureT-loop
 μ-loop s h t n i₀ i = n - i
 
--- src/texts.rt:31:5
 loop-holds : tie.Need-loop-holds Inv-loop μ-loop
 unfolding viewOf
 loop-holds c = (search needs, any-none _)
 
--- src/texts.rt:32:12
 has-text-requires : tie.Need-has-text-requires Inv-loop μ-loop
 has-text-requires c κs = search needs
 
--- src/texts.rt:33:13
 returns : tie.Need-returns Inv-loop μ-loop
 unfolding textLinked viewOf
 returns c = sym (any-hit _ _ _ (c .before .before .loop-test .taken) (sym (c .before .has-text .ensures) ∙ c .if1 .taken))
 
--- src/texts.rt:35:9
 add-i : tie.Need-add-i Inv-loop μ-loop
 add-i c = search needs
 
--- src/texts.rt:31:5
 loop-less : tie.Need-loop-less Inv-loop μ-loop
 loop-less c = search needs
 
--- src/texts.rt:31:5
 loop-again : tie.Need-loop-again Inv-loop μ-loop
 unfolding viewOf
 loop-again c = (search needs, any-miss _ _ (c .before .before .before .loop .inv .1) (sym (c .before .has-text .ensures) ∙ c .if1 .left))
 
--- src/texts.rt:25:1
 returns-2 : tie.Need-returns-2 Inv-loop μ-loop
 unfolding textLinked viewOf
 returns-2 c = let e : c .before .loop .i ≡ c .before .before .before .args .h .inodes = omega arith in

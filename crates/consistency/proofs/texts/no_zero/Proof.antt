@@ -1,17 +1,16 @@
-use mathlib.Core.Bool.{true, false, not}
+-- `consistency::texts::no_zero` meets its contract. Assumes nothing.
+use mathlib.Core.Path.{_≡_, sym}
+use mathlib.Core.Bool.{true, not}
+use Prim.Native.Nat.{_≤_, _-_}
+use native.Mathlib.Omega.{arith}
 use lib.Dec.{eqb}
-use borrow.Author.Tests.{eq-eqb, ne-eqb, lt-ltb, le-ltb, le-leb, lt-leb}
 use lib.ListN.{length, getD}
+use borrow.Author.Needs.{needs}
+use borrow.Author.Tests.{eq-eqb, ne-eqb}
 use Rattle.seq.specs.Search.{all, all-none, all-more, all-not}
 use Rattle.consistency.specs.Others.{noZero}
-use mathlib.Core.Path.{_≡_, sym, _∙_}
-use Prim.Native.Nat.{_≤_, _<_, _-_, _+_, _*_}
-use native.Mathlib.Omega.{arith}
-use borrow.Author.Needs.{needs}
 use Rattle.consistency.proofs.texts.no_zero.Statement.{statement}
 use Rattle.consistency.proofs.texts.no_zero.Tie as tie
-use Rattle.consistency.proofs.texts.no_zero.Reads as reads
-use Rattle.consistency.proofs.texts.no_zero.Lts as lts
 
 abbrev Inv-loop : tie.InvT-loop
 Inv-loop text k₀ k = (k ≤ length text) × (all (λ i. not (eqb (getD text i 0) 0)) k ≡ true)
@@ -19,32 +18,25 @@ Inv-loop text k₀ k = (k ≤ length text) × (all (λ i. not (eqb (getD text i 
 abbrev μ-loop : tie.MeasureT-loop
 μ-loop text k₀ k = length text - k
 
--- src/texts.rt:15:5
 loop-holds : tie.Need-loop-holds Inv-loop μ-loop
 loop-holds c = (search needs, all-none _)
 
--- src/texts.rt:16:12
 shared-slice-read-if1 : tie.Need-shared-slice-read-if1 Inv-loop μ-loop
 shared-slice-read-if1 c = search needs
 
--- src/texts.rt:17:13
 returns : tie.Need-returns Inv-loop μ-loop
 unfolding noZero
 returns c = sym (all-not _ _ _ (c .before .before .loop-test .taken) (simp (eq-eqb _ _ (c .if1 .taken))))
 
--- src/texts.rt:19:9
 add-k : tie.Need-add-k Inv-loop μ-loop
 add-k c = search needs
 
--- src/texts.rt:15:5
 loop-less : tie.Need-loop-less Inv-loop μ-loop
 loop-less c = search needs
 
--- src/texts.rt:15:5
 loop-again : tie.Need-loop-again Inv-loop μ-loop
 loop-again c = (search needs, all-more _ _ (c .before .before .before .loop .inv .1) (simp (ne-eqb _ _ (c .if1 .left))))
 
--- src/texts.rt:11:1
 returns-2 : tie.Need-returns-2 Inv-loop μ-loop
 unfolding noZero
 returns-2 c = let e : c .before .loop .k ≡ length (c .before .before .args .text .now) = omega arith in

@@ -1,17 +1,14 @@
-use mathlib.Core.Path.{ap}
+-- `consistency::tree::entries_of` meets its contract. Assumes nothing.
+use mathlib.Core.Path.{ap, _≡_, sym, _∙_}
 use mathlib.Core.Logic.{⊎-elim}
+use Prim.Native.Nat.{_≤_, _-_, _+_}
+use native.Mathlib.Omega.{arith}
+use borrow.Author.Needs.{needs}
 use Rattle.seq.specs.Search.{count, count-none, count-hit, count-miss}
 use Rattle.layout.specs.View.{viewOf}
 use Rattle.consistency.specs.Tree.{targets, entriesOf}
-use mathlib.Core.Path.{_≡_, sym, _∙_}
-use Prim.Native.Nat.{_≤_, _<_, _-_, _+_, _*_}
-use native.Mathlib.Omega.{arith}
-use borrow.Author.Needs.{needs}
 use Rattle.consistency.proofs.tree.entries_of.Statement.{statement}
 use Rattle.consistency.proofs.tree.entries_of.Tie as tie
-use Rattle.consistency.proofs.tree.entries_of.Reads as reads
-use Rattle.consistency.proofs.tree.entries_of.Lts as lts
-use Rattle.consistency.proofs.tree.entry_targets.Reads as entry-targets-reads
 
 abbrev Inv-loop : tie.InvT-loop
 Inv-loop s h i n found₀ j₀ found j = (j ≤ n) × (found ≤ j) × (found ≡ count (targets (viewOf h s) i) j)
@@ -19,27 +16,21 @@ Inv-loop s h i n found₀ j₀ found j = (j ≤ n) × (found ≤ j) × (found �
 abbrev μ-loop : tie.MeasureT-loop
 μ-loop s h i n found₀ j₀ found j = n - j
 
--- src/tree.rt:29:5
 loop-holds : tie.Need-loop-holds Inv-loop μ-loop
 loop-holds c = (search needs, search needs, sym (count-none _))
 
--- src/tree.rt:30:12
 entry-targets-requires : tie.Need-entry-targets-requires Inv-loop μ-loop
 entry-targets-requires c κs = search needs
 
--- src/tree.rt:31:13
 add-found : tie.Need-add-found Inv-loop μ-loop
 add-found c = search needs
 
--- src/tree.rt:33:9
 add-j : tie.Need-add-j Inv-loop μ-loop
 add-j c = search needs
 
--- src/tree.rt:29:5
 loop-less : tie.Need-loop-less Inv-loop μ-loop
 loop-less c = search needs
 
--- src/tree.rt:29:5
 loop-again : tie.Need-loop-again Inv-loop μ-loop
 loop-again c = let i = c .before .before .before .loop .inv in
     ⊎-elim
@@ -47,7 +38,6 @@ loop-again c = let i = c .before .before .before .loop .inv in
     (λ w. (omega arith, omega arith, w .1 ∙ i .2 ∙ sym (count-miss _ _ (sym (c .before .entry-targets .ensures) ∙ w .0 .left))))
     (c .if1 .came)
 
--- src/tree.rt:22:1
 returns : tie.Need-returns Inv-loop μ-loop
 unfolding entriesOf viewOf
 returns c = let e : c .before .loop .j ≡ c .before .before .before .args .h .entries = omega arith in

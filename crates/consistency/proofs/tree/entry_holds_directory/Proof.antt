@@ -1,50 +1,36 @@
-use mathlib.Core.Path.{sym, _∙_, ap}
-use borrow.Author.Tests.{eq-eqb, ne-eqb, lt-ltb, le-ltb, le-leb, lt-leb}
+-- `consistency::tree::entry_holds_directory` meets its contract. Assumes nothing.
+use mathlib.Core.Path.{sym, _∙_}
+use borrow.Author.Needs.{needs}
+use borrow.Author.Tests.{eq-eqb, ne-eqb}
+use Rattle.layout.specs.Fields.{entryNameLength, entryParent, entryTarget}
 use Rattle.layout.specs.Record.{field-of}
 use Rattle.layout.specs.View.{viewOf}
-use Rattle.layout.specs.Fields.{entryNameLength, entryParent, entryTarget}
-use borrow.Author.Needs.{needs}
 use Rattle.consistency.proofs.tree.entry_holds_directory.Statement.{statement}
 use Rattle.consistency.proofs.tree.entry_holds_directory.Tie as tie
-use Rattle.consistency.proofs.tree.entry_holds_directory.Reads as reads
-use Rattle.consistency.proofs.tree.entry_holds_directory.Lts as lts
-use Rattle.layout.proofs.entry.name_length.Reads as name-length-reads
-use Rattle.layout.proofs.entry.parent.Reads as parent-reads
-use Rattle.layout.proofs.entry.target.Reads as target-reads
-use Rattle.layout.proofs.lookup.is_directory.Reads as is-directory-reads
-use Rattle.layout.proofs.records.entry.Reads as entry-reads
 
--- src/tree.rt:43:9
 entry-requires : tie.Need-entry-requires
 entry-requires c κs = search needs
 
--- src/tree.rt:44:8
 name-length-requires : tie.Need-name-length-requires
 name-length-requires c κs = search needs
 
--- src/tree.rt:45:9
 returns : tie.Need-returns
 unfolding viewOf
 returns c = simp (eq-eqb _ _ (sym (field-of entryNameLength (c .before .before .entry .ensures) (c .before .name-length .ensures .0)) ∙ c .if1 .taken))
 
--- src/tree.rt:47:8
 parent-requires : tie.Need-parent-requires
 parent-requires c κs = search needs
 
--- src/tree.rt:48:9
 returns-2 : tie.Need-returns-2
 unfolding viewOf
 returns-2 c = simp (ne-eqb _ _ (λ e. c .before .before .if1 .left (field-of entryNameLength (c .before .before .before .before .entry .ensures) (c .before .before .before .name-length .ensures .0) ∙ e)), ne-eqb _ _ (λ e. c .if2 .taken (field-of entryParent (c .before .before .before .before .entry .ensures) (c .before .parent .ensures .0) ∙ e)))
 
--- src/tree.rt:50:40
 target-requires : tie.Need-target-requires
 target-requires c κs = search needs
 
--- src/tree.rt:50:5
 is-directory-requires : tie.Need-is-directory-requires
 is-directory-requires c κs = search needs
 
--- src/tree.rt:39:1
 returns-3 : tie.Need-returns-3
 unfolding viewOf
 returns-3 c = let t = field-of entryTarget (c .before .before .before .before .before .before .entry .ensures) (c .before .target .ensures .0) in

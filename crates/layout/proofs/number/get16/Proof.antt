@@ -1,41 +1,32 @@
+-- `layout::number::get16` meets its contract. Assumes nothing.
 use Prim.Native.Nat.{_+_}
 use native.Mathlib.Omega.{arith}
-use Rattle.seq.specs.Number.{numberAt}
 use borrow.Author.Needs.{needs}
+use Rattle.seq.specs.Number.{numberAt}
 use Rattle.layout.proofs.number.get16.Statement.{statement}
 use Rattle.layout.proofs.number.get16.Tie as tie
-use Rattle.layout.proofs.number.get16.Reads as reads
-use Rattle.layout.proofs.number.get16.Lts as lts
 
--- src/number.rt:19:6
 shared-slice-read-result : tie.Need-shared-slice-read-result
 shared-slice-read-result c = search needs
 
--- src/number.rt:19:6
 cast-result : tie.Need-cast-result
 cast-result c = omega (arith, c .shared-slice-known .given (c .before .args .at))
 
--- src/number.rt:19:33
 add-result : tie.Need-add-result
 add-result c = search needs
 
--- src/number.rt:19:31
 shared-slice-read-result-2 : tie.Need-shared-slice-read-result-2
 shared-slice-read-result-2 c = search needs
 
--- src/number.rt:19:31
 cast-result-2 : tie.Need-cast-result-2
 cast-result-2 c = omega (arith, c .shared-slice-known2 .given (c .before .before .args .at + 1))
 
--- src/number.rt:19:24
 mul-result : tie.Need-mul-result
 mul-result c = omega (arith, c .shared-slice-known2 .given (c .before .before .args .at + 1))
 
--- src/number.rt:19:5
 add-result-2 : tie.Need-add-result-2
 add-result-2 c = omega (arith, c .shared-slice-known2 .given (c .before .before .args .at), c .shared-slice-known2 .given (c .before .before .args .at + 1))
 
--- src/number.rt:15:1
 returns : tie.Need-returns
 unfolding numberAt
 returns c = omega (arith, c .shared-slice-known2 .given (c .before .before .args .at), c .shared-slice-known2 .given (c .before .before .args .at + 1))

@@ -1,47 +1,37 @@
+-- `layout::records::entry` meets its contract. Assumes nothing.
 use mathlib.Core.Path.{refl}
-use lib.Dec.{lit<}
 use native.Mathlib.Omega.{arith}
+use lib.Dec.{lit<}
+use borrow.Author.Needs.{needs}
 use Rattle.layout.specs.Place.{inside}
 use Rattle.layout.specs.Record.{reads-record}
-use borrow.Author.Needs.{needs}
 use Rattle.layout.proofs.records.entry.Statement.{statement}
 use Rattle.layout.proofs.records.entry.Tie as tie
-use Rattle.layout.proofs.records.entry.Reads as reads
-use Rattle.layout.proofs.records.entry.Lts as lts
 
--- src/records.rt:21:19
 mul-at : tie.Need-mul-at
 mul-at c = search needs
 
--- src/records.rt:21:14
 add-at : tie.Need-add-at
 add-at c = search needs
 
--- src/records.rt:21:35
 mul-at-2 : tie.Need-mul-at-2
 mul-at-2 c = omega (arith, inside (c .before .args .h) 1 (c .before .args .j) (lit< tt) (c .before .pre .1), c .before .pre .0 .long)
 
--- src/records.rt:21:14
 add-at-2 : tie.Need-add-at-2
 add-at-2 c = omega (arith, inside (c .before .args .h) 1 (c .before .args .j) (lit< tt) (c .before .pre .1), c .before .pre .0 .long)
 
--- src/records.rt:22:12
 add-result : tie.Need-add-result
 add-result c = omega (arith, inside (c .before .args .h) 1 (c .before .args .j) (lit< tt) (c .before .pre .1), c .before .pre .0 .long)
 
--- src/records.rt:22:5
 sub-result : tie.Need-sub-result
 sub-result c = search needs
 
--- src/records.rt:22:5
 part-result-start : tie.Need-part-result-start
 part-result-start c = search needs
 
--- src/records.rt:22:5
 part-result-end : tie.Need-part-result-end
 part-result-end c = omega (arith, inside (c .before .args .h) 1 (c .before .args .j) (lit< tt) (c .before .pre .1), c .before .pre .0 .long)
 
--- src/records.rt:16:1
 returns : tie.Need-returns
 returns c = reads-record (c .before .before .args .h) (c .before .before .args .s .now) 1 (c .before .before .args .j) _ (c .before .before .pre .0 .long) (lit< tt) (c .before .before .pre .1) refl
 

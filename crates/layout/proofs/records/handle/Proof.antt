@@ -1,61 +1,47 @@
+-- `layout::records::handle` meets its contract. Assumes nothing.
 use mathlib.Core.Path.{refl}
 use lib.Dec.{lit<}
-use Rattle.layout.specs.Record.{reads-record}
 use borrow.Author.Needs.{needs}
+use Rattle.layout.specs.Record.{reads-record}
 use Rattle.layout.proofs.records.handle.Statement.{statement}
 use Rattle.layout.proofs.records.handle.Tie as tie
-use Rattle.layout.proofs.records.handle.Reads as reads
-use Rattle.layout.proofs.records.handle.Lts as lts
 
--- src/records.rt:37:19
 mul-at : tie.Need-mul-at
 mul-at c = search needs
 
--- src/records.rt:37:14
 add-at : tie.Need-add-at
 add-at c = search needs
 
--- src/records.rt:37:35
 mul-at-2 : tie.Need-mul-at-2
 mul-at-2 c = search needs
 
--- src/records.rt:37:14
 add-at-2 : tie.Need-add-at-2
 add-at-2 c = search needs
 
--- src/records.rt:37:57
 mul-at-3 : tie.Need-mul-at-3
 mul-at-3 c = search needs
 
--- src/records.rt:37:14
 add-at-3 : tie.Need-add-at-3
 add-at-3 c = search needs
 
--- src/records.rt:37:72
 mul-at-4 : tie.Need-mul-at-4
 mul-at-4 c = search needs
 
--- src/records.rt:37:14
 add-at-4 : tie.Need-add-at-4
 add-at-4 c = search needs
 
--- src/records.rt:38:12
 add-result : tie.Need-add-result
 add-result c = search needs
 
--- src/records.rt:38:5
 sub-result : tie.Need-sub-result
 sub-result c = search needs
 
--- src/records.rt:38:5
 part-result-start : tie.Need-part-result-start
 part-result-start c = search needs
 
--- src/records.rt:38:5
 part-result-end : tie.Need-part-result-end
 part-result-end c = search needs
 
--- src/records.rt:33:1
 returns : tie.Need-returns
 returns c = reads-record (c .before .before .before .before .args .h) (c .before .before .before .before .args .s .now) 3 (c .before .before .before .before .args .n) _ (c .before .before .before .before .pre .0 .long) (lit< tt) (c .before .before .before .before .pre .1) refl
 
