@@ -19,21 +19,36 @@ all-good-requires c κs = search needs
 
 returns-2 : tie.Need-returns-2
 unfolding bodiesGood
-returns-2 c = simp (holds (c .before .before .before .is-directory .ensures) (c .before .before .if1 .left), fails (c .before .all-good .ensures) (c .if2 .taken))
+returns-2 c =
+    simp (
+      holds (c .before .before .before .is-directory .ensures) (c .before .before .if1 .left),
+      fails (c .before .all-good .ensures) (c .if2 .taken),
+    )
 
 all-good-requires-2 : tie.Need-all-good-requires-2
 all-good-requires-2 c κs = search needs
 
 returns-3 : tie.Need-returns-3
 unfolding bodiesGood
-returns-3 c = simp (holds (c .before .before .before .before .before .is-directory .ensures) (c .before .before .before .before .if1 .left), holds (c .before .before .before .all-good .ensures) (c .before .before .if2 .left), fails (c .before .all-good2 .ensures) (c .if3 .taken))
+returns-3 c =
+    simp (
+      holds (c .before .before .before .before .before .is-directory .ensures) (c .before .before .before .before .if1 .left),
+      holds (c .before .before .before .all-good .ensures) (c .before .before .if2 .left),
+      fails (c .before .all-good2 .ensures) (c .if3 .taken),
+    )
 
 has-duplicate-requires : tie.Need-has-duplicate-requires
 has-duplicate-requires c κs = (search needs, entries-named (c .before .before .before .before .before .before .before .args .h) (c .before .before .before .before .before .before .before .args .s .now) (c .before .before .before .before .before .before .before .pre) (holds (c .before .all-good2 .ensures) (c .if3 .left)))
 
 returns-4 : tie.Need-returns-4
 unfolding bodiesGood
-returns-4 c = simp (holds (c .before .before .before .before .before .before .before .is-directory .ensures) (c .before .before .before .before .before .before .if1 .left), holds (c .before .before .before .before .before .all-good .ensures) (c .before .before .before .before .if2 .left), holds (c .before .before .before .all-good2 .ensures) (c .before .before .if3 .left), sym (c .before .has-duplicate .ensures) ∙ c .if4 .taken)
+returns-4 c =
+    simp (
+      holds (c .before .before .before .before .before .before .before .is-directory .ensures) (c .before .before .before .before .before .before .if1 .left),
+      holds (c .before .before .before .before .before .all-good .ensures) (c .before .before .before .before .if2 .left),
+      holds (c .before .before .before .all-good2 .ensures) (c .before .before .if3 .left),
+      sym (c .before .has-duplicate .ensures) ∙ c .if4 .taken,
+    )
 
 all-good-requires-3 : tie.Need-all-good-requires-3
 all-good-requires-3 c κs = search needs

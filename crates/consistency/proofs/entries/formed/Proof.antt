@@ -31,7 +31,10 @@ all-zero-requires c κs = search needs
 returns-2 : tie.Need-returns-2
 unfolding entryFormed viewOf
 returns-2 c = let n = field-of entryNameLength (c .before .before .before .before .before .entry .ensures) (c .before .before .before .name-length .ensures .0) in
-    simp (le-leb _ _ (rw n at (c .before .before .if1 .left)), ap (λ x. zeros x 5 3) (sym (c .before .before .before .before .before .entry .ensures .is)) ∙ fails (c .before .all-zero .ensures) (c .if2 .taken))
+    simp (
+      le-leb _ _ (rw n at (c .before .before .if1 .left)),
+      ap (λ x. zeros x 5 3) (sym (c .before .before .before .before .before .entry .ensures .is)) ∙ fails (c .before .all-zero .ensures) (c .if2 .taken),
+    )
 
 add-all-zero : tie.Need-add-all-zero
 add-all-zero c = search needs
@@ -46,7 +49,12 @@ returns-3 c = let n = field-of entryNameLength (c .before .before .before .befor
     ≡ zeros (entryAt (c .before .before .before .before .before .before .before .before .args .h) (c .before .before .before .before .before .before .before .before .args .s .now) (c .before .before .before .before .before .before .before .before .args .j)) (8 + entryNameLength (entryAt (c .before .before .before .before .before .before .before .before .args .h) (c .before .before .before .before .before .before .before .before .args .s .now) (c .before .before .before .before .before .before .before .before .args .j)))
     (c .before .before .before .before .before .before .before .before .args .h .width - 8 - entryNameLength (entryAt (c .before .before .before .before .before .before .before .before .args .h) (c .before .before .before .before .before .before .before .before .args .s .now) (c .before .before .before .before .before .before .before .before .args .j))) =
     rw (c .before .before .before .before .before .before .entry .ensures .is, n) in
-    simp (le-leb _ _ (rw n at (c .before .before .before .if1 .left)), ap (λ x. zeros x 5 3) (sym (c .before .before .before .before .before .before .entry .ensures .is)) ∙ holds (c .before .before .all-zero .ensures) (c .before .if2 .left), c .all-zero2 .ensures, e)
+    simp (
+      le-leb _ _ (rw n at (c .before .before .before .if1 .left)),
+      ap (λ x. zeros x 5 3) (sym (c .before .before .before .before .before .before .entry .ensures .is)) ∙ holds (c .before .before .all-zero .ensures) (c .before .if2 .left),
+      c .all-zero2 .ensures,
+      e,
+    )
 
 pub formed-spec : {M : Type 1} → statement M
 formed-spec =

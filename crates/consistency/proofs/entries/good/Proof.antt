@@ -32,7 +32,11 @@ formed-requires c κs = search needs
 
 returns-2 : tie.Need-returns-2
 unfolding entryGood viewOf
-returns-2 c = simp (ne-eqb _ _ (λ e. c .before .before .if1 .left (field-of entryNameLength (c .before .before .before .before .entry .ensures) (c .before .before .before .name-length .ensures .0) ∙ e)), fails (c .before .formed .ensures) (c .if2 .taken))
+returns-2 c =
+    simp (
+      ne-eqb _ _ (λ e. c .before .before .if1 .left (field-of entryNameLength (c .before .before .before .before .entry .ensures) (c .before .before .before .name-length .ensures .0) ∙ e)),
+      fails (c .before .formed .ensures) (c .if2 .taken),
+    )
 
 name-requires : tie.Need-name-requires
 unfolding viewOf
@@ -45,14 +49,25 @@ good-requires c κs = search needs
 
 returns-3 : tie.Need-returns-3
 unfolding entryGood viewOf
-returns-3 c = simp (ne-eqb _ _ (λ e. c .before .before .before .before .before .if1 .left (field-of entryNameLength (c .before .before .before .before .before .before .before .entry .ensures) (c .before .before .before .before .before .before .name-length .ensures .0) ∙ e)), holds (c .before .before .before .before .formed .ensures) (c .before .before .before .if2 .left), ap nameGood (sym (c .before .before .name .ensures ∙ ap entryName (c .before .before .before .before .before .before .before .entry .ensures .is))) ∙ fails (c .before .good2 .ensures) (c .if3 .taken))
+returns-3 c =
+    simp (
+      ne-eqb _ _ (λ e. c .before .before .before .before .before .if1 .left (field-of entryNameLength (c .before .before .before .before .before .before .before .entry .ensures) (c .before .before .before .before .before .before .name-length .ensures .0) ∙ e)),
+      holds (c .before .before .before .before .formed .ensures) (c .before .before .before .if2 .left),
+      ap nameGood (sym (c .before .before .name .ensures ∙ ap entryName (c .before .before .before .before .before .before .before .entry .ensures .is))) ∙ fails (c .before .good2 .ensures) (c .if3 .taken),
+    )
 
 linked-requires : tie.Need-linked-requires
 linked-requires c κs = search needs
 
 returns-4 : tie.Need-returns-4
 unfolding entryGood viewOf
-returns-4 c = simp (ne-eqb _ _ (λ e. c .before .before .before .before .before .before .if1 .left (field-of entryNameLength (c .before .before .before .before .before .before .before .before .entry .ensures) (c .before .before .before .before .before .before .before .name-length .ensures .0) ∙ e)), holds (c .before .before .before .before .before .formed .ensures) (c .before .before .before .before .if2 .left), ap nameGood (sym (c .before .before .before .name .ensures ∙ ap entryName (c .before .before .before .before .before .before .before .before .entry .ensures .is))) ∙ holds (c .before .before .good2 .ensures) (c .before .if3 .left), c .linked .ensures)
+returns-4 c =
+    simp (
+      ne-eqb _ _ (λ e. c .before .before .before .before .before .before .if1 .left (field-of entryNameLength (c .before .before .before .before .before .before .before .before .entry .ensures) (c .before .before .before .before .before .before .before .name-length .ensures .0) ∙ e)),
+      holds (c .before .before .before .before .before .formed .ensures) (c .before .before .before .before .if2 .left),
+      ap nameGood (sym (c .before .before .before .name .ensures ∙ ap entryName (c .before .before .before .before .before .before .before .before .entry .ensures .is))) ∙ holds (c .before .before .good2 .ensures) (c .before .if3 .left),
+      c .linked .ensures,
+    )
 
 pub good-spec : {M : Type 1} → statement M
 good-spec =

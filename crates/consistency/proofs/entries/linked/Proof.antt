@@ -31,11 +31,20 @@ is-used-requires c κs = search needs
 
 returns-2 : tie.Need-returns-2
 unfolding entryLinked viewOf
-returns-2 c = simp (ap (λ x. isDirectory (viewOf (c .before .before .before .before .before .before .before .before .args .h) (c .before .before .before .before .before .before .before .before .args .s .now)) x) (sym (field-of entryParent (c .before .before .before .before .before .before .entry .ensures) (c .before .before .before .before .before .parent .ensures .0))) ∙ holds (c .before .before .before .before .is-directory .ensures) (c .before .before .before .if1 .left), ap (λ x. isUsed (viewOf (c .before .before .before .before .before .before .before .before .args .h) (c .before .before .before .before .before .before .before .before .args .s .now)) x) (sym (field-of entryTarget (c .before .before .before .before .before .before .entry .ensures) (c .before .before .target .ensures .0))) ∙ fails (c .before .is-used .ensures) (c .if2 .taken))
+returns-2 c =
+    simp (
+      ap (λ x. isDirectory (viewOf (c .before .before .before .before .before .before .before .before .args .h) (c .before .before .before .before .before .before .before .before .args .s .now)) x) (sym (field-of entryParent (c .before .before .before .before .before .before .entry .ensures) (c .before .before .before .before .before .parent .ensures .0))) ∙ holds (c .before .before .before .before .is-directory .ensures) (c .before .before .before .if1 .left),
+      ap (λ x. isUsed (viewOf (c .before .before .before .before .before .before .before .before .args .h) (c .before .before .before .before .before .before .before .before .args .s .now)) x) (sym (field-of entryTarget (c .before .before .before .before .before .before .entry .ensures) (c .before .before .target .ensures .0))) ∙ fails (c .before .is-used .ensures) (c .if2 .taken),
+    )
 
 returns-3 : tie.Need-returns-3
 unfolding entryLinked viewOf
-returns-3 c = simp (ap (λ x. isDirectory (viewOf (c .before .before .before .before .before .before .before .before .before .args .h) (c .before .before .before .before .before .before .before .before .before .args .s .now)) x) (sym (field-of entryParent (c .before .before .before .before .before .before .before .entry .ensures) (c .before .before .before .before .before .before .parent .ensures .0))) ∙ holds (c .before .before .before .before .before .is-directory .ensures) (c .before .before .before .before .if1 .left), ap (λ x. isUsed (viewOf (c .before .before .before .before .before .before .before .before .before .args .h) (c .before .before .before .before .before .before .before .before .before .args .s .now)) x) (sym (field-of entryTarget (c .before .before .before .before .before .before .before .entry .ensures) (c .before .before .before .target .ensures .0))) ∙ holds (c .before .before .is-used .ensures) (c .before .if2 .left), eq-eqb _ _ (sym (field-of entryTarget (c .before .before .before .before .before .before .before .entry .ensures) (c .before .before .before .target .ensures .0)) ∙ c .if3 .taken))
+returns-3 c =
+    simp (
+      ap (λ x. isDirectory (viewOf (c .before .before .before .before .before .before .before .before .before .args .h) (c .before .before .before .before .before .before .before .before .before .args .s .now)) x) (sym (field-of entryParent (c .before .before .before .before .before .before .before .entry .ensures) (c .before .before .before .before .before .before .parent .ensures .0))) ∙ holds (c .before .before .before .before .before .is-directory .ensures) (c .before .before .before .before .if1 .left),
+      ap (λ x. isUsed (viewOf (c .before .before .before .before .before .before .before .before .before .args .h) (c .before .before .before .before .before .before .before .before .before .args .s .now)) x) (sym (field-of entryTarget (c .before .before .before .before .before .before .before .entry .ensures) (c .before .before .before .target .ensures .0))) ∙ holds (c .before .before .is-used .ensures) (c .before .if2 .left),
+      eq-eqb _ _ (sym (field-of entryTarget (c .before .before .before .before .before .before .before .entry .ensures) (c .before .before .before .target .ensures .0)) ∙ c .if3 .taken),
+    )
 
 held-rightly-requires : tie.Need-held-rightly-requires
 held-rightly-requires c κs = let v = viewOf (c .before .before .before .before .before .before .before .before .before .args .h) (c .before .before .before .before .before .before .before .before .before .args .s .now) in
@@ -45,7 +54,14 @@ returns-4 : tie.Need-returns-4
 unfolding entryLinked viewOf
 returns-4 c = let p = field-of entryParent (c .before .before .before .before .before .before .before .before .entry .ensures) (c .before .before .before .before .before .before .before .parent .ensures .0) in
     let t = field-of entryTarget (c .before .before .before .before .before .before .before .before .entry .ensures) (c .before .before .before .before .target .ensures .0) in
-    simp (ap (λ x. isDirectory (viewOf (c .before .before .before .before .before .before .before .before .before .before .args .h) (c .before .before .before .before .before .before .before .before .before .before .args .s .now)) x) (sym (field-of entryParent (c .before .before .before .before .before .before .before .before .entry .ensures) (c .before .before .before .before .before .before .before .parent .ensures .0))) ∙ holds (c .before .before .before .before .before .before .is-directory .ensures) (c .before .before .before .before .before .if1 .left), ap (λ x. isUsed (viewOf (c .before .before .before .before .before .before .before .before .before .before .args .h) (c .before .before .before .before .before .before .before .before .before .before .args .s .now)) x) (sym (field-of entryTarget (c .before .before .before .before .before .before .before .before .entry .ensures) (c .before .before .before .before .target .ensures .0))) ∙ holds (c .before .before .before .is-used .ensures) (c .before .before .if2 .left), ne-eqb _ _ (λ e. c .before .if3 .left (t ∙ e)), c .held-rightly .ensures, p, t)
+    simp (
+      ap (λ x. isDirectory (viewOf (c .before .before .before .before .before .before .before .before .before .before .args .h) (c .before .before .before .before .before .before .before .before .before .before .args .s .now)) x) (sym (field-of entryParent (c .before .before .before .before .before .before .before .before .entry .ensures) (c .before .before .before .before .before .before .before .parent .ensures .0))) ∙ holds (c .before .before .before .before .before .before .is-directory .ensures) (c .before .before .before .before .before .if1 .left),
+      ap (λ x. isUsed (viewOf (c .before .before .before .before .before .before .before .before .before .before .args .h) (c .before .before .before .before .before .before .before .before .before .before .args .s .now)) x) (sym (field-of entryTarget (c .before .before .before .before .before .before .before .before .entry .ensures) (c .before .before .before .before .target .ensures .0))) ∙ holds (c .before .before .before .is-used .ensures) (c .before .before .if2 .left),
+      ne-eqb _ _ (λ e. c .before .if3 .left (t ∙ e)),
+      c .held-rightly .ensures,
+      p,
+      t,
+    )
 
 pub linked-spec : {M : Type 1} → statement M
 linked-spec =

@@ -25,7 +25,11 @@ all-zero-requires-2 c κs = search needs
 
 returns-2 : tie.Need-returns-2
 unfolding openGood viewOf
-returns-2 c = simp (ap (λ x. zeros x 1 1) (sym (c .before .before .before .before .handle .ensures .is)) ∙ holds (c .before .before .before .all-zero .ensures) (c .before .before .if1 .left), ap (λ x. zeros x 4 4) (sym (c .before .before .before .before .handle .ensures .is)) ∙ fails (c .before .all-zero2 .ensures) (c .if2 .taken))
+returns-2 c =
+    simp (
+      ap (λ x. zeros x 1 1) (sym (c .before .before .before .before .handle .ensures .is)) ∙ holds (c .before .before .before .all-zero .ensures) (c .before .before .if1 .left),
+      ap (λ x. zeros x 4 4) (sym (c .before .before .before .before .handle .ensures .is)) ∙ fails (c .before .all-zero2 .ensures) (c .if2 .taken),
+    )
 
 inode-requires : tie.Need-inode-requires
 inode-requires c κs = search needs

@@ -25,7 +25,11 @@ links-requires c κs = search needs
 
 returns-2 : tie.Need-returns-2
 unfolding directoryGood viewOf
-returns-2 c = simp (lt-ltb _ _ (rw (field-of inodeMode (c .before .before .before .before .inode .ensures) (c .before .before .before .mode .ensures .0)) at (c .before .before .if1 .left)), lt-leb _ _ (rw (field-of inodeLinks (c .before .before .before .before .inode .ensures) (c .before .links .ensures .0)) at (c .if2 .taken)))
+returns-2 c =
+    simp (
+      lt-ltb _ _ (rw (field-of inodeMode (c .before .before .before .before .inode .ensures) (c .before .before .before .mode .ensures .0)) at (c .before .before .if1 .left)),
+      lt-leb _ _ (rw (field-of inodeLinks (c .before .before .before .before .inode .ensures) (c .before .links .ensures .0)) at (c .if2 .taken)),
+    )
 
 child-directories-requires : tie.Need-child-directories-requires
 child-directories-requires c κs = search needs
@@ -37,7 +41,11 @@ returns-3 : tie.Need-returns-3
 unfolding directoryGood viewOf
 returns-3 c = let l = field-of inodeLinks (c .before .before .before .before .before .before .inode .ensures) (c .before .before .before .links .ensures .0) in
     let k = c .before .child-directories .ensures .0 in
-    simp (lt-ltb _ _ (rw (field-of inodeMode (c .before .before .before .before .before .before .inode .ensures) (c .before .before .before .before .before .mode .ensures .0)) at (c .before .before .before .before .if1 .left)), le-leb _ _ (rw (field-of inodeLinks (c .before .before .before .before .before .before .inode .ensures) (c .before .before .before .links .ensures .0)) at (c .before .before .if2 .left)), ne-eqb _ _ (λ e. c .if3 .taken (l ∙ e ∙ ap (λ m. 2 + m) (sym k))))
+    simp (
+      lt-ltb _ _ (rw (field-of inodeMode (c .before .before .before .before .before .before .inode .ensures) (c .before .before .before .before .before .mode .ensures .0)) at (c .before .before .before .before .if1 .left)),
+      le-leb _ _ (rw (field-of inodeLinks (c .before .before .before .before .before .before .inode .ensures) (c .before .before .before .links .ensures .0)) at (c .before .before .if2 .left)),
+      ne-eqb _ _ (λ e. c .if3 .taken (l ∙ e ∙ ap (λ m. 2 + m) (sym k))),
+    )
 
 directory-placed-requires : tie.Need-directory-placed-requires
 directory-placed-requires c κs = search needs
@@ -46,7 +54,12 @@ returns-4 : tie.Need-returns-4
 unfolding directoryGood viewOf
 returns-4 c = let l = field-of inodeLinks (c .before .before .before .before .before .before .before .inode .ensures) (c .before .before .before .before .links .ensures .0) in
     let k = c .before .before .child-directories .ensures .0 in
-    simp (lt-ltb _ _ (rw (field-of inodeMode (c .before .before .before .before .before .before .before .inode .ensures) (c .before .before .before .before .before .before .mode .ensures .0)) at (c .before .before .before .before .before .if1 .left)), le-leb _ _ (rw (field-of inodeLinks (c .before .before .before .before .before .before .before .inode .ensures) (c .before .before .before .before .links .ensures .0)) at (c .before .before .before .if2 .left)), eq-eqb _ _ (sym l ∙ c .before .if3 .left ∙ ap (λ m. 2 + m) k), c .directory-placed .ensures)
+    simp (
+      lt-ltb _ _ (rw (field-of inodeMode (c .before .before .before .before .before .before .before .inode .ensures) (c .before .before .before .before .before .before .mode .ensures .0)) at (c .before .before .before .before .before .if1 .left)),
+      le-leb _ _ (rw (field-of inodeLinks (c .before .before .before .before .before .before .before .inode .ensures) (c .before .before .before .before .links .ensures .0)) at (c .before .before .before .if2 .left)),
+      eq-eqb _ _ (sym l ∙ c .before .if3 .left ∙ ap (λ m. 2 + m) k),
+      c .directory-placed .ensures,
+    )
 
 pub directory-good-spec : {M : Type 1} → statement M
 directory-good-spec =

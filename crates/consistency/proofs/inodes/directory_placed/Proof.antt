@@ -30,7 +30,12 @@ leads-to-root-requires c κs = search needs
 
 returns-3 : tie.Need-returns-3
 unfolding viewOf
-returns-3 c = simp (ne-eqb _ _ (c .before .before .before .if1 .left), eq-eqb _ _ (sym (c .before .before .entries-of .ensures) ∙ c .before .if2 .left), c .leads-to-root .ensures)
+returns-3 c =
+    simp (
+      ne-eqb _ _ (c .before .before .before .if1 .left),
+      eq-eqb _ _ (sym (c .before .before .entries-of .ensures) ∙ c .before .if2 .left),
+      c .leads-to-root .ensures,
+    )
 
 pub directory-placed-spec : {M : Type 1} → statement M
 directory-placed-spec =

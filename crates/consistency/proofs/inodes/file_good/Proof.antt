@@ -23,7 +23,11 @@ field-requires c κs = search needs
 
 returns-2 : tie.Need-returns-2
 unfolding fileGood viewOf
-returns-2 c = simp (holds (c .before .before .before .leaf-good .ensures) (c .before .before .if1 .left), field-of inodeField (c .before .inode .ensures) (c .field .ensures .0))
+returns-2 c =
+    simp (
+      holds (c .before .before .before .leaf-good .ensures) (c .before .before .if1 .left),
+      field-of inodeField (c .before .inode .ensures) (c .field .ensures .0),
+    )
 
 pub file-good-spec : {M : Type 1} → statement M
 file-good-spec =

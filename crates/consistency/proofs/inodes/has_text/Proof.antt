@@ -22,7 +22,11 @@ field-requires c κs = search needs
 
 returns-2 : tie.Need-returns-2
 unfolding viewOf
-returns-2 c = simp (holds (c .before .before .before .is-symlink .ensures) (c .before .before .if1 .left), field-of inodeField (c .before .inode .ensures) (c .field .ensures .0))
+returns-2 c =
+    simp (
+      holds (c .before .before .before .is-symlink .ensures) (c .before .before .if1 .left),
+      field-of inodeField (c .before .inode .ensures) (c .field .ensures .0),
+    )
 
 pub has-text-spec : {M : Type 1} → statement M
 has-text-spec =

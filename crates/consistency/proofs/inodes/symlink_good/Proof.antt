@@ -25,21 +25,36 @@ field-requires c κs = search needs
 
 returns-2 : tie.Need-returns-2
 unfolding symlinkGood viewOf
-returns-2 c = simp (holds (c .before .before .before .before .before .leaf-good .ensures) (c .before .before .before .before .if1 .left), le-ltb _ _ (rw (field-of inodeField (c .before .before .before .inode .ensures) (c .before .before .field .ensures .0)) at (c .if2 .taken)))
+returns-2 c =
+    simp (
+      holds (c .before .before .before .before .before .leaf-good .ensures) (c .before .before .before .before .if1 .left),
+      le-ltb _ _ (rw (field-of inodeField (c .before .before .before .inode .ensures) (c .before .before .field .ensures .0)) at (c .if2 .taken)),
+    )
 
 text-used-requires : tie.Need-text-used-requires
 text-used-requires c κs = search needs
 
 returns-3 : tie.Need-returns-3
 unfolding symlinkGood viewOf
-returns-3 c = simp (holds (c .before .before .before .before .before .before .before .leaf-good .ensures) (c .before .before .before .before .before .before .if1 .left), lt-ltb _ _ (rw (field-of inodeField (c .before .before .before .before .before .inode .ensures) (c .before .before .before .before .field .ensures .0)) at (c .before .before .if2 .left)), ap (λ x. textUsed (viewOf (c .before .before .before .before .before .before .before .before .before .args .h) (c .before .before .before .before .before .before .before .before .before .args .s .now)) x) (sym (field-of inodeField (c .before .before .before .before .before .inode .ensures) (c .before .before .before .before .field .ensures .0))) ∙ fails (c .before .text-used .ensures) (c .if3 .taken))
+returns-3 c =
+    simp (
+      holds (c .before .before .before .before .before .before .before .leaf-good .ensures) (c .before .before .before .before .before .before .if1 .left),
+      lt-ltb _ _ (rw (field-of inodeField (c .before .before .before .before .before .inode .ensures) (c .before .before .before .before .field .ensures .0)) at (c .before .before .if2 .left)),
+      ap (λ x. textUsed (viewOf (c .before .before .before .before .before .before .before .before .before .args .h) (c .before .before .before .before .before .before .before .before .before .args .s .now)) x) (sym (field-of inodeField (c .before .before .before .before .before .inode .ensures) (c .before .before .before .before .field .ensures .0))) ∙ fails (c .before .text-used .ensures) (c .if3 .taken),
+    )
 
 text-shared-requires : tie.Need-text-shared-requires
 text-shared-requires c κs = search needs
 
 returns-4 : tie.Need-returns-4
 unfolding symlinkGood viewOf
-returns-4 c = simp (holds (c .before .before .before .before .before .before .before .before .leaf-good .ensures) (c .before .before .before .before .before .before .before .if1 .left), lt-ltb _ _ (rw (field-of inodeField (c .before .before .before .before .before .before .inode .ensures) (c .before .before .before .before .before .field .ensures .0)) at (c .before .before .before .if2 .left)), ap (λ x. textUsed (viewOf (c .before .before .before .before .before .before .before .before .before .before .args .h) (c .before .before .before .before .before .before .before .before .before .before .args .s .now)) x) (sym (field-of inodeField (c .before .before .before .before .before .before .inode .ensures) (c .before .before .before .before .before .field .ensures .0))) ∙ holds (c .before .before .text-used .ensures) (c .before .if3 .left), c .text-shared .ensures)
+returns-4 c =
+    simp (
+      holds (c .before .before .before .before .before .before .before .before .leaf-good .ensures) (c .before .before .before .before .before .before .before .if1 .left),
+      lt-ltb _ _ (rw (field-of inodeField (c .before .before .before .before .before .before .inode .ensures) (c .before .before .before .before .before .field .ensures .0)) at (c .before .before .before .if2 .left)),
+      ap (λ x. textUsed (viewOf (c .before .before .before .before .before .before .before .before .before .before .args .h) (c .before .before .before .before .before .before .before .before .before .before .args .s .now)) x) (sym (field-of inodeField (c .before .before .before .before .before .before .inode .ensures) (c .before .before .before .before .before .field .ensures .0))) ∙ holds (c .before .before .text-used .ensures) (c .before .if3 .left),
+      c .text-shared .ensures,
+    )
 
 pub symlink-good-spec : {M : Type 1} → statement M
 symlink-good-spec =

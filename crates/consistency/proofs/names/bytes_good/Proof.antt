@@ -32,7 +32,11 @@ shared-slice-read-if2 c = search needs
 
 returns-2 : tie.Need-returns-2 Inv-loop μ-loop
 unfolding nameBytes
-returns-2 c = sym (all-not _ _ _ (c .before .before .before .before .loop-test .taken) (simp (ne-eqb _ _ (c .before .before .if1 .left), eq-eqb _ _ (c .if2 .taken))))
+returns-2 c = sym (all-not _ _ _ (c .before .before .before .before .loop-test .taken) (
+    simp (
+      ne-eqb _ _ (c .before .before .if1 .left),
+      eq-eqb _ _ (c .if2 .taken),
+    )))
 
 add-k : tie.Need-add-k Inv-loop μ-loop
 add-k c = search needs
@@ -41,7 +45,14 @@ loop-less : tie.Need-loop-less Inv-loop μ-loop
 loop-less c = search needs
 
 loop-again : tie.Need-loop-again Inv-loop μ-loop
-loop-again c = (search needs, all-more _ _ (c .before .before .before .before .before .loop .inv .1) (simp (ne-eqb _ _ (c .before .before .if1 .left), ne-eqb _ _ (c .if2 .left))))
+loop-again c = (
+  search needs,
+  all-more _ _ (c .before .before .before .before .before .loop .inv .1) (
+      simp (
+        ne-eqb _ _ (c .before .before .if1 .left),
+        ne-eqb _ _ (c .if2 .left),
+      )),
+)
 
 returns-3 : tie.Need-returns-3 Inv-loop μ-loop
 unfolding nameBytes

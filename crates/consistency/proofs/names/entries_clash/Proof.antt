@@ -28,7 +28,11 @@ name-length-requires-2 c κs = search needs
 
 returns-2 : tie.Need-returns-2
 unfolding clash viewOf
-returns-2 c = simp (ne-eqb _ _ (λ e. c .before .before .before .if1 .left (field-of entryNameLength (c .before .before .before .before .before .entry .ensures) (c .before .before .before .before .name-length .ensures .0) ∙ e)), eq-eqb _ _ (sym (field-of entryNameLength (c .before .before .entry2 .ensures) (c .before .name-length2 .ensures .0)) ∙ c .if2 .taken))
+returns-2 c =
+    simp (
+      ne-eqb _ _ (λ e. c .before .before .before .if1 .left (field-of entryNameLength (c .before .before .before .before .before .entry .ensures) (c .before .before .before .before .name-length .ensures .0) ∙ e)),
+      eq-eqb _ _ (sym (field-of entryNameLength (c .before .before .entry2 .ensures) (c .before .name-length2 .ensures .0)) ∙ c .if2 .taken),
+    )
 
 parent-requires : tie.Need-parent-requires
 parent-requires c κs = search needs
@@ -38,7 +42,12 @@ parent-requires-2 c κs = search needs
 
 returns-3 : tie.Need-returns-3
 unfolding clash viewOf
-returns-3 c = simp (ne-eqb _ _ (λ e. c .before .before .before .before .before .before .if1 .left (field-of entryNameLength (c .before .before .before .before .before .before .before .before .entry .ensures) (c .before .before .before .before .before .before .before .name-length .ensures .0) ∙ e)), ne-eqb _ _ (λ e. c .before .before .before .if2 .left (field-of entryNameLength (c .before .before .before .before .before .entry2 .ensures) (c .before .before .before .before .name-length2 .ensures .0) ∙ e)), ne-eqb _ _ (λ e. c .if3 .taken (field-of entryParent (c .before .before .before .before .before .before .before .before .entry .ensures) (c .before .before .parent .ensures .0) ∙ e ∙ sym (field-of entryParent (c .before .before .before .before .before .entry2 .ensures) (c .before .parent2 .ensures .0)))))
+returns-3 c =
+    simp (
+      ne-eqb _ _ (λ e. c .before .before .before .before .before .before .if1 .left (field-of entryNameLength (c .before .before .before .before .before .before .before .before .entry .ensures) (c .before .before .before .before .before .before .before .name-length .ensures .0) ∙ e)),
+      ne-eqb _ _ (λ e. c .before .before .before .if2 .left (field-of entryNameLength (c .before .before .before .before .before .entry2 .ensures) (c .before .before .before .before .name-length2 .ensures .0) ∙ e)),
+      ne-eqb _ _ (λ e. c .if3 .taken (field-of entryParent (c .before .before .before .before .before .before .before .before .entry .ensures) (c .before .before .parent .ensures .0) ∙ e ∙ sym (field-of entryParent (c .before .before .before .before .before .entry2 .ensures) (c .before .parent2 .ensures .0)))),
+    )
 
 name-requires : tie.Need-name-requires
 unfolding viewOf
@@ -57,7 +66,14 @@ returns-4 : tie.Need-returns-4
 unfolding clash viewOf
 returns-4 c = let a = c .before .before .name .ensures ∙ ap entryName (c .before .before .before .before .before .before .before .before .before .before .before .entry .ensures .is) in
     let b = c .before .name2 .ensures ∙ ap entryName (c .before .before .before .before .before .before .before .before .entry2 .ensures .is) in
-    simp (ne-eqb _ _ (λ e. c .before .before .before .before .before .before .before .before .before .if1 .left (field-of entryNameLength (c .before .before .before .before .before .before .before .before .before .before .before .entry .ensures) (c .before .before .before .before .before .before .before .before .before .before .name-length .ensures .0) ∙ e)), ne-eqb _ _ (λ e. c .before .before .before .before .before .before .if2 .left (field-of entryNameLength (c .before .before .before .before .before .before .before .before .entry2 .ensures) (c .before .before .before .before .before .before .before .name-length2 .ensures .0) ∙ e)), eq-eqb _ _ (sym (field-of entryParent (c .before .before .before .before .before .before .before .before .before .before .before .entry .ensures) (c .before .before .before .before .before .parent .ensures .0)) ∙ c .before .before .before .if3 .left ∙ field-of entryParent (c .before .before .before .before .before .before .before .before .entry2 .ensures) (c .before .before .before .before .parent2 .ensures .0)), c .same .ensures, a, b)
+    simp (
+      ne-eqb _ _ (λ e. c .before .before .before .before .before .before .before .before .before .if1 .left (field-of entryNameLength (c .before .before .before .before .before .before .before .before .before .before .before .entry .ensures) (c .before .before .before .before .before .before .before .before .before .before .name-length .ensures .0) ∙ e)),
+      ne-eqb _ _ (λ e. c .before .before .before .before .before .before .if2 .left (field-of entryNameLength (c .before .before .before .before .before .before .before .before .entry2 .ensures) (c .before .before .before .before .before .before .before .name-length2 .ensures .0) ∙ e)),
+      eq-eqb _ _ (sym (field-of entryParent (c .before .before .before .before .before .before .before .before .before .before .before .entry .ensures) (c .before .before .before .before .before .parent .ensures .0)) ∙ c .before .before .before .if3 .left ∙ field-of entryParent (c .before .before .before .before .before .before .before .before .entry2 .ensures) (c .before .before .before .before .parent2 .ensures .0)),
+      c .same .ensures,
+      a,
+      b,
+    )
 
 pub entries-clash-spec : {M : Type 1} → statement M
 entries-clash-spec =

@@ -31,7 +31,11 @@ all-zero-requires c κs = search needs
 
 returns-2 : tie.Need-returns-2
 unfolding textGood viewOf
-returns-2 c = simp (le-leb _ _ (rw (field-of textLength (c .before .before .before .before .text .ensures) (c .before .before .before .length .ensures .0)) at (c .before .before .if1 .left)), (let e : zeros (c .before .before .before .before .text .result .now) (1 + c .before .before .before .length .result) (63 - c .before .before .before .length .result) ≡ zeros (textAt (c .before .before .before .before .before .before .args .h) (c .before .before .before .before .before .before .args .s .now) (c .before .before .before .before .before .before .args .t)) (1 + textLength (textAt (c .before .before .before .before .before .before .args .h) (c .before .before .before .before .before .before .args .s .now) (c .before .before .before .before .before .before .args .t))) (63 - textLength (textAt (c .before .before .before .before .before .before .args .h) (c .before .before .before .before .before .before .args .s .now) (c .before .before .before .before .before .before .args .t))) = rw (c .before .before .before .before .text .ensures .is, field-of textLength (c .before .before .before .before .text .ensures) (c .before .before .before .length .ensures .0)) in sym e ∙ fails (c .before .all-zero .ensures) (c .if2 .taken)))
+returns-2 c =
+    simp (
+      le-leb _ _ (rw (field-of textLength (c .before .before .before .before .text .ensures) (c .before .before .before .length .ensures .0)) at (c .before .before .if1 .left)),
+      (let e : zeros (c .before .before .before .before .text .result .now) (1 + c .before .before .before .length .result) (63 - c .before .before .before .length .result) ≡ zeros (textAt (c .before .before .before .before .before .before .args .h) (c .before .before .before .before .before .before .args .s .now) (c .before .before .before .before .before .before .args .t)) (1 + textLength (textAt (c .before .before .before .before .before .before .args .h) (c .before .before .before .before .before .before .args .s .now) (c .before .before .before .before .before .before .args .t))) (63 - textLength (textAt (c .before .before .before .before .before .before .args .h) (c .before .before .before .before .before .before .args .s .now) (c .before .before .before .before .before .before .args .t))) = rw (c .before .before .before .before .text .ensures .is, field-of textLength (c .before .before .before .before .text .ensures) (c .before .before .before .length .ensures .0)) in sym e ∙ fails (c .before .all-zero .ensures) (c .if2 .taken)),
+    )
 
 bytes-requires : tie.Need-bytes-requires
 bytes-requires c κs = omega (arith, c .before .before .before .length .ensures .0, c .before .before .before .before .text .ensures .long)
@@ -41,18 +45,36 @@ no-zero-requires c κs = search needs
 
 returns-3 : tie.Need-returns-3
 unfolding textGood viewOf
-returns-3 c = simp (le-leb _ _ (rw (field-of textLength (c .before .before .before .before .before .before .before .text .ensures) (c .before .before .before .before .before .before .length .ensures .0)) at (c .before .before .before .before .before .if1 .left)), (let e : zeros (c .before .before .before .before .before .before .before .text .result .now) (1 + c .before .before .before .before .before .before .length .result) (63 - c .before .before .before .before .before .before .length .result) ≡ zeros (textAt (c .before .before .before .before .before .before .before .before .before .args .h) (c .before .before .before .before .before .before .before .before .before .args .s .now) (c .before .before .before .before .before .before .before .before .before .args .t)) (1 + textLength (textAt (c .before .before .before .before .before .before .before .before .before .args .h) (c .before .before .before .before .before .before .before .before .before .args .s .now) (c .before .before .before .before .before .before .before .before .before .args .t))) (63 - textLength (textAt (c .before .before .before .before .before .before .before .before .before .args .h) (c .before .before .before .before .before .before .before .before .before .args .s .now) (c .before .before .before .before .before .before .before .before .before .args .t))) = rw (c .before .before .before .before .before .before .before .text .ensures .is, field-of textLength (c .before .before .before .before .before .before .before .text .ensures) (c .before .before .before .before .before .before .length .ensures .0)) in sym e ∙ holds (c .before .before .before .before .all-zero .ensures) (c .before .before .before .if2 .left)), ap noZero (sym (c .before .before .bytes .ensures ∙ ap textBytes (c .before .before .before .before .before .before .before .text .ensures .is))) ∙ fails (c .before .no-zero .ensures) (c .if3 .taken))
+returns-3 c =
+    simp (
+      le-leb _ _ (rw (field-of textLength (c .before .before .before .before .before .before .before .text .ensures) (c .before .before .before .before .before .before .length .ensures .0)) at (c .before .before .before .before .before .if1 .left)),
+      (let e : zeros (c .before .before .before .before .before .before .before .text .result .now) (1 + c .before .before .before .before .before .before .length .result) (63 - c .before .before .before .before .before .before .length .result) ≡ zeros (textAt (c .before .before .before .before .before .before .before .before .before .args .h) (c .before .before .before .before .before .before .before .before .before .args .s .now) (c .before .before .before .before .before .before .before .before .before .args .t)) (1 + textLength (textAt (c .before .before .before .before .before .before .before .before .before .args .h) (c .before .before .before .before .before .before .before .before .before .args .s .now) (c .before .before .before .before .before .before .before .before .before .args .t))) (63 - textLength (textAt (c .before .before .before .before .before .before .before .before .before .args .h) (c .before .before .before .before .before .before .before .before .before .args .s .now) (c .before .before .before .before .before .before .before .before .before .args .t))) = rw (c .before .before .before .before .before .before .before .text .ensures .is, field-of textLength (c .before .before .before .before .before .before .before .text .ensures) (c .before .before .before .before .before .before .length .ensures .0)) in sym e ∙ holds (c .before .before .before .before .all-zero .ensures) (c .before .before .before .if2 .left)),
+      ap noZero (sym (c .before .before .bytes .ensures ∙ ap textBytes (c .before .before .before .before .before .before .before .text .ensures .is))) ∙ fails (c .before .no-zero .ensures) (c .if3 .taken),
+    )
 
 returns-4 : tie.Need-returns-4
 unfolding textGood viewOf
-returns-4 c = simp (le-leb _ _ (rw (field-of textLength (c .before .before .before .before .before .before .before .before .text .ensures) (c .before .before .before .before .before .before .before .length .ensures .0)) at (c .before .before .before .before .before .before .if1 .left)), (let e : zeros (c .before .before .before .before .before .before .before .before .text .result .now) (1 + c .before .before .before .before .before .before .before .length .result) (63 - c .before .before .before .before .before .before .before .length .result) ≡ zeros (textAt (c .before .before .before .before .before .before .before .before .before .before .args .h) (c .before .before .before .before .before .before .before .before .before .before .args .s .now) (c .before .before .before .before .before .before .before .before .before .before .args .t)) (1 + textLength (textAt (c .before .before .before .before .before .before .before .before .before .before .args .h) (c .before .before .before .before .before .before .before .before .before .before .args .s .now) (c .before .before .before .before .before .before .before .before .before .before .args .t))) (63 - textLength (textAt (c .before .before .before .before .before .before .before .before .before .before .args .h) (c .before .before .before .before .before .before .before .before .before .before .args .s .now) (c .before .before .before .before .before .before .before .before .before .before .args .t))) = rw (c .before .before .before .before .before .before .before .before .text .ensures .is, field-of textLength (c .before .before .before .before .before .before .before .before .text .ensures) (c .before .before .before .before .before .before .before .length .ensures .0)) in sym e ∙ holds (c .before .before .before .before .before .all-zero .ensures) (c .before .before .before .before .if2 .left)), ap noZero (sym (c .before .before .before .bytes .ensures ∙ ap textBytes (c .before .before .before .before .before .before .before .before .text .ensures .is))) ∙ holds (c .before .before .no-zero .ensures) (c .before .if3 .left), eq-eqb _ _ (sym (field-of textLength (c .before .before .before .before .before .before .before .before .text .ensures) (c .before .before .before .before .before .before .before .length .ensures .0)) ∙ c .if4 .taken))
+returns-4 c =
+    simp (
+      le-leb _ _ (rw (field-of textLength (c .before .before .before .before .before .before .before .before .text .ensures) (c .before .before .before .before .before .before .before .length .ensures .0)) at (c .before .before .before .before .before .before .if1 .left)),
+      (let e : zeros (c .before .before .before .before .before .before .before .before .text .result .now) (1 + c .before .before .before .before .before .before .before .length .result) (63 - c .before .before .before .before .before .before .before .length .result) ≡ zeros (textAt (c .before .before .before .before .before .before .before .before .before .before .args .h) (c .before .before .before .before .before .before .before .before .before .before .args .s .now) (c .before .before .before .before .before .before .before .before .before .before .args .t)) (1 + textLength (textAt (c .before .before .before .before .before .before .before .before .before .before .args .h) (c .before .before .before .before .before .before .before .before .before .before .args .s .now) (c .before .before .before .before .before .before .before .before .before .before .args .t))) (63 - textLength (textAt (c .before .before .before .before .before .before .before .before .before .before .args .h) (c .before .before .before .before .before .before .before .before .before .before .args .s .now) (c .before .before .before .before .before .before .before .before .before .before .args .t))) = rw (c .before .before .before .before .before .before .before .before .text .ensures .is, field-of textLength (c .before .before .before .before .before .before .before .before .text .ensures) (c .before .before .before .before .before .before .before .length .ensures .0)) in sym e ∙ holds (c .before .before .before .before .before .all-zero .ensures) (c .before .before .before .before .if2 .left)),
+      ap noZero (sym (c .before .before .before .bytes .ensures ∙ ap textBytes (c .before .before .before .before .before .before .before .before .text .ensures .is))) ∙ holds (c .before .before .no-zero .ensures) (c .before .if3 .left),
+      eq-eqb _ _ (sym (field-of textLength (c .before .before .before .before .before .before .before .before .text .ensures) (c .before .before .before .before .before .before .before .length .ensures .0)) ∙ c .if4 .taken),
+    )
 
 linked-requires : tie.Need-linked-requires
 linked-requires c κs = search needs
 
 returns-5 : tie.Need-returns-5
 unfolding textGood viewOf
-returns-5 c = simp (le-leb _ _ (rw (field-of textLength (c .before .before .before .before .before .before .before .before .before .text .ensures) (c .before .before .before .before .before .before .before .before .length .ensures .0)) at (c .before .before .before .before .before .before .before .if1 .left)), (let e : zeros (c .before .before .before .before .before .before .before .before .before .text .result .now) (1 + c .before .before .before .before .before .before .before .before .length .result) (63 - c .before .before .before .before .before .before .before .before .length .result) ≡ zeros (textAt (c .before .before .before .before .before .before .before .before .before .before .before .args .h) (c .before .before .before .before .before .before .before .before .before .before .before .args .s .now) (c .before .before .before .before .before .before .before .before .before .before .before .args .t)) (1 + textLength (textAt (c .before .before .before .before .before .before .before .before .before .before .before .args .h) (c .before .before .before .before .before .before .before .before .before .before .before .args .s .now) (c .before .before .before .before .before .before .before .before .before .before .before .args .t))) (63 - textLength (textAt (c .before .before .before .before .before .before .before .before .before .before .before .args .h) (c .before .before .before .before .before .before .before .before .before .before .before .args .s .now) (c .before .before .before .before .before .before .before .before .before .before .before .args .t))) = rw (c .before .before .before .before .before .before .before .before .before .text .ensures .is, field-of textLength (c .before .before .before .before .before .before .before .before .before .text .ensures) (c .before .before .before .before .before .before .before .before .length .ensures .0)) in sym e ∙ holds (c .before .before .before .before .before .before .all-zero .ensures) (c .before .before .before .before .before .if2 .left)), ap noZero (sym (c .before .before .before .before .bytes .ensures ∙ ap textBytes (c .before .before .before .before .before .before .before .before .before .text .ensures .is))) ∙ holds (c .before .before .before .no-zero .ensures) (c .before .before .if3 .left), ne-eqb _ _ (λ e. c .before .if4 .left (field-of textLength (c .before .before .before .before .before .before .before .before .before .text .ensures) (c .before .before .before .before .before .before .before .before .length .ensures .0) ∙ e)), c .linked .ensures)
+returns-5 c =
+    simp (
+      le-leb _ _ (rw (field-of textLength (c .before .before .before .before .before .before .before .before .before .text .ensures) (c .before .before .before .before .before .before .before .before .length .ensures .0)) at (c .before .before .before .before .before .before .before .if1 .left)),
+      (let e : zeros (c .before .before .before .before .before .before .before .before .before .text .result .now) (1 + c .before .before .before .before .before .before .before .before .length .result) (63 - c .before .before .before .before .before .before .before .before .length .result) ≡ zeros (textAt (c .before .before .before .before .before .before .before .before .before .before .before .args .h) (c .before .before .before .before .before .before .before .before .before .before .before .args .s .now) (c .before .before .before .before .before .before .before .before .before .before .before .args .t)) (1 + textLength (textAt (c .before .before .before .before .before .before .before .before .before .before .before .args .h) (c .before .before .before .before .before .before .before .before .before .before .before .args .s .now) (c .before .before .before .before .before .before .before .before .before .before .before .args .t))) (63 - textLength (textAt (c .before .before .before .before .before .before .before .before .before .before .before .args .h) (c .before .before .before .before .before .before .before .before .before .before .before .args .s .now) (c .before .before .before .before .before .before .before .before .before .before .before .args .t))) = rw (c .before .before .before .before .before .before .before .before .before .text .ensures .is, field-of textLength (c .before .before .before .before .before .before .before .before .before .text .ensures) (c .before .before .before .before .before .before .before .before .length .ensures .0)) in sym e ∙ holds (c .before .before .before .before .before .before .all-zero .ensures) (c .before .before .before .before .before .if2 .left)),
+      ap noZero (sym (c .before .before .before .before .bytes .ensures ∙ ap textBytes (c .before .before .before .before .before .before .before .before .before .text .ensures .is))) ∙ holds (c .before .before .before .no-zero .ensures) (c .before .before .if3 .left),
+      ne-eqb _ _ (λ e. c .before .if4 .left (field-of textLength (c .before .before .before .before .before .before .before .before .before .text .ensures) (c .before .before .before .before .before .before .before .before .length .ensures .0) ∙ e)),
+      c .linked .ensures,
+    )
 
 pub good-spec : {M : Type 1} → statement M
 good-spec =

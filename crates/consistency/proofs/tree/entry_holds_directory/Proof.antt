@@ -23,7 +23,11 @@ parent-requires c κs = search needs
 
 returns-2 : tie.Need-returns-2
 unfolding viewOf
-returns-2 c = simp (ne-eqb _ _ (λ e. c .before .before .if1 .left (field-of entryNameLength (c .before .before .before .before .entry .ensures) (c .before .before .before .name-length .ensures .0) ∙ e)), ne-eqb _ _ (λ e. c .if2 .taken (field-of entryParent (c .before .before .before .before .entry .ensures) (c .before .parent .ensures .0) ∙ e)))
+returns-2 c =
+    simp (
+      ne-eqb _ _ (λ e. c .before .before .if1 .left (field-of entryNameLength (c .before .before .before .before .entry .ensures) (c .before .before .before .name-length .ensures .0) ∙ e)),
+      ne-eqb _ _ (λ e. c .if2 .taken (field-of entryParent (c .before .before .before .before .entry .ensures) (c .before .parent .ensures .0) ∙ e)),
+    )
 
 target-requires : tie.Need-target-requires
 target-requires c κs = search needs
@@ -34,7 +38,12 @@ is-directory-requires c κs = search needs
 returns-3 : tie.Need-returns-3
 unfolding viewOf
 returns-3 c = let t = field-of entryTarget (c .before .before .before .before .before .before .entry .ensures) (c .before .target .ensures .0) in
-    simp (ne-eqb _ _ (λ e. c .before .before .before .before .if1 .left (field-of entryNameLength (c .before .before .before .before .before .before .entry .ensures) (c .before .before .before .before .before .name-length .ensures .0) ∙ e)), eq-eqb _ _ (sym (field-of entryParent (c .before .before .before .before .before .before .entry .ensures) (c .before .before .before .parent .ensures .0)) ∙ c .before .before .if2 .left), c .is-directory .ensures, t)
+    simp (
+      ne-eqb _ _ (λ e. c .before .before .before .before .if1 .left (field-of entryNameLength (c .before .before .before .before .before .before .entry .ensures) (c .before .before .before .before .before .name-length .ensures .0) ∙ e)),
+      eq-eqb _ _ (sym (field-of entryParent (c .before .before .before .before .before .before .entry .ensures) (c .before .before .before .parent .ensures .0)) ∙ c .before .before .if2 .left),
+      c .is-directory .ensures,
+      t,
+    )
 
 pub entry-holds-directory-spec : {M : Type 1} → statement M
 entry-holds-directory-spec =

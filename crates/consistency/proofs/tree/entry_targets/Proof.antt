@@ -23,7 +23,11 @@ target-requires c κs = search needs
 
 returns-2 : tie.Need-returns-2
 unfolding viewOf
-returns-2 c = simp (ne-eqb _ _ (λ e. c .before .if1 .left (field-of entryNameLength (c .before .before .before .entry .ensures) (c .before .before .name-length .ensures .0) ∙ e)), field-of entryTarget (c .before .before .before .entry .ensures) (c .target .ensures .0))
+returns-2 c =
+    simp (
+      ne-eqb _ _ (λ e. c .before .if1 .left (field-of entryNameLength (c .before .before .before .entry .ensures) (c .before .before .name-length .ensures .0) ∙ e)),
+      field-of entryTarget (c .before .before .before .entry .ensures) (c .target .ensures .0),
+    )
 
 pub entry-targets-spec : {M : Type 1} → statement M
 entry-targets-spec =
