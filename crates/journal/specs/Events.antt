@@ -1,0 +1,103 @@
+-- The events that can befall a change, and the state that each leaves. A reader has to believe this file. Assumes nothing.
+use mathlib.Core.Bool.{Bool, true, false, _||_, cond}
+use mathlib.Core.List.{List, [], _∷_}
+use mathlib.Core.Option.{Option, none, some}
+use Prim.Native.Nat.{ℕ}
+use lib.Dec.{eqb}
+use Rattle.journal.specs.Pick.{Picked, pick, null}
+use Rattle.journal.specs.Turn.{lowest}
+use Rattle.journal.specs.Store.{Store, Rows}
+use Rattle.journal.specs.Change.{Change, plan}
+
+pub data Event (R : Type 0) : Type 0 where
+  -- the waiting row at a place is applied (the papers' landing); it counts only if no row of a lower group waits
+  apply : ℕ → Event R
+  -- any row at all is tried and refused; one that would be accepted is no event, since nobody else writes the image
+  stray : R → Event R
+  -- what has not been applied is lost, and recovery is called (the papers' cut); the flag says whether its buffers were long enough
+  crash : Bool → Event R
+
+-- Whose rows wait.
+pub data Phase : Type 0 where
+  -- those of the call's own plan
+  own : Phase
+  -- those of the last recovery
+  recovering : Phase
+  -- nobody's: the last recovery was refused
+  stopped : Phase
+
+pub record State (I R : Type 0) : Type 0 where
+  -- the image as it stands
+  pub img : I
+  -- the rows not yet applied, in the order of their plan
+  pub waiting : List R
+  -- whose rows those are
+  pub phase : Phase
+  -- the rows of the call's own plan that were applied in the list of events, newest first
+  pub applied : List R
+  -- whether the rows of some recovery have all been applied
+  pub done : Bool
+
+-- a recovery's rows are not the call's own, so they are not written down
+abbrev pub noted {ℓ} : {R : Type ℓ} → Phase → R → List R → List R
+noted own r log = r ∷ log
+noted recovering r log = log
+noted stopped r log = log
+
+-- only a recovery whose rows have all been applied is done, and stays so
+abbrev pub finished : {R : Type 0} → Phase → Bool → List R → Bool
+finished own done waiting = done
+finished recovering done waiting = done || null waiting
+finished stopped done waiting = done
+
+module _ {𝓢 : Store} (𝓒 : Change 𝓢) where
+  abbrev pub St : Type 0
+  St = State (𝓢 .Img) (𝓢 .Row)
+
+  -- whether a row of the deciding row's group is among those applied. The obligations put no other row of the plan into that group, so
+  -- this asks for the deciding row itself: the theorem says so in its field `decision`
+  abbrev pub decides : Rows 𝓢 → Bool
+  decides [] = false
+  decides (r ∷ log) = eqb (𝓢 .group r) (𝓢 .group (𝓒 .decide)) || decides log
+
+  -- whether the deciding row was applied in the list of events
+  abbrev pub decided : St → Bool
+  decided s = decides (s .applied)
+
+  -- the whole plan waits
+  abbrev pub start : St
+  start = record { img = 𝓒 .before; waiting = plan 𝓒; phase = own; applied = []; done = false }
+
+  -- row r was applied and the others still wait
+  abbrev pub took : St → 𝓢 .Row → Rows 𝓢 → St
+  took s r rest = record {
+    img = 𝓢 .put (s .img) r;
+    waiting = rest;
+    phase = s .phase;
+    applied = noted (s .phase) r (s .applied);
+    done = finished (s .phase) (s .done) rest;
+  }
+
+  -- a row is taken if its turn has come
+  abbrev pub turn : (s : St) → Option (Picked (s .waiting)) → St
+  turn s none = s
+  turn s (some p) = let t = took s (p .0) (p .1) in cond (lowest (𝓢 .group) (𝓢 .group (p .0)) (p .1)) t s
+
+  -- a row is tried on the image and refused
+  abbrev pub tried : St → 𝓢 .Row → St
+  tried s r = record { img = 𝓢 .put (s .img) r; waiting = s .waiting; phase = s .phase; applied = s .applied; done = s .done }
+
+  -- recovery answered: its rows wait, or nothing does
+  abbrev pub answered : St → Option (Rows 𝓢) → St
+  answered s none = record { img = s .img; waiting = []; phase = stopped; applied = s .applied; done = s .done }
+  answered s (some w) = record { img = s .img; waiting = w; phase = recovering; applied = s .applied; done = finished recovering (s .done) w }
+
+  abbrev pub step : St → Event (𝓢 .Row) → St
+  step s (apply i) = turn s (pick i (s .waiting))
+  step s (stray r) = let t = tried s r in cond (𝓢 .accepts (s .img) r) s t
+  step s (crash false) = answered s none
+  step s (crash true) = answered s (𝓒 .recover (s .img))
+
+  abbrev pub run : St → List (Event (𝓢 .Row)) → St
+  run s [] = s
+  run s (e ∷ es) = run (step s e) es
