@@ -50,6 +50,12 @@ finished own done waiting = done
 finished recovering done waiting = done || null waiting
 finished stopped done waiting = done
 
+-- whether the call's own rows have all been applied, and no crash came
+abbrev pub through : {R : Type 0} → Phase → List R → Bool
+through own waiting = null waiting
+through recovering waiting = false
+through stopped waiting = false
+
 module _ {𝓢 : Store} (𝓒 : Change 𝓢) where
   abbrev pub St : Type 0
   St = State (𝓢 .Img) (𝓢 .Row)

@@ -4,3 +4,7 @@ pub mod Store
 pub mod Change
 pub mod Events
 pub mod Obligations
+pub mod Settle
+pub mod Opening
+pub mod Invariant
+pub mod Crash
