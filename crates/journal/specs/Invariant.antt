@@ -12,7 +12,7 @@ use Rattle.journal.specs.Turn.{lowest, Low, lowest-low}
 use Rattle.journal.specs.Store.{Store, Rows}
 use Rattle.journal.specs.Change.{Change, plan, goal}
 use Rattle.journal.specs.Events.{Event, apply, stray, crash, Phase, own, recovering, stopped, noted, finished, through, St, decides, decided, start, took, turn, tried, answered, step, run}
-use Rattle.journal.specs.Obligations.{OnTheWay, Settles, Ahead, Behind, Obligations}
+use Rattle.journal.specs.Obligations.{OnTheWay, Settles, Ahead, Behind, Orderly, Obligations}
 use Rattle.journal.specs.Settle.{Settling, settle-apply, goal-on, nothing-left, ends}
 use Rattle.journal.specs.Opening.{Opening, ahead-apply, decide-apply}
 
@@ -103,7 +103,7 @@ module _ {𝓢 : Store} (𝓒 : Change 𝓢) where
       never stopped b f t = absurd f
   ended-of s (settling l h) t = h .ended t
 
-  module _ (𝓞 : Obligations 𝓒) where
+  module _ (𝓞 : Orderly 𝓒) where
     pub goal-ok : (d : Bool) → 𝓢 .Ok (goal 𝓒 d)
     goal-ok false = 𝓞 .before-ok
     goal-ok true = 𝓞 .after-ok
@@ -154,11 +154,11 @@ module _ {𝓢 : Store} (𝓒 : Change 𝓢) where
     open-step recovering done log f l s low q = absurd f
     open-step stopped done log f l s low q = absurd f
 
-    took-inv : (s : St 𝓒) (p : Picked (s .waiting)) → Low (𝓢 .group) (p .0) (p .1) → Inv s → Inv (took 𝓒 s (p .0) (p .1))
+    pub took-inv : (s : St 𝓒) (p : Picked (s .waiting)) → Low (𝓢 .group) (p .0) (p .1) → Inv s → Inv (took 𝓒 s (p .0) (p .1))
     took-inv s p low (settling l h) = settle-step (s .phase) (s .done) (s .applied) l h (p .2) low
     took-inv s p low (opening f l h) = open-step (s .phase) (s .done) (s .applied) f l h low (part-pick (h .left) (𝓒 .behind) (rw (h .shape) at (p .2)))
 
-    turn-inv : (s : St 𝓒) (o : Option (Picked (s .waiting))) → Inv s → Inv (turn 𝓒 s o)
+    pub turn-inv : (s : St 𝓒) (o : Option (Picked (s .waiting))) → Inv s → Inv (turn 𝓒 s o)
     turn-inv s none h = h
     turn-inv s (some p) h = go (lowest (𝓢 .group) (𝓢 .group (p .0)) (p .1)) (lowest-low (𝓢 .group) (p .0) (p .1))
       where
@@ -166,7 +166,7 @@ module _ {𝓢 : Store} (𝓒 : Change 𝓢) where
         go true f = took-inv s p (f tt) h
         go false f = h
 
-    stray-inv : (s : St 𝓒) (r : 𝓢 .Row) → Inv s → Inv (cond (𝓢 .accepts (s .img) r) s (tried 𝓒 s r))
+    pub stray-inv : (s : St 𝓒) (r : 𝓢 .Row) → Inv s → Inv (cond (𝓢 .accepts (s .img) r) s (tried 𝓒 s r))
     stray-inv s r h = go (𝓢 .accepts (s .img) r) (𝓢 .refuses (s .img) r)
       where
         go : (b : Bool) → (T (not b) → 𝓢 .put (s .img) r ≡ s .img) → Inv (cond b s (tried 𝓒 s r))
@@ -175,23 +175,6 @@ module _ {𝓢 : Store} (𝓒 : Change 𝓢) where
 
     crash-inv : (s : St 𝓒) → Inv s → Inv (answered 𝓒 s none)
     crash-inv s h = settling (logged-of s h) (record { inside = inside-of s h; rows = tt; kept = tt; ended = ended-of s h })
-
-    recover-inv : (s : St 𝓒) → Inv s → Inv (answered 𝓒 s (𝓒 .recover (s .img)))
-    recover-inv s h =
-        let i = inside-of s h in
-        let w = 𝓞 .recovers (decided 𝓒 s) (s .img) i in
-        rw (w .answer) (settling (logged-of s h) (record {
-          inside = i;
-          rows = w .settle;
-          kept = w .cover;
-          ended = ends 𝓒 goal-ok recovering (decided 𝓒 s) (s .done) (w .rows) (i .ok) (w .cover) (ended-of s h);
-        }))
-
-    pub step-inv : (s : St 𝓒) (e : Event (𝓢 .Row)) → Inv s → Inv (step 𝓒 s e)
-    step-inv s (apply i) h = turn-inv s (pick i (s .waiting)) h
-    step-inv s (stray r) h = stray-inv s r h
-    step-inv s (crash false) h = crash-inv s h
-    step-inv s (crash true) h = recover-inv s h
 
     pub start-inv : Inv (start 𝓒)
     start-inv = opening tt tt (record {
@@ -202,6 +185,24 @@ module _ {𝓢 : Store} (𝓒 : Change 𝓢) where
       written = λ k n a. inr a;
       opened = inr (𝓞 .sets-journal);
     })
+
+  module _ (𝓞 : Obligations 𝓒) where
+    recover-inv : (s : St 𝓒) → Inv s → Inv (answered 𝓒 s (𝓒 .recover (s .img)))
+    recover-inv s h =
+        let i = inside-of s h in
+        let w = 𝓞 .recovers (decided 𝓒 s) (s .img) i in
+        rw (w .answer) (settling (logged-of s h) (record {
+          inside = i;
+          rows = w .settle;
+          kept = w .cover;
+          ended = ends 𝓒 (goal-ok (𝓞 .orderly)) recovering (decided 𝓒 s) (s .done) (w .rows) (i .ok) (w .cover) (ended-of s h);
+        }))
+
+    pub step-inv : (s : St 𝓒) (e : Event (𝓢 .Row)) → Inv s → Inv (step 𝓒 s e)
+    step-inv s (apply i) h = turn-inv (𝓞 .orderly) s (pick i (s .waiting)) h
+    step-inv s (stray r) h = stray-inv (𝓞 .orderly) s r h
+    step-inv s (crash false) h = crash-inv (𝓞 .orderly) s h
+    step-inv s (crash true) h = recover-inv s h
 
     pub run-inv : (s : St 𝓒) (es : List (Event (𝓢 .Row))) → Inv s → Inv (run 𝓒 s es)
     run-inv s [] h = h

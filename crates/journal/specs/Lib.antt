@@ -8,3 +8,4 @@ pub mod Settle
 pub mod Opening
 pub mod Invariant
 pub mod Crash
+pub mod Order

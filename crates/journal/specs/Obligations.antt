@@ -102,8 +102,8 @@ module _ {𝓢 : Store} (𝓒 : Change 𝓢) where
     -- together they leave out nothing
     pub cover : Cover d X rows
 
-  -- What an operation owes.
-  pub record Obligations : Type 0 where
+  -- what an operation owes of its rows
+  pub record Orderly : Type 0 where
     -- the image before has the layout
     pub before-ok : 𝓢 .Ok (𝓒 .before)
     -- and so has the image after
@@ -120,5 +120,10 @@ module _ {𝓢 : Store} (𝓒 : Change 𝓢) where
     pub clears-journal : Covers 𝓢 (𝓒 .behind) (𝓒 .journal)
     -- a record that the call changes is written by some row
     pub complete : (k : 𝓢 .Key) → k ≢ 𝓒 .journal → (𝓢 .get (𝓒 .before) k ≡ 𝓢 .get (𝓒 .after) k) ⊎ Covers 𝓢 (plan 𝓒) k
+
+  -- What an operation owes.
+  pub record Obligations : Type 0 where
+    -- its rows are in order
+    pub orderly : Orderly
     -- on any image on the way recovery answers with rows that lead to the goal and leave out nothing
     pub recovers : (d : Bool) (X : 𝓢 .Img) → OnTheWay d X → Recovery d X

@@ -10,7 +10,7 @@ use Rattle.journal.specs.Turn.{Low}
 use Rattle.journal.specs.Store.{Store, Rows, Covers, after-put}
 use Rattle.journal.specs.Change.{Change, goal}
 use Rattle.journal.specs.Events.{own}
-use Rattle.journal.specs.Obligations.{OnTheWay, Sets, Writes, Opens, Settles, Clears, Mends, Cover, Ahead, Behind, Obligations}
+use Rattle.journal.specs.Obligations.{OnTheWay, Sets, Writes, Opens, Settles, Clears, Mends, Cover, Ahead, Behind, Orderly}
 use Rattle.journal.specs.Settle.{Mixed, Fixed, Settling}
 
 module _ {𝓢 : Store} (𝓒 : Change 𝓢) where
@@ -92,7 +92,7 @@ module _ {𝓢 : Store} (𝓒 : Change 𝓢) where
   none-ahead (q ∷ A) h l = absurd (omega (arith, h .0 .sooner, l .0))
 
   -- the deciding row is applied: none ahead waits, and the rows that are left lead to the image after
-  pub decide-apply : Obligations 𝓒 → {X : 𝓢 .Img} {W : Rows 𝓢} (s : Opening X W) → Low (𝓢 .group) (𝓒 .decide) (s .left ++ 𝓒 .behind)
+  pub decide-apply : Orderly 𝓒 → {X : 𝓢 .Img} {W : Rows 𝓢} (s : Opening X W) → Low (𝓢 .group) (𝓒 .decide) (s .left ++ 𝓒 .behind)
       → Settling 𝓒 own true false (𝓢 .put X (𝓒 .decide)) (s .left ++ 𝓒 .behind)
   decide-apply 𝓞 {X} s low = rw empty record {
     inside = record {
