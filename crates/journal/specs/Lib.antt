@@ -9,3 +9,5 @@ pub mod Opening
 pub mod Invariant
 pub mod Crash
 pub mod Order
+pub mod Plan
+pub mod Planned

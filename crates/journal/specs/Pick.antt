@@ -73,6 +73,10 @@ module _ {A : Type 0} where
     all-left [] ys h = tt
     all-left (x ∷ xs) ys h = (h .0, all-left xs ys (h .1))
 
+    pub all-right : (xs ys : List A) → All P (xs ++ ys) → All P ys
+    all-right [] ys h = h
+    all-right (x ∷ xs) ys h = all-right xs ys (h .1)
+
     pub all-join : (xs ys : List A) → All P xs → All P ys → All P (xs ++ ys)
     all-join [] ys h k = k
     all-join (x ∷ xs) ys h k = (h .0, all-join xs ys (h .1) k)
@@ -94,6 +98,11 @@ module _ {A : Type 0} where
   pub all-map : (P Q : A → Type 0) → ((x : A) → P x → Q x) → (xs : List A) → All P xs → All Q xs
   all-map P Q f [] h = tt
   all-map P Q f (x ∷ xs) h = (f x (h .0), all-map P Q f xs (h .1))
+
+  pub any-map : (P Q : A → Type 0) → ((x : A) → P x → Q x) → (xs : List A) → Any P xs → Any Q xs
+  any-map P Q f [] a = absurd a
+  any-map P Q f (x ∷ xs) (inl p) = inl (f x p)
+  any-map P Q f (x ∷ xs) (inr a) = inr (any-map P Q f xs a)
 
   pub all-zip : (P Q : A → Type 0) (xs : List A) → All P xs → All Q xs → All (λ x. P x × Q x) xs
   all-zip P Q [] h k = tt
