@@ -70,9 +70,13 @@ module _ {𝓢 : Store} (𝓒 : Change 𝓢) where
   abbrev pub decided : St → Bool
   decided s = decides (s .applied)
 
-  -- the whole plan waits
+  -- the whole plan waits, on an image
+  abbrev pub begin : 𝓢 .Img → St
+  begin X = record { img = X; waiting = plan 𝓒; phase = own; applied = []; done = false }
+
+  -- on the one that it was made for
   abbrev pub start : St
-  start = record { img = 𝓒 .before; waiting = plan 𝓒; phase = own; applied = []; done = false }
+  start = begin (𝓒 .before)
 
   -- row r was applied and the others still wait
   abbrev pub took : St → 𝓢 .Row → Rows 𝓢 → St

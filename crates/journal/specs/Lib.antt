@@ -11,3 +11,4 @@ pub mod Crash
 pub mod Order
 pub mod Plan
 pub mod Planned
+pub mod Chain

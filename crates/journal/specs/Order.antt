@@ -51,6 +51,10 @@ NoCrash (apply i) = Unit {0}
 NoCrash (stray r) = Unit {0}
 NoCrash (crash b) = ⊥
 
+pub empty-through : {R : Type 0} (W : List R) → Empty W → T (through own W)
+empty-through [] e = tt
+empty-through (r ∷ W) e = absurd e
+
 module _ {𝓢 : Store} (𝓒 : Change 𝓢) where
   pub step-phase : (s : St 𝓒) (e : Event (𝓢 .Row)) → NoCrash e → step 𝓒 s e .phase ≡ s .phase
   step-phase s (apply i) n = picked (pick i (s .waiting))
@@ -84,8 +88,4 @@ module _ {𝓢 : Store} (𝓒 : Change 𝓢) where
       → run 𝓒 (start 𝓒) es .img ≡ 𝓒 .after
   whole-run 𝓞 es n e =
       let s = run 𝓒 (start 𝓒) es in
-      whole 𝓒 𝓞 (s .phase) (s .waiting) (rw (run-phase (start 𝓒) es n) (none-waits (s .waiting) e)) (run-calm 𝓞 (start 𝓒) es n (start-inv 𝓒 𝓞)) .1
-    where
-      none-waits : (W : Rows 𝓢) → Empty W → T (through own W)
-      none-waits [] e = tt
-      none-waits (r ∷ W) e = absurd e
+      whole 𝓒 𝓞 (s .phase) (s .waiting) (rw (run-phase (start 𝓒) es n) (empty-through (s .waiting) e)) (run-calm 𝓞 (start 𝓒) es n (start-inv 𝓒 𝓞)) .1
