@@ -1,5 +1,5 @@
 -- The events that can befall a change, and the state that each leaves. A reader has to believe this file. Assumes nothing.
-use mathlib.Core.Bool.{Bool, true, false, _||_, cond}
+use mathlib.Core.Bool.{Bool, true, false, _||_}
 use mathlib.Core.List.{List, [], _∷_}
 use mathlib.Core.Option.{Option, none, some}
 use Prim.Native.Nat.{ℕ}
@@ -60,11 +60,15 @@ module _ {𝓢 : Store} (𝓒 : Change 𝓢) where
   abbrev pub St : Type 0
   St = State (𝓢 .Img) (𝓢 .Row)
 
-  -- whether a row of the deciding row's group is among those applied. The obligations put no other row of the plan into that group, so
-  -- this asks for the deciding row itself: the theorem says so in its field `decision`
+  -- whether a row of the call's own plan is the deciding one, by its group. The obligations put no other row of the plan into that group,
+  -- so this asks for the deciding row itself: the theorem says so in its field `decision`
+  abbrev pub deciding : 𝓢 .Row → Bool
+  deciding r = eqb (𝓢 .group r) (𝓢 .group (𝓒 .decide))
+
+  -- whether it is among the rows applied
   abbrev pub decides : Rows 𝓢 → Bool
   decides [] = false
-  decides (r ∷ log) = eqb (𝓢 .group r) (𝓢 .group (𝓒 .decide)) || decides log
+  decides (r ∷ log) = deciding r || decides log
 
   -- whether the deciding row was applied in the list of events
   abbrev pub decided : St → Bool
@@ -88,14 +92,19 @@ module _ {𝓢 : Store} (𝓒 : Change 𝓢) where
     done = finished (s .phase) (s .done) rest;
   }
 
-  -- a row is taken if its turn has come
+  -- a row is taken if its turn has come; otherwise the event does not count
+  abbrev pub turned : Bool → St → 𝓢 .Row → Rows 𝓢 → St
+  turned true s r rest = took s r rest
+  turned false s r rest = s
+
   abbrev pub turn : (s : St) → Option (Picked (s .waiting)) → St
   turn s none = s
-  turn s (some p) = let t = took s (p .0) (p .1) in cond (lowest (𝓢 .group) (𝓢 .group (p .0)) (p .1)) t s
+  turn s (some p) = turned (lowest (𝓢 .group) (𝓢 .group (p .0)) (p .1)) s (p .0) (p .1)
 
-  -- a row is tried on the image and refused
-  abbrev pub tried : St → 𝓢 .Row → St
-  tried s r = record { img = 𝓢 .put (s .img) r; waiting = s .waiting; phase = s .phase; applied = s .applied; done = s .done }
+  -- a row is tried on the image: one that is accepted is no event
+  abbrev pub tried : Bool → St → 𝓢 .Row → St
+  tried true s r = s
+  tried false s r = record { img = 𝓢 .put (s .img) r; waiting = s .waiting; phase = s .phase; applied = s .applied; done = s .done }
 
   -- recovery answered: its rows wait, or nothing does
   abbrev pub answered : St → Option (Rows 𝓢) → St
@@ -104,7 +113,7 @@ module _ {𝓢 : Store} (𝓒 : Change 𝓢) where
 
   abbrev pub step : St → Event (𝓢 .Row) → St
   step s (apply i) = turn s (pick i (s .waiting))
-  step s (stray r) = let t = tried s r in cond (𝓢 .accepts (s .img) r) s t
+  step s (stray r) = tried (𝓢 .accepts (s .img) r) s r
   step s (crash false) = answered s none
   step s (crash true) = answered s (𝓒 .recover (s .img))
 

@@ -1,17 +1,17 @@
 -- The invariant of a run, kept by every event. Assumes nothing.
 use mathlib.Core.Path.{_≡_, refl, sym, ap, _∙_, subst}
 use mathlib.Core.Logic.{_⊎_, inl, inr, ⊎-elim, _≢_, _↔_}
-use mathlib.Core.Bool.{Bool, true, false, not, _||_, cond}
+use mathlib.Core.Bool.{Bool, true, false, not, _||_}
 use mathlib.Core.List.{List, [], _∷_, _++_}
 use mathlib.Core.Option.{Option, none, some}
 use Prim.Native.Nat.{ℕ, _≤_, _<_}
 use native.Mathlib.Omega.{arith}
-use lib.Dec.{T, eqb, eqb→eq, eqb-refl}
+use lib.Dec.{T, eqb→eq, eqb-refl}
 use Rattle.journal.specs.Pick.{All, Has, Empty, Pick, Picked, pick, Part, ahead, middle, behind, part-pick, all-pick, all-map, all-has, all-join}
 use Rattle.journal.specs.Turn.{lowest, Low, lowest-low}
 use Rattle.journal.specs.Store.{Store, Rows}
 use Rattle.journal.specs.Change.{Change, plan, goal}
-use Rattle.journal.specs.Events.{Event, apply, stray, crash, Phase, own, recovering, stopped, noted, finished, through, St, decides, decided, start, took, turn, tried, answered, step, run}
+use Rattle.journal.specs.Events.{Event, apply, stray, crash, Phase, own, recovering, stopped, noted, finished, through, St, deciding, decides, decided, start, took, turned, turn, tried, answered, step, run}
 use Rattle.journal.specs.Obligations.{OnTheWay, Settles, Ahead, Behind, Orderly, Obligations}
 use Rattle.journal.specs.Settle.{Settling, settle-apply, goal-on, nothing-left, ends}
 use Rattle.journal.specs.Opening.{Opening, ahead-apply, decide-apply}
@@ -40,27 +40,30 @@ module _ {𝓢 : Store} (𝓒 : Change 𝓢) where
 
   -- ---- the decision
 
-  undecided : (log : Rows 𝓢) → All (λ r. 𝓢 .group r < 𝓢 .group (𝓒 .decide)) log → decides 𝓒 log ≡ false
-  undecided [] h = refl
-  undecided (r ∷ log) h = go (eqb (𝓢 .group r) (𝓢 .group (𝓒 .decide))) (eqb→eq (𝓢 .group r) (𝓢 .group (𝓒 .decide))) (undecided log (h .1))
-    where
-      go : (b : Bool) → (T b → 𝓢 .group r ≡ 𝓢 .group (𝓒 .decide)) → decides 𝓒 log ≡ false → b || decides 𝓒 log ≡ false
-      go true e k = absurd (omega (arith, e tt, h .0))
-      go false e k = k
+  self-decides : T (deciding 𝓒 (𝓒 .decide))
+  self-decides = eqb-refl (𝓢 .group (𝓒 .decide))
 
   now-decided : {r : 𝓢 .Row} (log : Rows 𝓢) → r ≡ 𝓒 .decide → decides 𝓒 (r ∷ log) ≡ true
-  now-decided {r} log e = rw e (go (eqb (𝓢 .group (𝓒 .decide)) (𝓢 .group (𝓒 .decide))) (eqb-refl (𝓢 .group (𝓒 .decide))))
+  now-decided {r} log e = go (deciding 𝓒 r) (subst (λ (q : 𝓢 .Row). T (deciding 𝓒 q)) (sym e) self-decides)
     where
       go : (b : Bool) → T b → b || decides 𝓒 log ≡ true
       go true t = refl
       go false t = absurd t
 
   still-decided : (r : 𝓢 .Row) (log : Rows 𝓢) → decides 𝓒 log ≡ true → decides 𝓒 (r ∷ log) ≡ decides 𝓒 log
-  still-decided r log e = go (eqb (𝓢 .group r) (𝓢 .group (𝓒 .decide)))
+  still-decided r log e = go (deciding 𝓒 r)
     where
       go : (b : Bool) → b || decides 𝓒 log ≡ decides 𝓒 log
       go true = sym e
       go false = refl
+
+  undecided : (log : Rows 𝓢) → All (λ r. 𝓢 .group r < 𝓢 .group (𝓒 .decide)) log → decides 𝓒 log ≡ false
+  undecided [] h = refl
+  undecided (r ∷ log) h = go (deciding 𝓒 r) (eqb→eq (𝓢 .group r) (𝓢 .group (𝓒 .decide))) (undecided log (h .1))
+    where
+      go : (b : Bool) → (T b → 𝓢 .group r ≡ 𝓢 .group (𝓒 .decide)) → decides 𝓒 log ≡ false → b || decides 𝓒 log ≡ false
+      go true e k = absurd (omega (arith, e tt, h .0))
+      go false e k = k
 
   -- the test by group is the deciding row itself
   pub decision-of : (log : Rows 𝓢) → All Logged log → T (decides 𝓒 log) ↔ Has log (𝓒 .decide)
@@ -68,7 +71,7 @@ module _ {𝓢 : Store} (𝓒 : Change 𝓢) where
     where
       there : (log : Rows 𝓢) → All Logged log → T (decides 𝓒 log) → Has log (𝓒 .decide)
       there [] h t = absurd t
-      there (r ∷ log) h t = go (eqb (𝓢 .group r) (𝓢 .group (𝓒 .decide))) (eqb→eq (𝓢 .group r) (𝓢 .group (𝓒 .decide))) (there log (h .1)) t
+      there (r ∷ log) h t = go (deciding 𝓒 r) (eqb→eq (𝓢 .group r) (𝓢 .group (𝓒 .decide))) (there log (h .1)) t
         where
           go : (b : Bool) → (T b → 𝓢 .group r ≡ 𝓢 .group (𝓒 .decide)) → (T (decides 𝓒 log) → Has log (𝓒 .decide)) → T (b || decides 𝓒 log) → Has (r ∷ log) (𝓒 .decide)
           go true e k t = inl (⊎-elim (λ d. d) (λ n. absurd (n (e tt))) (h .0))
@@ -77,7 +80,7 @@ module _ {𝓢 : Store} (𝓒 : Change 𝓢) where
       back : (log : Rows 𝓢) → Has log (𝓒 .decide) → T (decides 𝓒 log)
       back [] a = absurd a
       back (r ∷ log) (inl e) = rw (now-decided log e) tt
-      back (r ∷ log) (inr a) = go (eqb (𝓢 .group r) (𝓢 .group (𝓒 .decide))) (back log a)
+      back (r ∷ log) (inr a) = go (deciding 𝓒 r) (back log a)
         where
           go : (b : Bool) → T (decides 𝓒 log) → T (b || decides 𝓒 log)
           go true t = tt
@@ -162,14 +165,14 @@ module _ {𝓢 : Store} (𝓒 : Change 𝓢) where
     turn-inv s none h = h
     turn-inv s (some p) h = go (lowest (𝓢 .group) (𝓢 .group (p .0)) (p .1)) (lowest-low (𝓢 .group) (p .0) (p .1))
       where
-        go : (b : Bool) → (T b → Low (𝓢 .group) (p .0) (p .1)) → Inv (cond b (took 𝓒 s (p .0) (p .1)) s)
+        go : (b : Bool) → (T b → Low (𝓢 .group) (p .0) (p .1)) → Inv (turned 𝓒 b s (p .0) (p .1))
         go true f = took-inv s p (f tt) h
         go false f = h
 
-    pub stray-inv : (s : St 𝓒) (r : 𝓢 .Row) → Inv s → Inv (cond (𝓢 .accepts (s .img) r) s (tried 𝓒 s r))
+    pub stray-inv : (s : St 𝓒) (r : 𝓢 .Row) → Inv s → Inv (tried 𝓒 (𝓢 .accepts (s .img) r) s r)
     stray-inv s r h = go (𝓢 .accepts (s .img) r) (𝓢 .refuses (s .img) r)
       where
-        go : (b : Bool) → (T (not b) → 𝓢 .put (s .img) r ≡ s .img) → Inv (cond b s (tried 𝓒 s r))
+        go : (b : Bool) → (T (not b) → 𝓢 .put (s .img) r ≡ s .img) → Inv (tried 𝓒 b s r)
         go true f = h
         go false f = rw (f tt) h
 
@@ -193,8 +196,8 @@ module _ {𝓢 : Store} (𝓒 : Change 𝓢) where
         let w = 𝓞 .recovers (decided 𝓒 s) (s .img) i in
         rw (w .answer) (settling (logged-of s h) (record {
           inside = i;
-          rows = w .settle;
           kept = w .cover;
+          rows = w .settle;
           ended = ends 𝓒 (goal-ok (𝓞 .orderly)) recovering (decided 𝓒 s) (s .done) (w .rows) (i .ok) (w .cover) (ended-of s h);
         }))
 

@@ -1,6 +1,6 @@
 -- A whole plan without a crash: every permitted order gives the image after. Assumes nothing.
 use mathlib.Core.Path.{_≡_, refl, ap, _∙_, subst}
-use mathlib.Core.Bool.{Bool, true, false, cond}
+use mathlib.Core.Bool.{Bool, true, false}
 use mathlib.Core.List.{List, [], _∷_}
 use mathlib.Core.Option.{Option, none, some}
 use Prim.Native.Nat.{ℕ}
@@ -9,7 +9,7 @@ use Rattle.journal.specs.Pick.{All, Empty, Pick, here, Picked, pick}
 use Rattle.journal.specs.Turn.{lowest, Low, lowest-low, low-lowest}
 use Rattle.journal.specs.Store.{Store, Rows, putAll}
 use Rattle.journal.specs.Change.{Change, plan}
-use Rattle.journal.specs.Events.{Event, apply, stray, crash, Phase, own, through, St, decided, start, took, turn, tried, step, run}
+use Rattle.journal.specs.Events.{Event, apply, stray, crash, Phase, own, through, St, decided, start, turned, turn, tried, step, run}
 use Rattle.journal.specs.Obligations.{Orderly}
 use Rattle.journal.specs.Invariant.{Holds, Inv, whole, took-inv, turn-inv, stray-inv, start-inv}
 
@@ -59,7 +59,7 @@ module _ {𝓢 : Store} (𝓒 : Change 𝓢) where
   pub step-phase : (s : St 𝓒) (e : Event (𝓢 .Row)) → NoCrash e → step 𝓒 s e .phase ≡ s .phase
   step-phase s (apply i) n = picked (pick i (s .waiting))
     where
-      go : (b : Bool) (p : Picked (s .waiting)) → cond b (took 𝓒 s (p .0) (p .1)) s .phase ≡ s .phase
+      go : (b : Bool) (p : Picked (s .waiting)) → turned 𝓒 b s (p .0) (p .1) .phase ≡ s .phase
       go true p = refl
       go false p = refl
 
@@ -68,7 +68,7 @@ module _ {𝓢 : Store} (𝓒 : Change 𝓢) where
       picked (some p) = go (lowest (𝓢 .group) (𝓢 .group (p .0)) (p .1)) p
   step-phase s (stray r) n = go (𝓢 .accepts (s .img) r)
     where
-      go : (b : Bool) → cond b s (tried 𝓒 s r) .phase ≡ s .phase
+      go : (b : Bool) → tried 𝓒 b s r .phase ≡ s .phase
       go true = refl
       go false = refl
   step-phase s (crash b) n = absurd n

@@ -44,10 +44,10 @@ module _ {𝓢 : Store} (𝓒 : Change 𝓢) where
   pub record Settling (phase : Phase) (d done : Bool) (X : 𝓢 .Img) (W : Rows 𝓢) : Type 0 where
     -- the image is on the way
     pub inside : OnTheWay 𝓒 d X
+    -- what is known in its phase
+    pub kept : Kept phase d X W
     -- each waiting row leads to the goal
     pub rows : All (Settles 𝓒 d) W
-    -- they leave out nothing
-    pub kept : Kept phase d X W
     -- once a recovery is done the image is the goal
     pub ended : T done → X ≡ goal 𝓒 d
 
