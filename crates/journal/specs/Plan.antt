@@ -116,15 +116,21 @@ module _ (𝓢 : Store) where
   pub record Recovers (p : Plan) (recover : 𝓢 .Img → Option (Rows 𝓢)) : Type 0 where
     -- the rows that take the call back
     pub undo : Rows 𝓢
-    -- each leads back to the image before
+    -- each leads to the image before
     pub undoes : All (Settles (change p recover) false) undo
     -- and they write all that the rows ahead of the decision write
     pub undo-all : (k : 𝓢 .Key) → Covers 𝓢 (aheadOf (p .set) (p .decider)) k → Covers 𝓢 undo k
+    -- the rows that finish it; the plan's own rows behind the decision will do
+    pub redo : Rows 𝓢
+    -- each leads to the image after
+    pub redoes : All (Settles (change p recover) true) redo
+    -- and they write all that the rows behind the decision write
+    pub redo-all : (k : 𝓢 .Key) → Covers 𝓢 (behindOf p) k → Covers 𝓢 redo k
     -- nothing to do on the image before
     pub at-before : recover (p .before) ≡ some []
     -- nor on the image after
     pub at-after : recover (afterOf p) ≡ some []
     -- journal record set, but undecided: the call is taken back
     pub back : (X : 𝓢 .Img) → ByRow (p .decider) → OnTheWay (change p recover) false X → 𝓢 .get X (𝓢 .key (p .set)) ≡ 𝓢 .body (p .set) → recover X ≡ some undo
-    -- journal record set, and decided: the rest is written as the plan would have written it
-    pub on : (X : 𝓢 .Img) → OnTheWay (change p recover) true X → 𝓢 .get X (𝓢 .key (p .set)) ≡ 𝓢 .body (p .set) → recover X ≡ some (behindOf p)
+    -- journal record set, and decided: it is finished
+    pub on : (X : 𝓢 .Img) → OnTheWay (change p recover) true X → 𝓢 .get X (𝓢 .key (p .set)) ≡ 𝓢 .body (p .set) → recover X ≡ some redo

@@ -132,31 +132,43 @@ module _ {𝓢 : Store} (p : Plan 𝓢) (recover : 𝓢 .Img → Option (Rows �
       go (yes e) = inr (rw e j)
       go (no n) = ⊎-elim (λ q. inr (f k q)) inl (i .fixed k n)
 
-  behind-all : All (Settles 𝓒 true) (behindOf 𝓢 p)
+  -- the plan's own rows behind the decision lead to the image after
+  pub behind-all : All (Settles 𝓒 true) (behindOf 𝓢 p)
   behind-all = all-map (Behind 𝓒) (Settles 𝓒 true) (λ r h. h .settles) (behindOf 𝓢 p) behind-settle
 
-  behind-cover : {X : 𝓢 .Img} → OnTheWay 𝓒 true X → Cover 𝓒 true X (behindOf 𝓢 p)
-  behind-cover i = cover-of true (behindOf 𝓢 p) i (λ k c. any-left (λ r. 𝓢 .key r ≡ k) (p .rest) (p .clear ∷ []) c) clears-end
+  -- the records pending on either side, and the journal's, are among those that the rows on that side write
+  abbrev pub side : Bool → Rows 𝓢
+  side false = aheadOf (p .set) (p .decider)
+  side true = behindOf 𝓢 p
 
-  -- once decided, the plan's own later rows give the image after: what recovery has to show of its outcome
-  pub redone : (X : 𝓢 .Img) → OnTheWay 𝓒 true X → putAll 𝓢 X (behindOf 𝓢 p) ≡ afterOf 𝓢 p
-  redone X i = settled 𝓒 (goal-ok 𝓒 orderly) true (behindOf 𝓢 p) (i .ok) behind-all (behind-cover i)
+  -- on that side the journal record may be set
+  abbrev pub Open : Bool → Type 0
+  Open false = ByRow (p .decider)
+  Open true = Unit {0}
 
-  module _ (undo : Rows 𝓢) (undoes : All (Settles 𝓒 false) undo) (undo-all : (k : 𝓢 .Key) → Covers 𝓢 (aheadOf (p .set) (p .decider)) k → Covers 𝓢 undo k) where
-    undo-cover : {X : 𝓢 .Img} → ByRow (p .decider) → OnTheWay 𝓒 false X → Cover 𝓒 false X undo
-    undo-cover b i = cover-of false undo i (λ k c. undo-all k (in-ahead (p .decider) k c)) (undo-all (𝓢 .key (p .set)) (in-first (p .decider) b))
-      where
-        in-ahead : (D : Decider (𝓢 .Row)) (k : 𝓢 .Key) → Covers 𝓢 (createdOf D) k → Covers 𝓢 (aheadOf (p .set) D) k
-        in-ahead (by-row created r) k c = inr c
-        in-ahead by-journal k c = absurd c
+  side-pending : (d : Bool) (k : 𝓢 .Key) → pendingOf 𝓢 p d k → Covers 𝓢 (side d) k
+  side-pending false k c = go (p .decider) c
+    where
+      go : (D : Decider (𝓢 .Row)) → Covers 𝓢 (createdOf D) k → Covers 𝓢 (aheadOf (p .set) D) k
+      go (by-row created r) c = inr c
+      go by-journal c = absurd c
+  side-pending true k c = any-left (λ r. 𝓢 .key r ≡ k) (p .rest) (p .clear ∷ []) c
 
-        in-first : (D : Decider (𝓢 .Row)) → ByRow D → Covers 𝓢 (aheadOf (p .set) D) (𝓢 .key (p .set))
-        in-first (by-row created r) b = inl refl
-        in-first by-journal b = absurd b
+  side-journal : (d : Bool) → Open d → Covers 𝓢 (side d) (𝓢 .key (p .set))
+  side-journal false b = go (p .decider) b
+    where
+      go : (D : Decider (𝓢 .Row)) → ByRow D → Covers 𝓢 (aheadOf (p .set) D) (𝓢 .key (p .set))
+      go (by-row created r) b = inl refl
+      go by-journal b = absurd b
+  side-journal true b = clears-end
 
-    -- while undecided, the undoing rows give the image before
-    pub undone : ByRow (p .decider) → (X : 𝓢 .Img) → OnTheWay 𝓒 false X → putAll 𝓢 X undo ≡ p .before
-    undone b X i = settled 𝓒 (goal-ok 𝓒 orderly) false undo (i .ok) undoes (undo-cover b i)
+  -- rows that lead to the goal and write all that the rows on that side write: what recovery has to show of its outcome
+  module _ (d : Bool) (us : Rows 𝓢) (us-all : (k : 𝓢 .Key) → Covers 𝓢 (side d) k → Covers 𝓢 us k) {X : 𝓢 .Img} (b : Open d) (i : OnTheWay 𝓒 d X) where
+    side-cover : Cover 𝓒 d X us
+    side-cover = cover-of d us i (λ k c. us-all k (side-pending d k c)) (us-all (𝓢 .key (p .set)) (side-journal d b))
+
+    pub reached : All (Settles 𝓒 d) us → putAll 𝓢 X us ≡ goal 𝓒 d
+    reached h = settled 𝓒 (goal-ok 𝓒 orderly) d us (i .ok) h side-cover
 
   module _ (ρ : Recovers 𝓢 p recover) where
     by-row-of : (D : Decider (𝓢 .Row)) → 𝓢 .key (decideOf (p .set) D) ≢ 𝓢 .key (p .set) → ByRow D
@@ -168,10 +180,10 @@ module _ {𝓢 : Store} (p : Plan 𝓢) (recover : 𝓢 .Img → Option (Rows �
     at-goal true = ρ .at-after
 
     when-set : (d : Bool) (X : 𝓢 .Img) → OnTheWay 𝓒 d X → 𝓢 .get X (𝓢 .key (p .set)) ≡ 𝓢 .body (p .set) → MayMark 𝓒 d → Recovery 𝓒 d X
-    when-set true X i m k = record { rows = behindOf 𝓢 p; answer = ρ .on X i m; settle = behind-all; cover = behind-cover i }
+    when-set true X i m k = record { rows = ρ .redo; answer = ρ .on X i m; settle = ρ .redoes; cover = side-cover true (ρ .redo) (ρ .redo-all) tt i }
     when-set false X i m k =
         let b = by-row-of (p .decider) k in
-        record { rows = ρ .undo; answer = ρ .back X b i m; settle = ρ .undoes; cover = undo-cover (ρ .undo) (ρ .undoes) (ρ .undo-all) b i }
+        record { rows = ρ .undo; answer = ρ .back X b i m; settle = ρ .undoes; cover = side-cover false (ρ .undo) (ρ .undo-all) b i }
 
     -- all that the crash theorem asks
     pub journaled : Obligations 𝓒
