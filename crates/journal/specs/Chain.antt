@@ -7,14 +7,14 @@ use mathlib.Core.Option.{Option}
 use Prim.Native.Nat.{ℕ, zero, suc, _+_, _≤_}
 use native.Mathlib.Omega.{arith}
 use lib.Dec.{T}
-use Rattle.journal.specs.Pick.{All, Empty}
+use Rattle.journal.specs.Pick.{All, Empty, empty-null}
 use Rattle.journal.specs.Store.{Store, Rows}
 use Rattle.journal.specs.Change.{Change, plan, goal}
 use Rattle.journal.specs.Events.{Event, apply, stray, crash, Phase, own, recovering, stopped, through, St, decided, begin, start, step}
 use Rattle.journal.specs.Obligations.{Obligations}
 use Rattle.journal.specs.Invariant.{Inv, whole, ended-of, start-inv, step-inv}
 use Rattle.journal.specs.Crash.{Safe, safe-of}
-use Rattle.journal.specs.Order.{NoCrash, empty-through, step-phase}
+use Rattle.journal.specs.Order.{NoCrash, step-phase}
 
 -- ---- the queue
 
@@ -225,4 +225,4 @@ module _ {𝓢 : Store} {recover : 𝓢 .Img → Option (Rows 𝓢)} where
     -- every permitted order to the end gives the image of all calls, done one after another
     pub every-order : (es : List (Event (𝓢 .Row))) → All NoCrash es → Empty (play queue es .state .waiting)
         → play queue es .state .img ≡ imageOf (calls whole-chain) whole-chain
-    every-order es n e = chain-safe es .ordered (rw (play-own queue es n refl) (empty-through (play queue es .state .waiting) e)) .1
+    every-order es n e = chain-safe es .ordered (rw (play-own queue es n refl) (empty-null (play queue es .state .waiting) e)) .1

@@ -12,3 +12,4 @@ pub mod Order
 pub mod Plan
 pub mod Planned
 pub mod Chain
+pub mod Finish

@@ -5,7 +5,7 @@ use mathlib.Core.List.{List, [], _∷_}
 use mathlib.Core.Option.{Option, none, some}
 use Prim.Native.Nat.{ℕ}
 use lib.Dec.{T}
-use Rattle.journal.specs.Pick.{All, Empty, Pick, here, Picked, pick}
+use Rattle.journal.specs.Pick.{All, Empty, empty-null, Pick, here, Picked, pick}
 use Rattle.journal.specs.Turn.{lowest, Low, lowest-low, low-lowest}
 use Rattle.journal.specs.Store.{Store, Rows, putAll}
 use Rattle.journal.specs.Change.{Change, plan}
@@ -51,10 +51,6 @@ NoCrash (apply i) = Unit {0}
 NoCrash (stray r) = Unit {0}
 NoCrash (crash b) = ⊥
 
-pub empty-through : {R : Type 0} (W : List R) → Empty W → T (through own W)
-empty-through [] e = tt
-empty-through (r ∷ W) e = absurd e
-
 module _ {𝓢 : Store} (𝓒 : Change 𝓢) where
   pub step-phase : (s : St 𝓒) (e : Event (𝓢 .Row)) → NoCrash e → step 𝓒 s e .phase ≡ s .phase
   step-phase s (apply i) n = picked (pick i (s .waiting))
@@ -88,4 +84,4 @@ module _ {𝓢 : Store} (𝓒 : Change 𝓢) where
       → run 𝓒 (start 𝓒) es .img ≡ 𝓒 .after
   whole-run 𝓞 es n e =
       let s = run 𝓒 (start 𝓒) es in
-      whole 𝓒 𝓞 (s .phase) (s .waiting) (rw (run-phase (start 𝓒) es n) (empty-through (s .waiting) e)) (run-calm 𝓞 (start 𝓒) es n (start-inv 𝓒 𝓞)) .1
+      whole 𝓒 𝓞 (s .phase) (s .waiting) (rw (run-phase (start 𝓒) es n) (empty-null (s .waiting) e)) (run-calm 𝓞 (start 𝓒) es n (start-inv 𝓒 𝓞)) .1

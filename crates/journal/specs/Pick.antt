@@ -47,9 +47,9 @@ module _ {A : Type 0} where
   pick zero (x ∷ xs) = some (x, xs, here)
   pick (suc n) (x ∷ xs) = further x xs (pick n xs)
 
-  pub null-empty : (xs : List A) → T (null xs) → Empty xs
-  null-empty [] h = tt
-  null-empty (x ∷ xs) h = absurd h
+  pub empty-null : (xs : List A) → Empty xs → T (null xs)
+  empty-null [] e = tt
+  empty-null (x ∷ xs) e = absurd e
 
   pub pick-full : {r : A} {xs ys : List A} → Pick r xs ys → Empty xs → ⊥
   pick-full here e = e
