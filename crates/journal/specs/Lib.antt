@@ -13,3 +13,4 @@ pub mod Plan
 pub mod Planned
 pub mod Chain
 pub mod Finish
+pub mod Example
