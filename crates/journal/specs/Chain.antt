@@ -1,45 +1,20 @@
--- A chain of calls, each planned on the image that the one before leaves, as a queue applies them. Assumes nothing.
-use mathlib.Core.Path.{_≡_, refl, sym, ap, _∙_, subst}
-use mathlib.Core.Logic.{_⊎_, inl, inr, ⊎-elim}
-use mathlib.Core.Bool.{Bool, true, false, cond}
+-- A queue of calls, crashed anywhere, gives the image of the first k; and played to the end, that of all. Assumes nothing.
+use mathlib.Core.Path.{_≡_, refl, sym, ap, _∙_}
+use mathlib.Core.Bool.{Bool, true, false}
 use mathlib.Core.List.{List, [], _∷_, _++_}
 use mathlib.Core.Option.{Option}
-use Prim.Native.Nat.{ℕ, zero, suc, _+_, _≤_}
+use Prim.Native.Nat.{ℕ, suc, _+_, _≤_}
 use native.Mathlib.Omega.{arith}
 use lib.Dec.{T}
 use Rattle.journal.specs.Pick.{All, Empty, empty-null}
 use Rattle.journal.specs.Store.{Store, Rows}
-use Rattle.journal.specs.Change.{Change, plan, goal}
-use Rattle.journal.specs.Events.{Event, apply, stray, crash, Phase, own, recovering, stopped, through, St, decided, begin, start, step}
+use Rattle.journal.specs.Change.{Change, goal}
+use Rattle.journal.specs.Events.{Event, own, through, St, decided, start}
 use Rattle.journal.specs.Obligations.{Obligations}
 use Rattle.journal.specs.Invariant.{Inv, whole, ended-of, start-inv, step-inv}
 use Rattle.journal.specs.Crash.{Safe, safe-of}
 use Rattle.journal.specs.Order.{NoCrash, step-phase}
-
--- ---- the queue
-
--- Calls from an image on. Recovery is one and the same for all of them: it does not know which call was in hand.
-pub data Chain (𝓢 : Store) (recover : 𝓢 .Img → Option (Rows 𝓢)) : 𝓢 .Img → Type 1 where
-  end : {X : 𝓢 .Img} → Chain 𝓢 recover X
-  call : {X : 𝓢 .Img} (𝓒 : Change 𝓢) → Obligations 𝓒 → 𝓒 .recover ≡ recover → 𝓒 .before ≡ X → Chain 𝓢 recover (𝓒 .after) → Chain 𝓢 recover X
-
--- The rows of one call are applied at a time: those of a later call wait for all of them.
-pub record Queue (𝓢 : Store) (recover : 𝓢 .Img → Option (Rows 𝓢)) : Type 1 where
-  -- the call in hand
-  pub change : Change 𝓢
-  -- what it owes
-  pub owed : Obligations change
-  -- the image, its rows that wait, and so on
-  pub state : St change
-  -- the calls queued after it
-  pub later : Chain 𝓢 recover (change .after)
-  -- how many deciding rows were applied for the calls before it
-  pub past : ℕ
-
--- a deciding row counts for one
-abbrev pub one : Bool → ℕ
-one false = 0
-one true = 1
+use Rattle.journal.specs.Queue.{Chain, end, call, Queue, one, calls, imageOf, decisions, stepped, over, onward, next, play}
 
 -- some row of a whole plan waits
 waits : {R : Type 0} (A : List R) (d : R) (B : List R) → T (through own (A ++ d ∷ B)) → ⊥
@@ -47,37 +22,6 @@ waits [] d B t = t
 waits (r ∷ A) d B t = t
 
 module _ {𝓢 : Store} {recover : 𝓢 .Img → Option (Rows 𝓢)} where
-  -- how many calls
-  abbrev pub calls : {X : 𝓢 .Img} → Chain 𝓢 recover X → ℕ
-  calls end = 0
-  calls (call 𝓒 o r e c) = suc (calls c)
-
-  -- the image of the first k calls, done one after another
-  abbrev pub imageOf : {X : 𝓢 .Img} → ℕ → Chain 𝓢 recover X → 𝓢 .Img
-  imageOf {X} zero c = X
-  imageOf {X} (suc k) end = X
-  imageOf {X} (suc k) (call 𝓒 o r e c) = imageOf k c
-
-  -- how many deciding rows were applied in the list of events
-  abbrev pub decisions : Queue 𝓢 recover → ℕ
-  decisions q = q .past + one (decided (q .change) (q .state))
-
-  -- the next call comes in hand
-  abbrev pub onward : (q : Queue 𝓢 recover) → Chain 𝓢 recover (q .change .after) → Queue 𝓢 recover
-  onward q end = q
-  onward q (call 𝓒 o r e c) = record { change = 𝓒; owed = o; state = begin 𝓒 (q .state .img); later = c; past = decisions q }
-
-  abbrev pub stepped : Queue 𝓢 recover → Event (𝓢 .Row) → Queue 𝓢 recover
-  stepped q e = record { change = q .change; owed = q .owed; state = step (q .change) (q .state) e; later = q .later; past = q .past }
-
-  -- an event befalls the call in hand; where its own rows have then all been applied, the next comes in hand. After a crash none does
-  abbrev pub next : Queue 𝓢 recover → Event (𝓢 .Row) → Queue 𝓢 recover
-  next q e = let r = stepped q e in let n = onward r (q .later) in cond (through (r .state .phase) (r .state .waiting)) n r
-
-  abbrev pub play : Queue 𝓢 recover → List (Event (𝓢 .Row)) → Queue 𝓢 recover
-  play q [] = q
-  play q (e ∷ es) = play (next q e) es
-
   -- ---- the claim
 
   pub record Queued {X : 𝓢 .Img} (c : Chain 𝓢 recover X) (q : Queue 𝓢 recover) : Type 0 where
@@ -88,7 +32,7 @@ module _ {𝓢 : Store} {recover : 𝓢 .Img → Option (Rows 𝓢)} where
     -- once the rows of a recovery have all been applied, the image is that of the first k calls, k by the deciding rows that were applied
     pub outcome : T (q .state .done) → q .state .img ≡ imageOf (decisions q) c
     -- once all rows of all calls have been applied, and no crash came, every call is decided and the image is that of all calls
-    pub ordered : T (through (q .state .phase) (q .state .waiting)) → (decisions q ≡ calls c) × (q .state .img ≡ imageOf (calls c) c)
+    pub ordered : T (over q) → (decisions q ≡ calls c) × (q .state .img ≡ imageOf (calls c) c)
 
   -- ---- the proof
 
@@ -112,8 +56,9 @@ module _ {𝓢 : Store} {recover : 𝓢 .Img → Option (Rows 𝓢)} where
     -- no call was left out
     pub total : calls c ≡ suc (q .past + calls (q .later))
 
-  abbrev pub Through : Queue 𝓢 recover → Type 0
-  Through q = T (through (q .state .phase) (q .state .waiting))
+  -- the call in hand is over only if it is the last
+  abbrev pub Last : Queue 𝓢 recover → Type 0
+  Last q = T (over q) → Ended (q .later)
 
   module _ {X : 𝓢 .Img} (c : Chain 𝓢 recover X) where
     same-count : (m n : ℕ) → m ≡ n → imageOf m c ≡ imageOf n c
@@ -122,7 +67,7 @@ module _ {𝓢 : Store} {recover : 𝓢 .Img → Option (Rows 𝓢)} where
     -- the next call comes in hand: its plan was made for the image as it stands
     onward-along : (𝓒 : Change 𝓢) (𝓞 : Obligations 𝓒) (s : St 𝓒) (l : Chain 𝓢 recover (𝓒 .after)) (n : ℕ)
         → let q : Queue 𝓢 recover = record { change = 𝓒; owed = 𝓞; state = s; later = l; past = n } in
-        Along c q → Through q → Along c (onward q l) × (Through (onward q l) → Ended (onward q l .later))
+        Along c q → T (over q) → Along c (onward true q l) × Last (onward true q l)
     onward-along 𝓒 𝓞 s end n a t = (a, λ _. tt)
     onward-along 𝓒 𝓞 s (call 𝓒′ 𝓞′ r e l) n a t =
         let w = whole 𝓒 (𝓞 .orderly) (s .phase) (s .waiting) t (a .inv) in
@@ -139,24 +84,22 @@ module _ {𝓢 : Store} {recover : 𝓢 .Img → Option (Rows 𝓢)} where
     step-along : (q : Queue 𝓢 recover) (e : Event (𝓢 .Row)) → Along c q → Along c (stepped q e)
     step-along q e a = record { inv = step-inv (q .change) (q .owed) (q .state) e (a .inv); here = a .here; onwards = a .onwards; total = a .total }
 
-    next-along : (q : Queue 𝓢 recover) (e : Event (𝓢 .Row)) → Along c q → Along c (next q e) × (Through (next q e) → Ended (next q e .later))
-    next-along q e a = go (through (r .state .phase) (r .state .waiting)) (λ t. t) (λ t. t)
+    next-along : (q : Queue 𝓢 recover) (e : Event (𝓢 .Row)) → Along c q → Along c (next q e) × Last (next q e)
+    next-along q e a = go (over r) (λ t. t) (λ t. t)
       where
         r : Queue 𝓢 recover
         r = stepped q e
 
-        go : (b : Bool) → (T b → Through r) → (Through r → T b)
-            → Along c (cond b (onward r (q .later)) r) × (Through (cond b (onward r (q .later)) r) → Ended (cond b (onward r (q .later)) r .later))
+        go : (b : Bool) → (T b → T (over r)) → (T (over r) → T b) → Along c (onward b r (q .later)) × Last (onward b r (q .later))
         go true f g = onward-along (r .change) (r .owed) (r .state) (r .later) (r .past) (step-along q e a) (f tt)
         go false f g = (step-along q e a, λ t. absurd (g t))
 
-    play-along : (q : Queue 𝓢 recover) (es : List (Event (𝓢 .Row))) → Along c q → (Through q → Ended (q .later))
-        → Along c (play q es) × (Through (play q es) → Ended (play q es .later))
+    play-along : (q : Queue 𝓢 recover) (es : List (Event (𝓢 .Row))) → Along c q → Last q → Along c (play q es) × Last (play q es)
     play-along q [] a l = (a, l)
     play-along q (e ∷ es) a l = let n = next-along q e a in play-along (next q e) es (n .0) (n .1)
 
     -- what the invariant says of a queue
-    queued-of : (q : Queue 𝓢 recover) → Along c q → (Through q → Ended (q .later)) → Queued c q
+    queued-of : (q : Queue 𝓢 recover) → Along c q → Last q → Queued c q
     queued-of q a l = record {
       safe = safe-of (q .change) (q .owed) (q .state) (a .inv);
       counted = few (decided (q .change) (q .state));
@@ -177,7 +120,7 @@ module _ {𝓢 : Store} {recover : 𝓢 .Img → Option (Rows 𝓢)} where
         few true = omega (arith, a .total)
 
   step-own : (q : Queue 𝓢 recover) (e : Event (𝓢 .Row)) → NoCrash e → q .state .phase ≡ own → next q e .state .phase ≡ own
-  step-own q e n h = go (through (r .state .phase) (r .state .waiting))
+  step-own q e n h = go (over r) (q .later)
     where
       r : Queue 𝓢 recover
       r = stepped q e
@@ -185,13 +128,10 @@ module _ {𝓢 : Store} {recover : 𝓢 .Img → Option (Rows 𝓢)} where
       k : r .state .phase ≡ own
       k = step-phase (q .change) (q .state) e n ∙ h
 
-      on : (l : Chain 𝓢 recover (r .change .after)) → onward r l .state .phase ≡ own
-      on end = k
-      on (call 𝓒 o s e l) = refl
-
-      go : (b : Bool) → cond b (onward r (q .later)) r .state .phase ≡ own
-      go true = on (q .later)
-      go false = k
+      go : (b : Bool) (l : Chain 𝓢 recover (r .change .after)) → onward b r l .state .phase ≡ own
+      go false l = k
+      go true end = k
+      go true (call 𝓒 o s e l) = refl
 
   play-own : (q : Queue 𝓢 recover) (es : List (Event (𝓢 .Row))) → All NoCrash es → q .state .phase ≡ own → play q es .state .phase ≡ own
   play-own q [] n h = h
@@ -219,7 +159,7 @@ module _ {𝓢 : Store} {recover : 𝓢 .Img → Option (Rows 𝓢)} where
           total = omega arith;
         }
 
-        a : Along whole-chain (play queue es) × (Through (play queue es) → Ended (play queue es .later))
+        a : Along whole-chain (play queue es) × Last (play queue es)
         a = play-along whole-chain queue es first (λ t. absurd (waits (𝓒 .ahead) (𝓒 .decide) (𝓒 .behind) t))
 
     -- every permitted order to the end gives the image of all calls, done one after another

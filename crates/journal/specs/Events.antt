@@ -38,11 +38,11 @@ pub record State (I R : Type 0) : Type 0 where
   -- whether the rows of some recovery have all been applied
   pub done : Bool
 
--- a recovery's rows are not the call's own, so they are not written down
-abbrev pub noted {ℓ} : {R : Type ℓ} → Phase → R → List R → List R
-noted own r log = r ∷ log
-noted recovering r log = log
-noted stopped r log = log
+-- the log of the call's own rows: a recovery's rows are none of them
+abbrev pub logged {ℓ} : {R : Type ℓ} → Phase → R → List R → List R
+logged own r log = r ∷ log
+logged recovering r log = log
+logged stopped r log = log
 
 -- only a recovery whose rows have all been applied is done, and stays so
 abbrev pub finished : {R : Type 0} → Phase → Bool → List R → Bool
@@ -88,7 +88,7 @@ module _ {𝓢 : Store} (𝓒 : Change 𝓢) where
     img = 𝓢 .put (s .img) r;
     waiting = rest;
     phase = s .phase;
-    applied = noted (s .phase) r (s .applied);
+    applied = logged (s .phase) r (s .applied);
     done = finished (s .phase) (s .done) rest;
   }
 

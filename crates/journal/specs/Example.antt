@@ -15,7 +15,8 @@ use Rattle.journal.specs.Events.{Event, apply, stray, crash, decided, st
 use Rattle.journal.specs.Obligations.{OnTheWay, Settles, Obligations}
 use Rattle.journal.specs.Plan.{by-row, by-journal, Plan, afterOf, behindOf, change, WellFormed, Recovers}
 use Rattle.journal.specs.Planned.{clear-settles, behind-all, journaled}
-use Rattle.journal.specs.Chain.{Chain, end, call, Queue, queue, play, decisions, imageOf, calls}
+use Rattle.journal.specs.Queue.{end, call, Queue, play, decisions}
+use Rattle.journal.specs.Chain.{queue}
 
 -- ---- the store: four numbers, of which the first is the journal record
 

@@ -11,7 +11,7 @@ use Rattle.journal.specs.Pick.{All, Has, Empty, Pick, Picked, pick, Part
 use Rattle.journal.specs.Turn.{lowest, Low, lowest-low}
 use Rattle.journal.specs.Store.{Store, Rows}
 use Rattle.journal.specs.Change.{Change, plan, goal}
-use Rattle.journal.specs.Events.{Event, apply, stray, crash, Phase, own, recovering, stopped, noted, finished, through, St, deciding, decides, decided, start, took, turned, turn, tried, answered, step, run}
+use Rattle.journal.specs.Events.{Event, apply, stray, crash, Phase, own, recovering, stopped, logged, finished, through, St, deciding, decides, decided, start, took, turned, turn, tried, answered, step, run}
 use Rattle.journal.specs.Obligations.{OnTheWay, Settles, Ahead, Behind, Orderly, Obligations}
 use Rattle.journal.specs.Settle.{Settling, settle-apply, goal-on, nothing-left, ends}
 use Rattle.journal.specs.Opening.{Opening, ahead-apply, decide-apply}
@@ -133,7 +133,7 @@ module _ {𝓢 : Store} (𝓒 : Change 𝓢) where
     -- ---- each event keeps it
 
     settle-step : (ph : Phase) (done : Bool) (log : Rows 𝓢) {r : 𝓢 .Row} {X : 𝓢 .Img} {W W′ : Rows 𝓢} → All Logged log
-        → Settling 𝓒 ph (decides 𝓒 log) done X W → Pick r W W′ → Low (𝓢 .group) r W′ → Holds ph (noted ph r log) (finished ph done W′) (𝓢 .put X r) W′
+        → Settling 𝓒 ph (decides 𝓒 log) done X W → Pick r W W′ → Low (𝓢 .group) r W′ → Holds ph (logged ph r log) (finished ph done W′) (𝓢 .put X r) W′
     settle-step own done log {r} l s p low = settling
         (inr (let h = all-pick (λ q. 𝓢 .group (𝓒 .decide) < 𝓢 .group q) p (s .kept .2) .0 in omega arith), l)
         (rw (still-decided r log (s .kept .0)) (settle-apply 𝓒 goal-ok own (decides 𝓒 log) done s p low))
@@ -142,7 +142,7 @@ module _ {𝓢 : Store} (𝓒 : Change 𝓢) where
 
     open-step : (ph : Phase) (done : Bool) (log : Rows 𝓢) {r : 𝓢 .Row} {X : 𝓢 .Img} {W W′ : Rows 𝓢} → Fresh ph done
         → All (λ r. 𝓢 .group r < 𝓢 .group (𝓒 .decide)) log → (s : Opening 𝓒 X W) → Low (𝓢 .group) r W′
-        → Part r (𝓒 .decide) (s .left) (𝓒 .behind) W′ → Holds ph (noted ph r log) (finished ph done W′) (𝓢 .put X r) W′
+        → Part r (𝓒 .decide) (s .left) (𝓒 .behind) W′ → Holds ph (logged ph r log) (finished ph done W′) (𝓢 .put X r) W′
     open-step own false log f l s low (ahead p e) =
         opening tt (all-pick (Ahead 𝓒) p (s .rows) .0 .sooner, l) (rw e (ahead-apply 𝓒 s p (rw e at low)))
     open-step own false log {r} {X} {W′ = W′} f l s low (middle e w) =

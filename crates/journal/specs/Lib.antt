@@ -11,6 +11,7 @@ pub mod Crash
 pub mod Order
 pub mod Plan
 pub mod Planned
+pub mod Queue
 pub mod Chain
 pub mod Finish
 pub mod Example

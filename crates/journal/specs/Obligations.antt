@@ -26,7 +26,7 @@ module _ {𝓢 : Store} (𝓒 : Change 𝓢) where
     -- and, unless it is pending, as in the goal
     pub fixed : (k : 𝓢 .Key) → k ≢ 𝓒 .journal → 𝓒 .pending d k ⊎ (𝓢 .get X k ≡ 𝓢 .get (goal 𝓒 d) k)
     -- the journal record is set, or X is the goal itself
-    pub noted : ((𝓢 .get X (𝓒 .journal) ≡ 𝓒 .marked) × MayMark d) ⊎ (X ≡ goal 𝓒 d)
+    pub journal : ((𝓢 .get X (𝓒 .journal) ≡ 𝓒 .marked) × MayMark d) ⊎ (X ≡ goal 𝓒 d)
 
   -- ---- the rows
 

@@ -51,7 +51,7 @@ module _ {𝓢 : Store} (𝓒 : Change 𝓢) where
       ok = 𝓢 .put-ok o f;
       mixed = after-put 𝓢 o f (Mixed 𝓒) (λ n. inr (opens-final (a .opens) n)) (λ j _. i .mixed j);
       fixed = after-put 𝓢 o f (Fixed 𝓒 false) (λ n. ⊎-elim (λ e. absurd (n e)) inl (a .undone)) (λ j _. i .fixed j);
-      noted = inl (opens-mark o (a .opens) was, a .not-first);
+      journal = inl (opens-mark o (a .opens) was, a .not-first);
     };
     rows = rs .1;
     written = after-put 𝓢 o f (λ k b. k ≢ 𝓒 .journal → Covers 𝓢 (𝓒 .ahead) k → (b ≡ 𝓢 .get (𝓒 .after) k) ⊎ Covers 𝓢 A k)
@@ -99,7 +99,7 @@ module _ {𝓢 : Store} (𝓒 : Change 𝓢) where
       ok = 𝓢 .put-ok o f;
       mixed = after-put 𝓢 o f (Mixed 𝓒) (λ n. inr (opens-final (𝓞 .decide-row) n)) (λ j _. i .mixed j);
       fixed = λ k n. ⊎-elim inr (λ a. inl (unsure k n a)) (cover k);
-      noted = inl (opens-mark o (𝓞 .decide-row) was, tt);
+      journal = inl (opens-mark o (𝓞 .decide-row) was, tt);
     };
     rows = settle;
     kept = (refl, cover, all-map (Behind 𝓒) (λ r. 𝓢 .group (𝓒 .decide) < 𝓢 .group r) (λ r h. h .waits) (𝓒 .behind) (𝓞 .behind-rows));

@@ -190,5 +190,5 @@ module _ {𝓢 : Store} (p : Plan 𝓢) (recover : 𝓢 .Img → Option (Rows �
     journaled = record {
       orderly = orderly;
       recovers = λ d X i. ⊎-elim (λ m. when-set d X i (m .0) (m .1))
-          (λ e. record { rows = []; answer = rw e (at-goal d); settle = tt; cover = λ k. inl (rw e) }) (i .noted);
+          (λ e. record { rows = []; answer = rw e (at-goal d); settle = tt; cover = λ k. inl (rw e) }) (i .journal);
     }

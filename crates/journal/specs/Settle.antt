@@ -66,7 +66,7 @@ module _ {𝓢 : Store} (𝓒 : Change 𝓢) where
 
   module _ (goal-ok : (d : Bool) → 𝓢 .Ok (goal 𝓒 d)) where
     pub goal-on : (d : Bool) → OnTheWay 𝓒 d (goal 𝓒 d)
-    goal-on d = record { ok = goal-ok d; mixed = goal-mixed d; fixed = λ k n. inr refl; noted = inr refl }
+    goal-on d = record { ok = goal-ok d; mixed = goal-mixed d; fixed = λ k n. inr refl; journal = inr refl }
 
     pub nothing-left : (d : Bool) {X : 𝓢 .Img} → 𝓢 .Ok X → Cover 𝓒 d X [] → X ≡ goal 𝓒 d
     nothing-left d o c = 𝓢 .ext o (goal-ok d) (λ k. ⊎-elim (λ h. h) absurd (c k))
@@ -110,8 +110,8 @@ module _ {𝓢 : Store} (𝓒 : Change 𝓢) where
           ok = 𝓢 .put-ok (i .ok) (s .fits);
           mixed = after-put 𝓢 (i .ok) (s .fits) Mixed (rw (s .aims) (goal-mixed d (𝓢 .key r))) (λ j _. i .mixed j);
           fixed = after-put 𝓢 (i .ok) (s .fits) (Fixed d) (λ _. inr (s .aims)) (λ j _. i .fixed j);
-          noted = ⊎-elim (λ m. inl (𝓢 .get-other (i .ok) (s .fits) (𝓒 .journal) (λ e. n .elsewhere (sym e)) ∙ m .0, m .1))
-              (λ e. inr (on-goal d (i .ok) s e)) (i .noted);
+          journal = ⊎-elim (λ m. inl (𝓢 .get-other (i .ok) (s .fits) (𝓒 .journal) (λ e. n .elsewhere (sym e)) ∙ m .0, m .1))
+              (λ e. inr (on-goal d (i .ok) s e)) (i .journal);
         }
 
     pub ends : (ph : Phase) (d done : Bool) {X : 𝓢 .Img} (W : Rows 𝓢) → 𝓢 .Ok X → Cover 𝓒 d X W → (T done → X ≡ goal 𝓒 d)
