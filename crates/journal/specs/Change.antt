@@ -1,6 +1,6 @@
 -- A journaled change: what one call writes, and the rows in which it writes it. Assumes nothing.
 use mathlib.Core.Bool.{Bool, true, false}
-use mathlib.Core.List.{List, [], _∷_, _++_}
+use mathlib.Core.List.{_∷_, _++_}
 use mathlib.Core.Option.{Option}
 use Prim.Native.Nat.{ℕ}
 use Rattle.journal.specs.Store.{Store, Rows}

@@ -2,7 +2,7 @@
 use mathlib.Core.Path.{_≡_}
 use mathlib.Core.Logic.{_⊎_, _↔_}
 use mathlib.Core.List.{List}
-use mathlib.Core.Option.{Option, some}
+use mathlib.Core.Option.{some}
 use lib.Dec.{T}
 use Rattle.journal.specs.Pick.{All, Has, Empty, all-map}
 use Rattle.journal.specs.Turn.{Turn, has-turn}

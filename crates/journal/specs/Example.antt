@@ -1,18 +1,16 @@
 -- A small store and two calls that meet every demand: a created record, and a journal record that decides. Assumes nothing.
-use mathlib.Core.Path.{_≡_, refl, sym, ap, fun-ext}
-use mathlib.Core.Logic.{_⊎_, inl, inr, ⊎-elim, _≢_}
+use mathlib.Core.Path.{_≡_, refl, fun-ext}
+use mathlib.Core.Logic.{inl, inr, ⊎-elim, _≢_}
 use mathlib.Core.Bool.{Bool, true, false, not, cond}
 use mathlib.Core.List.{List, [], _∷_}
-use mathlib.Core.Option.{Option, none, some}
-use Prim.Native.Nat.{ℕ, zero, suc, _<_}
+use mathlib.Core.Option.{Option, some}
+use Prim.Native.Nat.{ℕ}
 use native.Mathlib.Omega.{arith}
 use native.Mathlib.Decide.{ℕ-discrete}
 use lib.Dec.{T, eqb, ltb, eqb→eq, eqb-refl}
-use Rattle.journal.specs.Pick.{All}
 use Rattle.journal.specs.Store.{Store, Rows}
-use Rattle.journal.specs.Change.{Change}
-use Rattle.journal.specs.Events.{Event, apply, stray, crash, decided, start, run}
-use Rattle.journal.specs.Obligations.{OnTheWay, Settles, Obligations}
+use Rattle.journal.specs.Events.{Event, apply, crash}
+use Rattle.journal.specs.Obligations.{Obligations}
 use Rattle.journal.specs.Plan.{by-row, by-journal, Plan, afterOf, behindOf, change, WellFormed, Recovers}
 use Rattle.journal.specs.Planned.{clear-settles, behind-all, journaled}
 use Rattle.journal.specs.Queue.{end, call, Queue, play, decisions}

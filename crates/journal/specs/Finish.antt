@@ -1,18 +1,18 @@
 -- Recovery can always be finished: after every list of events some further one ends with its rows all applied. Assumes nothing.
 use mathlib.Core.Path.{_≡_, refl, sym, subst}
-use mathlib.Core.Logic.{_⊎_, inl, inr, ⊎-elim}
+use mathlib.Core.Logic.{⊎-elim}
 use mathlib.Core.Bool.{Bool, true, false, _||_}
 use mathlib.Core.List.{List, [], _∷_}
 use mathlib.Core.Option.{Option, none, some}
-use Prim.Native.Nat.{ℕ, zero, suc, _≤_, _<_}
+use Prim.Native.Nat.{ℕ, zero, suc, _≤_}
 use native.Mathlib.Omega.{arith}
 use lib.Dec.{T}
 use lib.ListN.{length}
 use Rattle.journal.specs.Pick.{All, null, empty-null, Pick, here, there, Picked, pick}
-use Rattle.journal.specs.Turn.{lowest, Turn, has-turn}
+use Rattle.journal.specs.Turn.{lowest, has-turn}
 use Rattle.journal.specs.Store.{Store, Rows}
 use Rattle.journal.specs.Change.{Change}
-use Rattle.journal.specs.Events.{Event, apply, stray, crash, recovering, St, decided, start, turned, turn, answered, step, run}
+use Rattle.journal.specs.Events.{Event, apply, stray, crash, recovering, St, decided, start, turned, turn, step, run}
 use Rattle.journal.specs.Obligations.{Obligations}
 use Rattle.journal.specs.Invariant.{inside-of, run-inv, start-inv}
 

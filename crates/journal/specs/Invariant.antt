@@ -4,13 +4,13 @@ use mathlib.Core.Logic.{_⊎_, inl, inr, ⊎-elim, _≢_, _↔_}
 use mathlib.Core.Bool.{Bool, true, false, not, _||_}
 use mathlib.Core.List.{List, [], _∷_, _++_}
 use mathlib.Core.Option.{Option, none, some}
-use Prim.Native.Nat.{ℕ, _≤_, _<_}
+use Prim.Native.Nat.{_≤_, _<_}
 use native.Mathlib.Omega.{arith}
 use lib.Dec.{T, eqb→eq, eqb-refl}
 use Rattle.journal.specs.Pick.{All, Has, Empty, Pick, Picked, pick, Part, ahead, middle, behind, part-pick, all-pick, all-map, all-has, all-join}
 use Rattle.journal.specs.Turn.{lowest, Low, lowest-low}
 use Rattle.journal.specs.Store.{Store, Rows}
-use Rattle.journal.specs.Change.{Change, plan, goal}
+use Rattle.journal.specs.Change.{Change, goal}
 use Rattle.journal.specs.Events.{Event, apply, stray, crash, Phase, own, recovering, stopped, logged, finished, through, St, deciding, decides, decided, start, took, turned, turn, tried, answered, step, run}
 use Rattle.journal.specs.Obligations.{OnTheWay, Settles, Ahead, Behind, Orderly, Obligations}
 use Rattle.journal.specs.Settle.{Settling, settle-apply, goal-on, nothing-left, ends}
@@ -86,10 +86,13 @@ module _ {𝓢 : Store} (𝓒 : Change 𝓢) where
           go true t = tt
           go false t = t
 
+  sooner-logged : (log : Rows 𝓢) → All (λ r. 𝓢 .group r < 𝓢 .group (𝓒 .decide)) log → All Logged log
+  sooner-logged log l = all-map (λ r. 𝓢 .group r < 𝓢 .group (𝓒 .decide)) Logged (λ r k. inr (omega arith)) log l
+
   -- ---- what the invariant says of a state
 
   pub logged-of : (s : St 𝓒) → Inv s → All Logged (s .applied)
-  logged-of s (opening f l h) = all-map (λ r. 𝓢 .group r < 𝓢 .group (𝓒 .decide)) Logged (λ r k. inr (omega arith)) (s .applied) l
+  logged-of s (opening f l h) = sooner-logged (s .applied) l
   logged-of s (settling l h) = l
 
   pub inside-of : (s : St 𝓒) → Inv s → OnTheWay 𝓒 (decided 𝓒 s) (s .img)
@@ -147,7 +150,7 @@ module _ {𝓢 : Store} (𝓒 : Change 𝓢) where
         opening tt (all-pick (Ahead 𝓒) p (s .rows) .0 .sooner, l) (rw e (ahead-apply 𝓒 s p (rw e at low)))
     open-step own false log {r} {X} {W′ = W′} f l s low (middle e w) =
         let k : Low (𝓢 .group) (𝓒 .decide) (s .left ++ 𝓒 .behind) = rw (e, w) at low in
-        settling (inl e, all-map (λ r. 𝓢 .group r < 𝓢 .group (𝓒 .decide)) Logged (λ r k. inr (omega arith)) log l)
+        settling (inl e, sooner-logged log l)
         (rw (now-decided log e, e, w) (decide-apply 𝓒 𝓞 s k))
     open-step own false log {r} {W′ = W′} f l s low (behind p a) =
         let h = all-pick (Behind 𝓒) p (𝓞 .behind-rows) .0 .waits in

@@ -2,10 +2,9 @@
 use mathlib.Core.Path.{_≡_}
 use mathlib.Core.Logic.{_⊎_, _≢_}
 use mathlib.Core.Bool.{Bool, true, false}
-use mathlib.Core.List.{List, _∷_, _++_}
-use mathlib.Core.Option.{Option, some}
-use Prim.Native.Nat.{ℕ, _≤_, _<_}
-use Rattle.journal.specs.Pick.{All, Any}
+use mathlib.Core.Option.{some}
+use Prim.Native.Nat.{_≤_, _<_}
+use Rattle.journal.specs.Pick.{All}
 use Rattle.journal.specs.Store.{Store, Rows, Covers}
 use Rattle.journal.specs.Change.{Change, plan, goal}
 

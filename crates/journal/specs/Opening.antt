@@ -1,14 +1,14 @@
 -- Before the decision: rows ahead of the deciding one are applied, and then that one. Assumes nothing.
 use mathlib.Core.Path.{_≡_, refl, sym, _∙_, subst}
 use mathlib.Core.Logic.{_⊎_, inl, inr, ⊎-elim, _≢_}
-use mathlib.Core.Bool.{Bool, true, false}
-use mathlib.Core.List.{List, [], _∷_, _++_}
-use Prim.Native.Nat.{ℕ, _≤_, _<_}
+use mathlib.Core.Bool.{true, false}
+use mathlib.Core.List.{[], _∷_, _++_}
+use Prim.Native.Nat.{_≤_, _<_}
 use native.Mathlib.Omega.{arith}
-use Rattle.journal.specs.Pick.{All, Any, Pick, all-pick, any-pick, all-left, all-map, all-zip, all-any, any-split}
+use Rattle.journal.specs.Pick.{All, Pick, all-pick, any-pick, all-left, all-map, all-zip, all-any, any-split}
 use Rattle.journal.specs.Turn.{Low}
 use Rattle.journal.specs.Store.{Store, Rows, Covers, after-put}
-use Rattle.journal.specs.Change.{Change, goal}
+use Rattle.journal.specs.Change.{Change}
 use Rattle.journal.specs.Events.{own}
 use Rattle.journal.specs.Obligations.{OnTheWay, Sets, Writes, Opens, Settles, Clears, Mends, Cover, Ahead, Behind, Orderly}
 use Rattle.journal.specs.Settle.{Mixed, Fixed, Settling}

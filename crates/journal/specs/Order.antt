@@ -1,15 +1,14 @@
 -- A whole plan without a crash: every permitted order gives the image after. Assumes nothing.
-use mathlib.Core.Path.{_≡_, refl, ap, _∙_, subst}
+use mathlib.Core.Path.{_≡_, refl, _∙_}
 use mathlib.Core.Bool.{Bool, true, false}
 use mathlib.Core.List.{List, [], _∷_}
 use mathlib.Core.Option.{Option, none, some}
-use Prim.Native.Nat.{ℕ}
 use lib.Dec.{T}
 use Rattle.journal.specs.Pick.{All, Empty, empty-null, Pick, here, Picked, pick}
 use Rattle.journal.specs.Turn.{lowest, Low, lowest-low, low-lowest}
 use Rattle.journal.specs.Store.{Store, Rows, putAll}
 use Rattle.journal.specs.Change.{Change, plan}
-use Rattle.journal.specs.Events.{Event, apply, stray, crash, Phase, own, through, St, decided, start, turned, turn, tried, step, run}
+use Rattle.journal.specs.Events.{Event, apply, stray, crash, own, St, start, turned, turn, tried, step, run}
 use Rattle.journal.specs.Obligations.{Orderly}
 use Rattle.journal.specs.Invariant.{Holds, Inv, whole, took-inv, turn-inv, stray-inv, start-inv}
 

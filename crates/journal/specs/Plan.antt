@@ -1,11 +1,10 @@
 -- A change given by its rows, and what is asked of them and of recovery. Assumes nothing.
 use mathlib.Core.Path.{_≡_}
-use mathlib.Core.Logic.{_≢_}
 use mathlib.Core.Bool.{Bool, true, false}
 use mathlib.Core.List.{List, [], _∷_, _++_}
 use mathlib.Core.Option.{Option, some}
-use Prim.Native.Nat.{ℕ, _<_}
-use Rattle.journal.specs.Pick.{All, Any}
+use Prim.Native.Nat.{_<_}
+use Rattle.journal.specs.Pick.{All}
 use Rattle.journal.specs.Store.{Store, Rows, Covers, Spares, Distinct, putAll}
 use Rattle.journal.specs.Change.{Change}
 use Rattle.journal.specs.Obligations.{OnTheWay, Settles}

@@ -1,14 +1,14 @@
 -- From rows of distinct records, and a recovery that fits them, to what the crash theorem asks. Assumes nothing.
-use mathlib.Core.Path.{_≡_, refl, sym, ap, _∙_, subst}
+use mathlib.Core.Path.{_≡_, refl, sym, ap, _∙_}
 use mathlib.Core.Logic.{_⊎_, inl, inr, ⊎-elim, _≢_}
 use mathlib.Core.Bool.{Bool, true, false}
 use mathlib.Core.List.{List, [], _∷_, _++_}
 use mathlib.Core.Option.{Option, some}
-use Prim.Native.Nat.{ℕ, _<_}
+use Prim.Native.Nat.{_<_}
 use native.Mathlib.Omega.{arith}
-use Rattle.journal.specs.Pick.{All, Any, Has, all-map, any-map, all-zip, all-any, all-has, has-all, all-right, all-join, any-left, any-right, any-split}
+use Rattle.journal.specs.Pick.{All, Any, Has, all-map, any-map, all-zip, all-has, has-all, all-right, all-join, any-left, any-right, any-split}
 use Rattle.journal.specs.Store.{Store, Rows, Covers, Spares, putAll, covers?, all-ok, all-other, all-same}
-use Rattle.journal.specs.Change.{Change, plan, goal}
+use Rattle.journal.specs.Change.{Change, goal}
 use Rattle.journal.specs.Obligations.{OnTheWay, MayMark, Opens, Settles, Cover, Ahead, Behind, Recovery, Orderly, Obligations}
 use Rattle.journal.specs.Settle.{settled}
 use Rattle.journal.specs.Invariant.{goal-ok}

@@ -1,12 +1,12 @@
 -- Rows that lead to a goal: applied in any permitted order they reach it, and every image between is on the way. Assumes nothing.
-use mathlib.Core.Path.{_≡_, refl, sym, ap, _∙_, subst}
+use mathlib.Core.Path.{_≡_, refl, sym, ap, _∙_}
 use mathlib.Core.Logic.{_⊎_, inl, inr, ⊎-elim, _≢_}
 use mathlib.Core.Bool.{Bool, true, false}
-use mathlib.Core.List.{List, [], _∷_, _++_}
-use Prim.Native.Nat.{ℕ, _≤_, _<_}
+use mathlib.Core.List.{[], _∷_}
+use Prim.Native.Nat.{_≤_, _<_}
 use native.Mathlib.Omega.{arith}
 use lib.Dec.{T}
-use Rattle.journal.specs.Pick.{All, Any, Empty, Pick, here, pick-full, all-pick, any-pick, all-zip, all-any}
+use Rattle.journal.specs.Pick.{All, Empty, Pick, here, pick-full, all-pick, any-pick, all-zip, all-any}
 use Rattle.journal.specs.Turn.{Low}
 use Rattle.journal.specs.Store.{Store, Rows, Covers, putAll, after-put}
 use Rattle.journal.specs.Change.{Change, goal}
