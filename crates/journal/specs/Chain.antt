@@ -148,19 +148,16 @@ module _ {𝓢 : Store} {recover : 𝓢 .Img → Option (Rows 𝓢)} where
     abbrev pub queue : Queue 𝓢 recover
     queue = record { change = 𝓒; owed = 𝓞; state = start 𝓒; later = later; past = 0 }
 
-    pub chain-safe : (es : List (Event (𝓢 .Row))) → Queued whole-chain (play queue es)
-    chain-safe es = queued-of whole-chain (play queue es) (a .0) (a .1)
-      where
-        first : Along whole-chain queue
-        first = record {
-          inv = start-inv 𝓒 (𝓞 .orderly);
-          here = refl;
-          onwards = λ j. same-count later (0 + j) j (omega arith);
-          total = omega arith;
-        }
+    pub chain-along : (es : List (Event (𝓢 .Row))) → Along whole-chain (play queue es) × Last (play queue es)
+    chain-along es = play-along whole-chain queue es (record {
+      inv = start-inv 𝓒 (𝓞 .orderly);
+      here = refl;
+      onwards = λ j. same-count later (0 + j) j (omega arith);
+      total = omega arith;
+    }) (λ t. absurd (waits (𝓒 .ahead) (𝓒 .decide) (𝓒 .behind) t))
 
-        a : Along whole-chain (play queue es) × Last (play queue es)
-        a = play-along whole-chain queue es first (λ t. absurd (waits (𝓒 .ahead) (𝓒 .decide) (𝓒 .behind) t))
+    pub chain-safe : (es : List (Event (𝓢 .Row))) → Queued whole-chain (play queue es)
+    chain-safe es = let a = chain-along es in queued-of whole-chain (play queue es) (a .0) (a .1)
 
     -- every permitted order to the end gives the image of all calls, done one after another
     pub every-order : (es : List (Event (𝓢 .Row))) → All NoCrash es → Empty (play queue es .state .waiting)

@@ -15,3 +15,4 @@ pub mod Queue
 pub mod Chain
 pub mod Finish
 pub mod Example
+pub mod Place
