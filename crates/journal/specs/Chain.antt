@@ -24,6 +24,7 @@ waits (r ∷ A) d B t = t
 module _ {𝓢 : Store} {recover : 𝓢 .Img → Option (Rows 𝓢)} where
   -- ---- the claim
 
+  -- What holds of a queue that began with all calls of the chain.
   pub record Queued {X : 𝓢 .Img} (c : Chain 𝓢 recover X) (q : Queue 𝓢 recover) : Type 0 where
     -- the call in hand is safe, as for a single one
     pub safe : Safe (q .change) (q .state)
@@ -156,6 +157,7 @@ module _ {𝓢 : Store} {recover : 𝓢 .Img → Option (Rows 𝓢)} where
       total = omega arith;
     }) (λ t. absurd (waits (𝓒 .ahead) (𝓒 .decide) (𝓒 .behind) t))
 
+    -- after every list of events
     pub chain-safe : (es : List (Event (𝓢 .Row))) → Queued whole-chain (play queue es)
     chain-safe es = let a = chain-along es in queued-of whole-chain (play queue es) (a .0) (a .1)
 

@@ -5,6 +5,7 @@ use mathlib.Core.Option.{Option}
 use Prim.Native.Nat.{ℕ}
 use Rattle.journal.specs.Store.{Store, Rows}
 
+-- A call that was accepted, as the crash theorem sees it. `plan` and `pending` say in which order its records are written.
 pub record Change (𝓢 : Store) : Type 1 where
   -- the image that the call was planned on
   pub before : 𝓢 .Img
@@ -20,7 +21,7 @@ pub record Change (𝓢 : Store) : Type 1 where
   pub last : ℕ
   -- the rows ahead of the deciding one: the journal record's, and records that the call creates
   pub ahead : Rows 𝓢
-  -- the deciding row: once it is applied the call counts as done. It may be the journal record's own
+  -- the deciding row (the papers' deciding store): once it is applied the call counts as done. It may be the journal record's own
   pub decide : 𝓢 .Row
   -- the rows after it: what is left to write, and the clearing of the journal record
   pub behind : Rows 𝓢

@@ -42,5 +42,6 @@ module _ {𝓢 : Store} (𝓒 : Change 𝓢) where
           decision = decision-of 𝓒 (s .applied) (logged-of 𝓒 s h);
         }
 
+    -- It holds after every list of events.
     pub crash-safe : (es : List (Event (𝓢 .Row))) → Safe (run 𝓒 (start 𝓒) es)
     crash-safe es = safe-of (run 𝓒 (start 𝓒) es) (run-inv 𝓒 𝓞 (start 𝓒) es (start-inv 𝓒 (𝓞 .orderly)))

@@ -9,6 +9,7 @@ use Rattle.journal.specs.Turn.{lowest}
 use Rattle.journal.specs.Store.{Store, Rows}
 use Rattle.journal.specs.Change.{Change, plan}
 
+-- What can happen.
 pub data Event (R : Type 0) : Type 0 where
   -- the waiting row at a place is applied (the papers' landing); it counts only if no row of a lower group waits
   apply : ℕ → Event R
@@ -21,11 +22,12 @@ pub data Event (R : Type 0) : Type 0 where
 pub data Phase : Type 0 where
   -- those of the call's own plan
   own : Phase
-  -- those of the last recovery
+  -- those of the last recovery (the papers' repair)
   recovering : Phase
   -- nobody's: the last recovery was refused
   stopped : Phase
 
+-- Where a change stands.
 pub record State (I R : Type 0) : Type 0 where
   -- the image as it stands
   pub img : I
@@ -57,6 +59,7 @@ through recovering waiting = false
 through stopped waiting = false
 
 module _ {𝓢 : Store} (𝓒 : Change 𝓢) where
+  -- a state of this change
   abbrev pub St : Type 0
   St = State (𝓢 .Img) (𝓢 .Row)
 
@@ -97,6 +100,7 @@ module _ {𝓢 : Store} (𝓒 : Change 𝓢) where
   turned true s r rest = took s r rest
   turned false s r rest = s
 
+  -- a place past the waiting rows names none
   abbrev pub turn : (s : St) → Option (Picked (s .waiting)) → St
   turn s none = s
   turn s (some p) = turned (lowest (𝓢 .group) (𝓢 .group (p .0)) (p .1)) s (p .0) (p .1)
@@ -111,12 +115,14 @@ module _ {𝓢 : Store} (𝓒 : Change 𝓢) where
   answered s none = record { img = s .img; waiting = []; phase = stopped; applied = s .applied; done = s .done }
   answered s (some w) = record { img = s .img; waiting = w; phase = recovering; applied = s .applied; done = finished recovering (s .done) w }
 
+  -- the state after an event
   abbrev pub step : St → Event (𝓢 .Row) → St
   step s (apply i) = turn s (pick i (s .waiting))
   step s (stray r) = tried (𝓢 .accepts (s .img) r) s r
   step s (crash false) = answered s none
   step s (crash true) = answered s (𝓒 .recover (s .img))
 
+  -- and after a list of them
   abbrev pub run : St → List (Event (𝓢 .Row)) → St
   run s [] = s
   run s (e ∷ es) = run (step s e) es

@@ -31,14 +31,20 @@ module _ {𝓢 : Store} (𝓒 : Change 𝓢) where
 
   -- sets the journal record, in a group before all others
   pub record Sets (r : 𝓢 .Row) : Type 0 where
+    -- the record is the journal's
     pub at-journal : 𝓢 .key r ≡ 𝓒 .journal
+    -- it says that the call is under way
     pub mark : 𝓢 .body r ≡ 𝓒 .marked
+    -- nothing else is written in this group or an earlier one
     pub early : 𝓢 .group r ≤ 𝓒 .first
 
   -- writes another record as it will be after the call
   pub record Writes (r : 𝓢 .Row) : Type 0 where
+    -- the record is not the journal's
     pub elsewhere : 𝓢 .key r ≢ 𝓒 .journal
+    -- it is written as it stays
     pub final : 𝓢 .body r ≡ 𝓢 .get (𝓒 .after) (𝓢 .key r)
+    -- the journal record is set by then
     pub later : 𝓒 .first < 𝓢 .group r
 
   -- a row up to the deciding one
@@ -50,13 +56,18 @@ module _ {𝓢 : Store} (𝓒 : Change 𝓢) where
 
   -- clears the journal record, in a group behind all others
   pub record Clears (r : 𝓢 .Row) : Type 0 where
+    -- the record is the journal's
     pub at-journal : 𝓢 .key r ≡ 𝓒 .journal
+    -- nothing else is written in this group or a later one, so all of it has been applied by then
     pub late : 𝓒 .last ≤ 𝓢 .group r
 
   -- writes another record that may not be in the goal yet
   pub record Mends (d : Bool) (r : 𝓢 .Row) : Type 0 where
+    -- the record is not the journal's
     pub elsewhere : 𝓢 .key r ≢ 𝓒 .journal
+    -- the journal record is still set
     pub earlier : 𝓢 .group r < 𝓒 .last
+    -- only such a record may differ from the goal
     pub unsure : 𝓒 .pending d (𝓢 .key r)
 
   -- a row that leads to `goal d`
@@ -81,7 +92,7 @@ module _ {𝓢 : Store} (𝓒 : Change 𝓢) where
     -- recovery takes back what it writes
     pub undone : (𝓢 .key r ≡ 𝓒 .journal) ⊎ 𝓒 .pending false (𝓢 .key r)
     -- where the journal record's own row decides, no row comes ahead of it
-    pub not-first : 𝓢 .key (𝓒 .decide) ≢ 𝓒 .journal
+    pub other-decides : 𝓢 .key (𝓒 .decide) ≢ 𝓒 .journal
 
   -- a row after the deciding one
   pub record Behind (r : 𝓢 .Row) : Type 0 where
@@ -101,7 +112,7 @@ module _ {𝓢 : Store} (𝓒 : Change 𝓢) where
     -- together they leave out nothing
     pub cover : Cover d X rows
 
-  -- what an operation owes of its rows
+  -- What an operation owes of its rows. The deciding row is alone in its group: the rows ahead are in lower groups, those after it in higher.
   pub record Orderly : Type 0 where
     -- the image before has the layout
     pub before-ok : 𝓢 .Ok (𝓒 .before)

@@ -51,7 +51,7 @@ module _ {𝓢 : Store} (𝓒 : Change 𝓢) where
       ok = 𝓢 .put-ok o f;
       mixed = after-put 𝓢 o f (Mixed 𝓒) (λ n. inr (opens-final (a .opens) n)) (λ j _. i .mixed j);
       fixed = after-put 𝓢 o f (Fixed 𝓒 false) (λ n. ⊎-elim (λ e. absurd (n e)) inl (a .undone)) (λ j _. i .fixed j);
-      journal = inl (opens-mark o (a .opens) was, a .not-first);
+      journal = inl (opens-mark o (a .opens) was, a .other-decides);
     };
     rows = rs .1;
     written = after-put 𝓢 o f (λ k b. k ≢ 𝓒 .journal → Covers 𝓢 (𝓒 .ahead) k → (b ≡ 𝓢 .get (𝓒 .after) k) ⊎ Covers 𝓢 A k)
@@ -85,7 +85,7 @@ module _ {𝓢 : Store} (𝓒 : Change 𝓢) where
       was : Writes 𝓒 r → 𝓢 .get X (𝓒 .journal) ≡ 𝓒 .marked
       was h = ⊎-elim (λ e. e) (⊎-elim
           (λ c. absurd (⊎-elim (h .elsewhere) (none-waits h) (any-pick (λ q. 𝓢 .key q ≡ 𝓒 .journal) p c)))
-          (λ e. absurd (a .not-first e))) (s .opened)
+          (λ e. absurd (a .other-decides e))) (s .opened)
 
   none-ahead : (A : Rows 𝓢) → All (Ahead 𝓒) A → Low (𝓢 .group) (𝓒 .decide) A → A ≡ []
   none-ahead [] h l = refl

@@ -11,12 +11,13 @@ use Rattle.journal.specs.Obligations.{OnTheWay, Settles}
 
 -- Which row decides.
 pub data Decider (R : Type 0) : Type 0 where
-  -- a row of some record; ahead of it come the rows of the records that the call creates
+  -- a row of some other record; ahead of it come the rows of records that the call creates (a new directory)
   by-row : List R → R → Decider R
-  -- the row that sets the journal record; nothing comes ahead of it
+  -- the row that sets the journal record (an exchange); nothing comes ahead of it
   by-journal : Decider R
 
 module _ {R : Type 0} where
+  -- the rows of created records
   abbrev pub createdOf : Decider R → List R
   createdOf (by-row created r) = created
   createdOf by-journal = []
@@ -26,6 +27,7 @@ module _ {R : Type 0} where
   aheadOf set (by-row created r) = set ∷ created
   aheadOf set by-journal = []
 
+  -- the deciding row
   abbrev pub decideOf : R → Decider R → R
   decideOf set (by-row created r) = r
   decideOf set by-journal = set
@@ -54,9 +56,11 @@ module _ (𝓢 : Store) where
     -- the row that clears the journal record
     pub clear : 𝓢 .Row
 
+  -- its rows of all records but the journal's
   abbrev pub writes : Plan → Rows 𝓢
   writes p = writesOf (p .decider) (p .rest)
 
+  -- its deciding row
   abbrev pub decideRow : Plan → 𝓢 .Row
   decideRow p = decideOf (p .set) (p .decider)
 
@@ -73,6 +77,7 @@ module _ (𝓢 : Store) where
   pendingOf p false k = Covers 𝓢 (createdOf (p .decider)) k
   pendingOf p true k = Covers 𝓢 (p .rest) k
 
+  -- the change that the rows make, with a recovery
   abbrev pub change : Plan → (𝓢 .Img → Option (Rows 𝓢)) → Change 𝓢
   change p recover = record {
     before = p .before;
@@ -92,23 +97,27 @@ module _ (𝓢 : Store) where
   pub record WellFormed (p : Plan) : Type 0 where
     -- the image before has the layout
     pub ok : 𝓢 .Ok (p .before)
-    -- each row covers one record
+    -- the row that sets the journal record covers one record
     pub set-fits : 𝓢 .Fits (p .set)
+    -- so does the one that clears it
     pub clear-fits : 𝓢 .Fits (p .clear)
+    -- and so does every other
     pub fits : All (𝓢 .Fits) (writes p)
     -- no record is written twice
     pub distinct : Distinct 𝓢 (writes p)
     -- and none of them is the journal's
     pub apart : Spares 𝓢 (writes p) (𝓢 .key (p .set))
-    -- the clearing row writes the journal record, as it was before
+    -- the clearing row is the journal record's
     pub clears : 𝓢 .key (p .clear) ≡ 𝓢 .key (p .set)
+    -- and writes it as it was before
     pub restores : 𝓢 .body (p .clear) ≡ 𝓢 .get (p .before) (𝓢 .key (p .set))
     -- created records come after the journal record and ahead of the deciding row
     pub created-groups : All (λ r. (𝓢 .group (p .set) < 𝓢 .group r) × (𝓢 .group r < 𝓢 .group (decideRow p))) (createdOf (p .decider))
     -- the deciding row comes after the journal record, unless it is the one that sets it
     pub decide-group : ByRow (p .decider) → 𝓢 .group (p .set) < 𝓢 .group (decideRow p)
-    -- the rest comes after the deciding row, and the journal record is cleared in the end
+    -- the rest comes after the deciding row and ahead of the clearing one
     pub rest-groups : All (λ r. (𝓢 .group (decideRow p) < 𝓢 .group r) × (𝓢 .group r < 𝓢 .group (p .clear))) (p .rest)
+    -- which comes after the deciding row, also where there is no rest
     pub clear-group : 𝓢 .group (decideRow p) < 𝓢 .group (p .clear)
 
   -- What is asked of recovery: where it has nothing to do, and its rows on every other image on the way.

@@ -104,13 +104,13 @@ module _ {𝓢 : Store} (p : Plan 𝓢) (recover : 𝓢 .Img → Option (Rows �
     before-ok = 𝓦 .ok;
     after-ok = all-ok 𝓢 (writes 𝓢 p) (𝓦 .ok) (𝓦 .fits);
     ahead-rows = ahead-of (Ahead 𝓒) (p .set) (p .decider)
-        (λ b. record { opens = set-opens; sooner = 𝓦 .decide-group b; undone = inl refl; not-first = decide-elsewhere b })
+        (λ b. record { opens = set-opens; sooner = 𝓦 .decide-group b; undone = inl refl; other-decides = decide-elsewhere b })
         (λ b. all-map (λ r. Has (createdOf (p .decider)) r × _) (Ahead 𝓒)
         (λ r h. record {
           opens = write-opens r (created-writes (p .decider) (p .rest) r (h .0)) (h .1 .0);
           sooner = h .1 .1;
           undone = inr (has-covers (createdOf (p .decider)) r (h .0));
-          not-first = decide-elsewhere b;
+          other-decides = decide-elsewhere b;
         })
         (createdOf (p .decider)) (all-zip _ _ (createdOf (p .decider)) (has-all (createdOf (p .decider))) (𝓦 .created-groups)));
     decide-row = decide-of (Opens 𝓒) (p .set) (p .decider) (p .rest) set-opens (λ r a b e. write-opens r a (rw e at (𝓦 .decide-group b)));

@@ -66,9 +66,11 @@ module _ {𝓢 : Store} {recover : 𝓢 .Img → Option (Rows 𝓢)} where
   onward true q end = q
   onward true q (call 𝓒 o r e c) = record { change = 𝓒; owed = o; state = begin 𝓒 (q .state .img); later = c; past = decisions q }
 
+  -- the queue after an event
   abbrev pub next : Queue 𝓢 recover → Event (𝓢 .Row) → Queue 𝓢 recover
   next q e = let r = stepped q e in onward (over r) r (q .later)
 
+  -- and after a list of them
   abbrev pub play : Queue 𝓢 recover → List (Event (𝓢 .Row)) → Queue 𝓢 recover
   play q [] = q
   play q (e ∷ es) = play (next q e) es
