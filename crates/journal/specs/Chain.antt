@@ -83,7 +83,9 @@ module _ {𝓢 : Store} {recover : 𝓢 .Img → Option (Rows 𝓢)} where
         )
 
     step-along : (q : Queue 𝓢 recover) (e : Event (𝓢 .Row)) → Along c q → Along c (stepped q e)
-    step-along q e a = record { inv = step-inv (q .change) (q .owed) (q .state) e (a .inv); here = a .here; onwards = a .onwards; total = a .total }
+    step-along q e a =
+        let i = step-inv (q .change) (q .owed) (q .state) e (a .inv) in
+        record { inv = i; here = a .here; onwards = a .onwards; total = a .total }
 
     next-along : (q : Queue 𝓢 recover) (e : Event (𝓢 .Row)) → Along c q → Along c (next q e) × Last (next q e)
     next-along q e a = go (over r) (λ t. t) (λ t. t)

@@ -36,7 +36,8 @@ module _ {𝓢 : Store} (𝓒 : Change 𝓢) where
         record {
           on-the-way = i;
           recoverable = (w .rows, w .answer);
-          accepted = all-map (𝓢 .Fits) (λ r. T (𝓢 .accepts (s .img) r)) (λ r f. 𝓢 .takes (i .ok) f) (s .waiting) (fits-of 𝓒 (𝓞 .orderly) s h);
+          accepted = all-map (𝓢 .Fits) (λ r. T (𝓢 .accepts (s .img) r)) (λ r f. 𝓢 .takes (i .ok) f) (s .waiting)
+              (fits-of 𝓒 (𝓞 .orderly) s h);
           progress = has-turn (𝓢 .group) (s .waiting);
           outcome = ended-of 𝓒 s h;
           decision = decision-of 𝓒 (s .applied) (logged-of 𝓒 s h);

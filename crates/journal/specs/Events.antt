@@ -113,7 +113,9 @@ module _ {𝓢 : Store} (𝓒 : Change 𝓢) where
   -- recovery answered: its rows wait, or nothing does
   abbrev pub answered : St → Option (Rows 𝓢) → St
   answered s none = record { img = s .img; waiting = []; phase = stopped; applied = s .applied; done = s .done }
-  answered s (some w) = record { img = s .img; waiting = w; phase = recovering; applied = s .applied; done = finished recovering (s .done) w }
+  answered s (some w) =
+      let done = finished recovering (s .done) w in
+      record { img = s .img; waiting = w; phase = recovering; applied = s .applied; done = done }
 
   -- the state after an event
   abbrev pub step : St → Event (𝓢 .Row) → St

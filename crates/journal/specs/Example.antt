@@ -193,7 +193,8 @@ pub crash-late : seen (apply 0 ∷ apply 0 ∷ apply 0 ∷ crash true ∷ apply 
 crash-late = refl
 
 -- a crash in the second call, which its journal record had decided, half way through the exchange
-pub crash-second : seen (apply 0 ∷ apply 0 ∷ apply 0 ∷ apply 0 ∷ apply 0 ∷ apply 0 ∷ apply 1 ∷ crash true ∷ apply 1 ∷ apply 0 ∷ apply 0 ∷ []) ≡ (true, 2, 0, 9, 1, 7)
+pub crash-second : seen (apply 0 ∷ apply 0 ∷ apply 0 ∷ apply 0 ∷ apply 0 ∷ apply 0 ∷ apply 1 ∷ crash true ∷ apply 1 ∷ apply 0 ∷ apply 0 ∷ [])
+    ≡ (true, 2, 0, 9, 1, 7)
 crash-second = refl
 
 -- no crash: all rows in a permitted order

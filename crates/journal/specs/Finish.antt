@@ -42,14 +42,15 @@ module _ {𝓢 : Store} (𝓒 : Change 𝓢) where
   abbrev pub Finishes : St 𝓒 → Type 0
   Finishes s = (es : List (Event (𝓢 .Row))) × All Applies es × T (run 𝓒 s es .done)
 
-  take-turn : (X : 𝓢 .Img) (W log : Rows 𝓢) (done : Bool) (i : ℕ) (p : Picked W) → pick i W ≡ some p → T (lowest (𝓢 .group) (𝓢 .group (p .0)) (p .1))
+  take-turn : (X : 𝓢 .Img) (W log : Rows 𝓢) (done : Bool) (i : ℕ) (p : Picked W) → pick i W ≡ some p
+      → T (lowest (𝓢 .group) (𝓢 .group (p .0)) (p .1))
       → Finishes (pending (𝓢 .put X (p .0)) (p .1) log (done || null (p .1))) → Finishes (pending X W log done)
   take-turn X W log done i p e l h =
-      let s = pending X W log done in (
+      let s = pending X W log done in let its-turn = is-true (lowest (𝓢 .group) (𝓢 .group (p .0)) (p .1)) l in (
         apply i ∷ h .0,
         (tt, h .1),
         subst (λ (o : Option (Picked W)). T (run 𝓒 (turn 𝓒 s o) (h .0) .done)) (sym e)
-            (subst (λ (b : Bool). T (run 𝓒 (turned 𝓒 b s (p .0) (p .1)) (h .0) .done)) (sym (is-true (lowest (𝓢 .group) (𝓢 .group (p .0)) (p .1)) l)) (h .2)),
+            (subst (λ (b : Bool). T (run 𝓒 (turned 𝓒 b s (p .0) (p .1)) (h .0) .done)) (sym its-turn) (h .2)),
       )
 
   -- while any row waits the turn of one has come, and then fewer wait
@@ -69,4 +70,5 @@ module _ {𝓢 : Store} (𝓒 : Change 𝓢) where
   can-finish 𝓞 es =
       let s = run 𝓒 (start 𝓒) es in
       let w = 𝓞 .recovers (decided 𝓒 s) (s .img) (inside-of 𝓒 s (run-inv 𝓒 𝓞 (start 𝓒) es (start-inv 𝓒 (𝓞 .orderly)))) in
-      rw (w .answer) (finish (length (w .rows)) (s .img) (w .rows) (s .applied) (s .done || null (w .rows)) (omega arith) (or-right (s .done) (null (w .rows))))
+      let done = s .done || null (w .rows) in
+      rw (w .answer) (finish (length (w .rows)) (s .img) (w .rows) (s .applied) done (omega arith) (or-right (s .done) (null (w .rows))))

@@ -73,7 +73,8 @@ module _ {𝓢 : Store} (𝓒 : Change 𝓢) where
       there [] h t = absurd t
       there (r ∷ log) h t = go (deciding 𝓒 r) (eqb→eq (𝓢 .group r) (𝓢 .group (𝓒 .decide))) (there log (h .1)) t
         where
-          go : (b : Bool) → (T b → 𝓢 .group r ≡ 𝓢 .group (𝓒 .decide)) → (T (decides 𝓒 log) → Has log (𝓒 .decide)) → T (b || decides 𝓒 log) → Has (r ∷ log) (𝓒 .decide)
+          go : (b : Bool) → (T b → 𝓢 .group r ≡ 𝓢 .group (𝓒 .decide)) → (T (decides 𝓒 log) → Has log (𝓒 .decide))
+              → T (b || decides 𝓒 log) → Has (r ∷ log) (𝓒 .decide)
           go true e k t = inl (⊎-elim (λ d. d) (λ n. absurd (n (e tt))) (h .0))
           go false e k t = inr (k t)
 
@@ -128,7 +129,8 @@ module _ {𝓢 : Store} (𝓒 : Change 𝓢) where
         full : (A : Rows 𝓢) → [] ≡ A ++ 𝓒 .decide ∷ 𝓒 .behind → ⊥
         full [] e = subst (λ (W : Rows 𝓢). Empty W) e tt
         full (r ∷ A) e = subst (λ (W : Rows 𝓢). Empty W) e tt
-    whole {log} own [] t (settling l h) = (h .kept .0, nothing-left 𝓒 goal-ok (decides 𝓒 log) (h .inside .ok) (h .kept .1) ∙ ap (goal 𝓒) (h .kept .0))
+    whole {log} own [] t (settling l h) =
+        (h .kept .0, nothing-left 𝓒 goal-ok (decides 𝓒 log) (h .inside .ok) (h .kept .1) ∙ ap (goal 𝓒) (h .kept .0))
     whole {log} own (r ∷ W) t h = absurd t
     whole {log} recovering W t h = absurd t
     whole {log} stopped W t h = absurd t
@@ -136,7 +138,8 @@ module _ {𝓢 : Store} (𝓒 : Change 𝓢) where
     -- ---- each event keeps it
 
     settle-step : (ph : Phase) (done : Bool) (log : Rows 𝓢) {r : 𝓢 .Row} {X : 𝓢 .Img} {W W′ : Rows 𝓢} → All Logged log
-        → Settling 𝓒 ph (decides 𝓒 log) done X W → Pick r W W′ → Low (𝓢 .group) r W′ → Holds ph (logged ph r log) (finished ph done W′) (𝓢 .put X r) W′
+        → Settling 𝓒 ph (decides 𝓒 log) done X W → Pick r W W′ → Low (𝓢 .group) r W′
+        → Holds ph (logged ph r log) (finished ph done W′) (𝓢 .put X r) W′
     settle-step own done log {r} l s p low = settling
         (inr (let h = all-pick (λ q. 𝓢 .group (𝓒 .decide) < 𝓢 .group q) p (s .kept .2) .0 in omega arith), l)
         (rw (still-decided r log (s .kept .0)) (settle-apply 𝓒 goal-ok own (decides 𝓒 log) done s p low))
@@ -162,7 +165,8 @@ module _ {𝓢 : Store} (𝓒 : Change 𝓢) where
 
     pub took-inv : (s : St 𝓒) (p : Picked (s .waiting)) → Low (𝓢 .group) (p .0) (p .1) → Inv s → Inv (took 𝓒 s (p .0) (p .1))
     took-inv s p low (settling l h) = settle-step (s .phase) (s .done) (s .applied) l h (p .2) low
-    took-inv s p low (opening f l h) = open-step (s .phase) (s .done) (s .applied) f l h low (part-pick (h .left) (𝓒 .behind) (rw (h .shape) at (p .2)))
+    took-inv s p low (opening f l h) =
+        open-step (s .phase) (s .done) (s .applied) f l h low (part-pick (h .left) (𝓒 .behind) (rw (h .shape) at (p .2)))
 
     pub turn-inv : (s : St 𝓒) (o : Option (Picked (s .waiting))) → Inv s → Inv (turn 𝓒 s o)
     turn-inv s none h = h

@@ -112,7 +112,8 @@ module _ {𝓢 : Store} (𝓒 : Change 𝓢) where
     -- together they leave out nothing
     pub cover : Cover d X rows
 
-  -- What an operation owes of its rows. The deciding row is alone in its group: the rows ahead are in lower groups, those after it in higher.
+  -- What an operation owes of its rows. The deciding row is alone in its group: the rows ahead of it are in lower groups, and those after it
+  -- in higher ones.
   pub record Orderly : Type 0 where
     -- the image before has the layout
     pub before-ok : 𝓢 .Ok (𝓒 .before)

@@ -79,7 +79,8 @@ module _ {𝓢 : Store} (𝓒 : Change 𝓢) where
       none-waits : Writes 𝓒 r → Covers 𝓢 A (𝓒 .journal) → ⊥
       none-waits h c =
           let (q, hq, e) = all-any (λ q. Ahead 𝓒 q × (𝓢 .group r ≤ 𝓢 .group q)) (λ q. 𝓢 .key q ≡ 𝓒 .journal) A
-          (all-zip (Ahead 𝓒) (λ q. 𝓢 .group r ≤ 𝓢 .group q) A (rs .1) (all-left (λ q. 𝓢 .group r ≤ 𝓢 .group q) A (𝓒 .decide ∷ 𝓒 .behind) low)) c in
+          (all-zip (Ahead 𝓒) (λ q. 𝓢 .group r ≤ 𝓢 .group q) A (rs .1)
+          (all-left (λ q. 𝓢 .group r ≤ 𝓢 .group q) A (𝓒 .decide ∷ 𝓒 .behind) low)) c in
           ⊎-elim (λ (m : Sets 𝓒 q). omega (arith, m .early, hq .1, h .later)) (λ (m : Writes 𝓒 q). m .elsewhere e) (hq .0 .opens .kind)
 
       was : Writes 𝓒 r → 𝓢 .get X (𝓒 .journal) ≡ 𝓒 .marked
@@ -135,7 +136,8 @@ module _ {𝓢 : Store} (𝓒 : Change 𝓢) where
 
       cover : Cover 𝓒 true (𝓢 .put X (𝓒 .decide)) (𝓒 .behind)
       cover = after-put 𝓢 o f (λ k b. (b ≡ 𝓢 .get (𝓒 .after) k) ⊎ Covers 𝓢 (𝓒 .behind) k)
-          (⊎-elim (λ (h : Sets 𝓒 (𝓒 .decide)). inr (rw (h .at-journal) (𝓞 .clears-journal))) (λ (h : Writes 𝓒 (𝓒 .decide)). inl (h .final)) (𝓞 .decide-row .kind))
+          (⊎-elim (λ (h : Sets 𝓒 (𝓒 .decide)). inr (rw (h .at-journal) (𝓞 .clears-journal))) (λ (h : Writes 𝓒 (𝓒 .decide)). inl (h .final))
+          (𝓞 .decide-row .kind))
           (λ j n. others j n (𝓢 .same j (𝓒 .journal)))
 
       unsure : (k : 𝓢 .Key) → k ≢ 𝓒 .journal → Covers 𝓢 (𝓒 .behind) k → 𝓒 .pending true k

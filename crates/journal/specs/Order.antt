@@ -83,4 +83,5 @@ module _ {𝓢 : Store} (𝓒 : Change 𝓢) where
       → run 𝓒 (start 𝓒) es .img ≡ 𝓒 .after
   whole-run 𝓞 es n e =
       let s = run 𝓒 (start 𝓒) es in
-      whole 𝓒 𝓞 (s .phase) (s .waiting) (rw (run-phase (start 𝓒) es n) (empty-null (s .waiting) e)) (run-calm 𝓞 (start 𝓒) es n (start-inv 𝓒 𝓞)) .1
+      let i = run-calm 𝓞 (start 𝓒) es n (start-inv 𝓒 𝓞) in
+      whole 𝓒 𝓞 (s .phase) (s .waiting) (rw (run-phase (start 𝓒) es n) (empty-null (s .waiting) e)) i .1

@@ -86,7 +86,9 @@ same-test false true f g = absurd (g tt)
 same-test false false f g = refl
 
 not-below : (a b : ℕ) → not (ltb a b) ≡ leb b a
-not-below a b = same-test (not (ltb a b)) (leb b a) (λ t. le→leb b a (nltb→le a b t)) (λ t. not-T (ltb a b) (λ h. omega (arith, leb→le b a t, ltb→lt a b h)))
+not-below a b =
+    same-test (not (ltb a b)) (leb b a) (λ t. le→leb b a (nltb→le a b t))
+    (λ t. not-T (ltb a b) (λ h. omega (arith, leb→le b a t, ltb→lt a b h)))
 
 none-some : {A : Type 0} {x : A} → none ≡ some x → ⊥
 none-some e = let z : _≡_ {A = ℕ} 0 1 = cc in omega arith
@@ -157,7 +159,8 @@ module _ (𝓢 : Store) where
   none-of (u ∷ L) h t a = h
 
   -- a row of a later call waits for any row of the call in hand
-  blocked : (W : Rows 𝓢) (L M : List (Entry 𝓢)) → All Later L → (Empty W → Empty L) → (t : Entry 𝓢) → Has L t → unblocked 𝓢 t (numbered 𝓢 0 W ++ M) ≡ false
+  blocked : (W : Rows 𝓢) (L M : List (Entry 𝓢)) → All Later L → (Empty W → Empty L) → (t : Entry 𝓢) → Has L t
+      → unblocked 𝓢 t (numbered 𝓢 0 W ++ M) ≡ false
   blocked [] L M h n t a = absurd (none-of L (n tt) t a)
   blocked (w ∷ W) L M h n t a = ap (λ (b : Bool). b && unblocked 𝓢 t (numbered 𝓢 0 W ++ M)) (first-blocks w t (all-has Later L h t a))
 
@@ -193,7 +196,8 @@ module _ {𝓢 : Store} {recover : 𝓢 .Img → Option (Rows 𝓢)} where
   still-later stopped c = tt
 
   -- where nothing of the call in hand waits, nothing waits at all
-  nothing-else : {X : 𝓢 .Img} (ph : Phase) (W : Rows 𝓢) (c : Chain 𝓢 recover X) → (T (through ph W) → Ended c) → Empty W → Empty (stillQueued ph c)
+  nothing-else : {X : 𝓢 .Img} (ph : Phase) (W : Rows 𝓢) (c : Chain 𝓢 recover X) → (T (through ph W) → Ended c) → Empty W
+      → Empty (stillQueued ph c)
   nothing-else own W end f e = tt
   nothing-else own W (call 𝓒 o r x c) f e = absurd (f (empty-null W e))
   nothing-else recovering W c f e = tt

@@ -139,6 +139,7 @@ module _ (𝓢 : Store) where
     -- nor on the image after
     pub at-after : recover (afterOf p) ≡ some []
     -- journal record set, but undecided: the call is taken back
-    pub back : (X : 𝓢 .Img) → ByRow (p .decider) → OnTheWay (change p recover) false X → 𝓢 .get X (𝓢 .key (p .set)) ≡ 𝓢 .body (p .set) → recover X ≡ some undo
+    pub back : (X : 𝓢 .Img) → ByRow (p .decider) → OnTheWay (change p recover) false X → 𝓢 .get X (𝓢 .key (p .set)) ≡ 𝓢 .body (p .set)
+        → recover X ≡ some undo
     -- journal record set, and decided: it is finished
     pub on : (X : 𝓢 .Img) → OnTheWay (change p recover) true X → 𝓢 .get X (𝓢 .key (p .set)) ≡ 𝓢 .body (p .set) → recover X ≡ some redo

@@ -19,7 +19,8 @@ module _ {R : Type 0} where
   ahead-of P set (by-row created r) f g = (f tt, g tt)
   ahead-of P set by-journal f g = tt
 
-  decide-of : (P : R → Type 0) (set : R) (D : Decider R) (rest : List R) → P set → ((r : R) → Has (writesOf D rest) r → ByRow D → decideOf set D ≡ r → P r)
+  decide-of : (P : R → Type 0) (set : R) (D : Decider R) (rest : List R) → P set
+      → ((r : R) → Has (writesOf D rest) r → ByRow D → decideOf set D ≡ r → P r)
       → P (decideOf set D)
   decide-of P set (by-row created r) rest p f = f r (any-right (λ x. x ≡ r) created (r ∷ rest) (inl refl)) tt refl
   decide-of P set by-journal rest p f = p
@@ -60,7 +61,8 @@ module _ {𝓢 : Store} (p : Plan 𝓢) (recover : 𝓢 .Img → Option (Rows �
   decide-elsewhere : ByRow (p .decider) → 𝓢 .key (decideRow 𝓢 p) ≢ 𝓢 .key (p .set)
   decide-elsewhere b = go (p .decider) (𝓦 .apart) b
     where
-      go : (D : Decider (𝓢 .Row)) → Spares 𝓢 (writesOf D (p .rest)) (𝓢 .key (p .set)) → ByRow D → 𝓢 .key (decideOf (p .set) D) ≢ 𝓢 .key (p .set)
+      go : (D : Decider (𝓢 .Row)) → Spares 𝓢 (writesOf D (p .rest)) (𝓢 .key (p .set)) → ByRow D
+          → 𝓢 .key (decideOf (p .set) D) ≢ 𝓢 .key (p .set)
       go (by-row created r) h b = all-right (λ q. 𝓢 .key q ≢ 𝓢 .key (p .set)) created (r ∷ p .rest) h .0
       go by-journal h b = absurd b
 
@@ -76,7 +78,11 @@ module _ {𝓢 : Store} (p : Plan 𝓢) (recover : 𝓢 .Img → Option (Rows �
   rest-settles : (r : 𝓢 .Row) → Has (p .rest) r → 𝓢 .group r < 𝓢 .group (p .clear) → Settles 𝓒 true r
   rest-settles r a l =
       let w = rest-writes (p .decider) (p .rest) r a in
-      record { fits = fits-write r w; aims = written r w; kind = inr (record { elsewhere = elsewhere-of r w; earlier = l; unsure = has-covers (p .rest) r a }) }
+      record {
+        fits = fits-write r w;
+        aims = written r w;
+        kind = inr (record { elsewhere = elsewhere-of r w; earlier = l; unsure = has-covers (p .rest) r a });
+      }
 
   -- the clearing row leads either way
   pub clear-settles : (d : Bool) → Settles 𝓒 d (p .clear)
@@ -162,11 +168,15 @@ module _ {𝓢 : Store} (p : Plan 𝓢) (recover : 𝓢 .Img → Option (Rows �
       go by-journal b = absurd b
   side-journal true b = clears-end
 
-  -- rows that lead to the goal and write all that the rows on that side write: what recovery has to show of its outcome
-  module _ (d : Bool) (us : Rows 𝓢) (us-all : (k : 𝓢 .Key) → Covers 𝓢 (side d) k → Covers 𝓢 us k) {X : 𝓢 .Img} (b : Open d) (i : OnTheWay 𝓒 d X) where
+  -- the rows write all that the rows on that side write
+  abbrev pub CoverSide : Bool → Rows 𝓢 → Type 0
+  CoverSide d us = (k : 𝓢 .Key) → Covers 𝓢 (side d) k → Covers 𝓢 us k
+
+  module _ (d : Bool) (us : Rows 𝓢) (us-all : CoverSide d us) {X : 𝓢 .Img} (b : Open d) (i : OnTheWay 𝓒 d X) where
     side-cover : Cover 𝓒 d X us
     side-cover = cover-of d us i (λ k c. us-all k (side-pending d k c)) (us-all (𝓢 .key (p .set)) (side-journal d b))
 
+    -- such rows reach the goal, if each leads there: an operation needs this where recovery tests its own outcome
     pub reached : All (Settles 𝓒 d) us → putAll 𝓢 X us ≡ goal 𝓒 d
     reached h = settled 𝓒 (goal-ok 𝓒 orderly) d us (i .ok) h side-cover
 
@@ -180,7 +190,9 @@ module _ {𝓢 : Store} (p : Plan 𝓢) (recover : 𝓢 .Img → Option (Rows �
     at-goal true = ρ .at-after
 
     when-set : (d : Bool) (X : 𝓢 .Img) → OnTheWay 𝓒 d X → 𝓢 .get X (𝓢 .key (p .set)) ≡ 𝓢 .body (p .set) → MayMark 𝓒 d → Recovery 𝓒 d X
-    when-set true X i m k = record { rows = ρ .redo; answer = ρ .on X i m; settle = ρ .redoes; cover = side-cover true (ρ .redo) (ρ .redo-all) tt i }
+    when-set true X i m k =
+        let c = side-cover true (ρ .redo) (ρ .redo-all) tt i in
+        record { rows = ρ .redo; answer = ρ .on X i m; settle = ρ .redoes; cover = c }
     when-set false X i m k =
         let b = by-row-of (p .decider) k in
         record { rows = ρ .undo; answer = ρ .back X b i m; settle = ρ .undoes; cover = side-cover false (ρ .undo) (ρ .undo-all) b i }

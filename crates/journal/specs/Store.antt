@@ -111,7 +111,8 @@ module _ (𝓢 : Store) where
   all-other [] o f k n = refl
   all-other (r ∷ rs) o f k n = all-other rs (𝓢 .put-ok o (f .0)) (f .1) k (n .1) ∙ 𝓢 .get-other o (f .0) k (λ e. n .0 (sym e))
 
-  pub all-same : (rs : Rows) {X : 𝓢 .Img} → 𝓢 .Ok X → All (𝓢 .Fits) rs → Distinct rs → (r : 𝓢 .Row) → Has rs r → 𝓢 .get (putAll X rs) (𝓢 .key r) ≡ 𝓢 .body r
+  pub all-same : (rs : Rows) {X : 𝓢 .Img} → 𝓢 .Ok X → All (𝓢 .Fits) rs → Distinct rs → (r : 𝓢 .Row) → Has rs r
+      → 𝓢 .get (putAll X rs) (𝓢 .key r) ≡ 𝓢 .body r
   all-same [] o f d r a = absurd a
   all-same (q ∷ rs) {X} o f d r (inl e) =
       subst (λ (x : 𝓢 .Row). 𝓢 .get (putAll X (q ∷ rs)) (𝓢 .key x) ≡ 𝓢 .body x) e
