@@ -30,9 +30,9 @@ module _ {𝓢 : Store} {recover : 𝓢 .Img → Option (Rows 𝓢)} where
     pub safe : Safe (q .change) (q .state)
     -- no more deciding rows than calls were applied
     pub counted : decisions q ≤ calls c
-    -- once the rows of a recovery have all been applied, the image is that of the first k calls, k by the deciding rows that were applied
+    -- once the rows of a recovery have all been applied, the image is what the first k calls make of it, k counting the deciding rows applied
     pub outcome : T (q .state .done) → q .state .img ≡ imageOf (decisions q) c
-    -- once all rows of all calls have been applied, and no crash came, every call is decided and the image is that of all calls
+    -- once the rows of all calls have all been applied, and no crash came, every call is decided and the image is what all of them make of it
     pub ordered : T (over q) → (decisions q ≡ calls c) × (q .state .img ≡ imageOf (calls c) c)
 
   -- ---- the proof
@@ -163,7 +163,7 @@ module _ {𝓢 : Store} {recover : 𝓢 .Img → Option (Rows 𝓢)} where
     pub chain-safe : (es : List (Event (𝓢 .Row))) → Queued whole-chain (play queue es)
     chain-safe es = let a = chain-along es in queued-of whole-chain (play queue es) (a .0) (a .1)
 
-    -- every permitted order to the end gives the image of all calls, done one after another
+    -- without a crash, whatever order was chosen, the end is what all calls make of the image
     pub every-order : (es : List (Event (𝓢 .Row))) → All NoCrash es → Empty (play queue es .state .waiting)
         → play queue es .state .img ≡ imageOf (calls whole-chain) whole-chain
     every-order es n e = chain-safe es .ordered (rw (play-own queue es n refl) (empty-null (play queue es .state .waiting) e)) .1

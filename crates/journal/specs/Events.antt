@@ -11,11 +11,11 @@ use Rattle.journal.specs.Change.{Change, plan}
 
 -- What can happen.
 pub data Event (R : Type 0) : Type 0 where
-  -- the waiting row at a place is applied (the papers' landing); it counts only if no row of a lower group waits
+  -- the waiting row at a place is applied (the papers' landing); it counts only if its turn has come, with nothing of a lower group left
   apply : ℕ → Event R
-  -- any row at all is tried and refused; one that would be accepted is no event, since nobody else writes the image
+  -- any row at all is tried and refused; one that would be accepted is no event, since the image has no other writer
   stray : R → Event R
-  -- what has not been applied is lost, and recovery is called (the papers' cut); the flag says whether its buffers were long enough
+  -- the waiting rows are gone, and recovery is called (the papers' cut); the flag says whether its buffers were long enough
   crash : Bool → Event R
 
 -- Whose rows wait.

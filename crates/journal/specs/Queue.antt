@@ -42,7 +42,7 @@ module _ {𝓢 : Store} {recover : 𝓢 .Img → Option (Rows 𝓢)} where
   calls end = 0
   calls (call 𝓒 o r e c) = suc (calls c)
 
-  -- the image of the first k calls, done one after another
+  -- what the first k calls make of the image
   abbrev pub imageOf : {X : 𝓢 .Img} → ℕ → Chain 𝓢 recover X → 𝓢 .Img
   imageOf {X} zero c = X
   imageOf {X} (suc k) end = X
