@@ -1,3 +1,4 @@
+-- The laws, each file below those that it uses.
 pub mod Pick
 pub mod Turn
 pub mod Store
@@ -8,11 +9,11 @@ pub mod Settle
 pub mod Opening
 pub mod Invariant
 pub mod Crash
+pub mod Finish
 pub mod Order
 pub mod Plan
 pub mod Planned
 pub mod Queue
 pub mod Chain
-pub mod Finish
-pub mod Example
 pub mod Place
+pub mod Example

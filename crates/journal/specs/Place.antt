@@ -20,29 +20,29 @@ use Rattle.journal.specs.Chain.{Last, Ended, queue, chain-along}
 
 module _ (𝓢 : Store) where
   -- a queued row: the number of its call, from the one in hand on, and the row
-  abbrev pub Entry : Type 0
-  Entry = ℕ × 𝓢 .Row
+  abbrev pub Item : Type 0
+  Item = ℕ × 𝓢 .Row
 
-  abbrev pub numbered : ℕ → Rows 𝓢 → List Entry
+  abbrev pub numbered : ℕ → Rows 𝓢 → List Item
   numbered n [] = []
   numbered n (r ∷ rs) = (n, r) ∷ numbered n rs
 
   -- u has to be applied ahead of t: it is of an earlier call, or of an earlier group of the same
-  abbrev pub precedes : Entry → Entry → Bool
+  abbrev pub precedes : Item → Item → Bool
   precedes u t = ltb (u .0) (t .0) || (eqb (u .0) (t .0) && ltb (𝓢 .group (u .1)) (𝓢 .group (t .1)))
 
   -- none of the others has to be applied ahead of t
-  abbrev pub unblocked : Entry → List Entry → Bool
+  abbrev pub unblocked : Item → List Item → Bool
   unblocked t [] = true
   unblocked t (u ∷ us) = not (precedes u t) && unblocked t us
 
-  -- the entry picked is there, and nothing has to be applied ahead of it
-  abbrev pub allows : {es : List Entry} → Option (Picked es) → Bool
+  -- the item picked is there, and nothing has to be applied ahead of it
+  abbrev pub allows : {es : List Item} → Option (Picked es) → Bool
   allows none = false
   allows (some p) = unblocked (p .0) (p .1)
 
   -- the row at a place among all that are queued may be applied
-  abbrev pub permitted : ℕ → List Entry → Bool
+  abbrev pub permitted : ℕ → List Item → Bool
   permitted i es = allows (pick i es)
 
   -- the event `apply i` counts
@@ -55,18 +55,18 @@ module _ (𝓢 : Store) where
 
 module _ {𝓢 : Store} {recover : 𝓢 .Img → Option (Rows 𝓢)} where
   -- the rows of calls not yet in hand
-  abbrev pub laterRows : {X : 𝓢 .Img} → ℕ → Chain 𝓢 recover X → List (Entry 𝓢)
+  abbrev pub laterRows : {X : 𝓢 .Img} → ℕ → Chain 𝓢 recover X → List (Item 𝓢)
   laterRows n end = []
   laterRows n (call 𝓒 o r e c) = numbered 𝓢 n (plan 𝓒) ++ laterRows (suc n) c
 
   -- a crash loses them
-  abbrev pub stillQueued : {X : 𝓢 .Img} → Phase → Chain 𝓢 recover X → List (Entry 𝓢)
+  abbrev pub stillQueued : {X : 𝓢 .Img} → Phase → Chain 𝓢 recover X → List (Item 𝓢)
   stillQueued own c = laterRows 1 c
   stillQueued recovering c = []
   stillQueued stopped c = []
 
   -- all rows queued, in the order entered
-  abbrev pub queued : Queue 𝓢 recover → List (Entry 𝓢)
+  abbrev pub queued : Queue 𝓢 recover → List (Item 𝓢)
   queued q = numbered 𝓢 0 (q .state .waiting) ++ stillQueued (q .state .phase) (q .later)
 
   -- the rule and the event agree
@@ -99,10 +99,10 @@ pick-has (there p) = inr (pick-has p)
 
 module _ (𝓢 : Store) where
   -- of a later call
-  abbrev Later : Entry 𝓢 → Type 0
+  abbrev Later : Item 𝓢 → Type 0
   Later u = 0 < u .0
 
-  later-waits : (u : Entry 𝓢) (r : 𝓢 .Row) → Later u → not (precedes 𝓢 u (0, r)) ≡ true
+  later-waits : (u : Item 𝓢) (r : 𝓢 .Row) → Later u → not (precedes 𝓢 u (0, r)) ≡ true
   later-waits u r h = go (ltb (u .0) 0) (ltb→lt (u .0) 0) (eqb (u .0) 0) (eqb→eq (u .0) 0)
     where
       go : (a : Bool) → (T a → u .0 < 0) → (b : Bool) → (T b → u .0 ≡ 0) → not (a || (b && ltb (𝓢 .group (u .1)) (𝓢 .group r))) ≡ true
@@ -110,7 +110,7 @@ module _ (𝓢 : Store) where
       go false f true g = absurd (omega (arith, g tt))
       go false f false g = refl
 
-  first-blocks : (w : 𝓢 .Row) (t : Entry 𝓢) → Later t → not (precedes 𝓢 (0, w) t) ≡ false
+  first-blocks : (w : 𝓢 .Row) (t : Item 𝓢) → Later t → not (precedes 𝓢 (0, w) t) ≡ false
   first-blocks w t h = go (ltb 0 (t .0)) (lt→ltb 0 (t .0) h)
     where
       go : (a : Bool) → T a → not (a || (eqb 0 (t .0) && ltb (𝓢 .group w) (𝓢 .group (t .1)))) ≡ false
@@ -118,24 +118,24 @@ module _ (𝓢 : Store) where
       go false h = absurd h
 
   -- a row of the call in hand waits for the lower groups of that call alone
-  first-turn : (r : 𝓢 .Row) (rest : Rows 𝓢) (L : List (Entry 𝓢)) → All Later L
+  first-turn : (r : 𝓢 .Row) (rest : Rows 𝓢) (L : List (Item 𝓢)) → All Later L
       → unblocked 𝓢 (0, r) (numbered 𝓢 0 rest ++ L) ≡ lowest (𝓢 .group) (𝓢 .group r) rest
   first-turn r [] [] h = refl
   first-turn r [] (u ∷ L) h = rw (later-waits u r (h .0)) (first-turn r [] L (h .1))
   first-turn r (x ∷ rest) L h = ap₂ _&&_ (not-below (𝓢 .group x) (𝓢 .group r)) (first-turn r rest L h)
 
   -- what a place among all rows points to
-  data Points (i : ℕ) (W : Rows 𝓢) (L : List (Entry 𝓢)) : Type 0 where
+  data Points (i : ℕ) (W : Rows 𝓢) (L : List (Item 𝓢)) : Type 0 where
     -- a row of the call in hand
     hand : (p : Picked W) (e : Picked (numbered 𝓢 0 W ++ L)) → pick i W ≡ some p → pick i (numbered 𝓢 0 W ++ L) ≡ some e
         → e .0 ≡ (0, p .0) → e .1 ≡ numbered 𝓢 0 (p .1) ++ L → Points i W L
     -- a row of a later call
-    other : (e : Picked (numbered 𝓢 0 W ++ L)) (M : List (Entry 𝓢)) → pick i W ≡ none → pick i (numbered 𝓢 0 W ++ L) ≡ some e
+    other : (e : Picked (numbered 𝓢 0 W ++ L)) (M : List (Item 𝓢)) → pick i W ≡ none → pick i (numbered 𝓢 0 W ++ L) ≡ some e
         → Has L (e .0) → e .1 ≡ numbered 𝓢 0 W ++ M → Points i W L
     -- nothing
     past : pick i W ≡ none → pick i (numbered 𝓢 0 W ++ L) ≡ none → Points i W L
 
-  points : (i : ℕ) (W : Rows 𝓢) (L : List (Entry 𝓢)) → Points i W L
+  points : (i : ℕ) (W : Rows 𝓢) (L : List (Item 𝓢)) → Points i W L
   points i [] L = go (pick i L) refl
     where
       go : (o : Option (Picked L)) → pick i L ≡ o → Points i [] L
@@ -144,33 +144,33 @@ module _ (𝓢 : Store) where
   points zero (w ∷ W) L = hand (w, W, here) ((0, w), numbered 𝓢 0 W ++ L, here) refl refl refl refl
   points (suc i) (w ∷ W) L = on (points i W L)
     where
-      N : List (Entry 𝓢)
+      N : List (Item 𝓢)
       N = numbered 𝓢 0 W ++ L
 
       on : Points i W L → Points (suc i) (w ∷ W) L
       on (hand p e a b c d) = hand (p .0, w ∷ p .1, there (p .2)) (e .0, (0, w) ∷ e .1, there (e .2)) (ap (further w W) a) (ap (further (0, w) N) b) c
-          (ap (λ (l : List (Entry 𝓢)). (0, w) ∷ l) d)
+          (ap (λ (l : List (Item 𝓢)). (0, w) ∷ l) d)
       on (other e M a b c d) = other (e .0, (0, w) ∷ e .1, there (e .2)) M (ap (further w W) a) (ap (further (0, w) N) b) c
-          (ap (λ (l : List (Entry 𝓢)). (0, w) ∷ l) d)
+          (ap (λ (l : List (Item 𝓢)). (0, w) ∷ l) d)
       on (past a b) = past (ap (further w W) a) (ap (further (0, w) N) b)
 
-  none-of : (L : List (Entry 𝓢)) → Empty L → (t : Entry 𝓢) → Has L t → ⊥
+  none-of : (L : List (Item 𝓢)) → Empty L → (t : Item 𝓢) → Has L t → ⊥
   none-of [] h t a = a
   none-of (u ∷ L) h t a = h
 
   -- a row of a later call waits for any row of the call in hand
-  blocked : (W : Rows 𝓢) (L M : List (Entry 𝓢)) → All Later L → (Empty W → Empty L) → (t : Entry 𝓢) → Has L t
+  blocked : (W : Rows 𝓢) (L M : List (Item 𝓢)) → All Later L → (Empty W → Empty L) → (t : Item 𝓢) → Has L t
       → unblocked 𝓢 t (numbered 𝓢 0 W ++ M) ≡ false
   blocked [] L M h n t a = absurd (none-of L (n tt) t a)
   blocked (w ∷ W) L M h n t a = ap (λ (b : Bool). b && unblocked 𝓢 t (numbered 𝓢 0 W ++ M)) (first-blocks w t (all-has Later L h t a))
 
-  agree : (i : ℕ) (W : Rows 𝓢) (L : List (Entry 𝓢)) → All Later L → (Empty W → Empty L) → Points i W L
+  agree : (i : ℕ) (W : Rows 𝓢) (L : List (Item 𝓢)) → All Later L → (Empty W → Empty L) → Points i W L
       → permitted 𝓢 i (numbered 𝓢 0 W ++ L) ≡ counts 𝓢 i W
   agree i W L h n (hand p e a b c d) = ap (allows 𝓢) b ∙ (rw (c, d) (first-turn (p .0) (p .1) L h)) ∙ sym (ap (comes 𝓢) a)
   agree i W L h n (other e M a b c d) = ap (allows 𝓢) b ∙ (rw d (blocked W L M h n (e .0) c)) ∙ sym (ap (comes 𝓢) a)
   agree i W L h n (past a b) = ap (allows 𝓢) b ∙ sym (ap (comes 𝓢) a)
 
-  row-of : (i : ℕ) (W : Rows 𝓢) (L : List (Entry 𝓢)) → Points i W L → (p : Picked W) → pick i W ≡ some p
+  row-of : (i : ℕ) (W : Rows 𝓢) (L : List (Item 𝓢)) → Points i W L → (p : Picked W) → pick i W ≡ some p
       → (e : Picked (numbered 𝓢 0 W ++ L)) × (pick i (numbered 𝓢 0 W ++ L) ≡ some e) × (e .0 ≡ (0, p .0))
   row-of i W L (hand q e a b c d) p k = (e, b, c ∙ ap (λ (x : Option (Picked W)). (0, row x)) (sym a ∙ k))
     where

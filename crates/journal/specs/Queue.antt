@@ -17,8 +17,9 @@ pub data Chain (𝓢 : Store) (recover : 𝓢 .Img → Option (Rows 𝓢)) : �
   -- a call that meets its obligations, was planned on the image, and is followed by others from its outcome on
   call : {X : 𝓢 .Img} (𝓒 : Change 𝓢) → Obligations 𝓒 → 𝓒 .recover ≡ recover → 𝓒 .before ≡ X → Chain 𝓢 recover (𝓒 .after) → Chain 𝓢 recover X
 
--- A row waits for all rows of earlier calls, so only those of the first call left can be applied: that call is in hand, and a place past its
--- rows names a row whose turn has not come. A call that writes nothing has no rows, and is in no queue.
+-- A row waits for all rows of earlier calls, so only those of the first call left can be applied: that call is in hand, and a place past
+-- its rows names one whose turn has not come. A call that is entered while others wait belongs to the chain from the start, since its rows
+-- could not be applied sooner. One that writes nothing has no rows, and is in no queue.
 pub record Queue (𝓢 : Store) (recover : 𝓢 .Img → Option (Rows 𝓢)) : Type 1 where
   -- the call in hand
   pub change : Change 𝓢
