@@ -1,0 +1,169 @@
+-- A queue of calls, crashed anywhere, gives the image of the first k; and played to the end, that of all. Assumes nothing.
+use mathlib.Core.Path.{_≡_, refl, sym, ap, _∙_}
+use mathlib.Core.Bool.{Bool, true, false}
+use mathlib.Core.List.{List, [], _∷_, _++_}
+use mathlib.Core.Option.{Option}
+use Prim.Native.Nat.{ℕ, suc, _+_, _≤_}
+use native.Mathlib.Omega.{arith}
+use lib.Dec.{T}
+use Rattle.journal.specs.Pick.{All, Empty, empty-null}
+use Rattle.journal.specs.Store.{Store, Rows}
+use Rattle.journal.specs.Change.{Change, goal}
+use Rattle.journal.specs.Events.{Event, own, through, St, decided, start}
+use Rattle.journal.specs.Obligations.{Obligations}
+use Rattle.journal.specs.Invariant.{Inv, whole, ended-of, start-inv, step-inv}
+use Rattle.journal.specs.Crash.{Safe, safe-of}
+use Rattle.journal.specs.Order.{NoCrash, step-phase}
+use Rattle.journal.specs.Queue.{Chain, end, call, Queue, one, calls, imageOf, decisions, stepped, over, onward, next, play}
+
+-- some row of a whole plan waits
+waits : {R : Type 0} (A : List R) (d : R) (B : List R) → T (through own (A ++ d ∷ B)) → ⊥
+waits [] d B t = t
+waits (r ∷ A) d B t = t
+
+module _ {𝓢 : Store} {recover : 𝓢 .Img → Option (Rows 𝓢)} where
+  -- ---- the claim
+
+  -- What holds of a queue that began with all calls of the chain.
+  pub record Queued {X : 𝓢 .Img} (c : Chain 𝓢 recover X) (q : Queue 𝓢 recover) : Type 0 where
+    -- the call in hand is safe, as for a single one
+    pub safe : Safe (q .change) (q .state)
+    -- no more deciding rows than calls were applied
+    pub counted : decisions q ≤ calls c
+    -- once the rows of a recovery have all been applied, the image is what the first k calls make of it, k counting the deciding rows applied
+    pub outcome : T (q .state .done) → q .state .img ≡ imageOf (decisions q) c
+    -- once the rows of all calls have all been applied, and no crash came, every call is decided and the image is what all of them make of it
+    pub ordered : T (over q) → (decisions q ≡ calls c) × (q .state .img ≡ imageOf (calls c) c)
+
+  -- ---- the proof
+
+  -- no call is left
+  abbrev pub Ended : {X : 𝓢 .Img} → Chain 𝓢 recover X → Type 0
+  Ended end = Unit {0}
+  Ended (call 𝓒 o r e c) = ⊥
+
+  none-left : {X : 𝓢 .Img} (c : Chain 𝓢 recover X) → Ended c → calls c ≡ 0
+  none-left end h = refl
+  none-left (call 𝓒 o r e c) h = absurd h
+
+  -- where the queue stands in the chain
+  pub record Along {X : 𝓢 .Img} (c : Chain 𝓢 recover X) (q : Queue 𝓢 recover) : Type 0 where
+    -- the call in hand keeps its invariant
+    pub inv : Inv (q .change) (q .state)
+    -- it began on the image of the calls before it
+    pub here : imageOf (q .past) c ≡ q .change .before
+    -- the calls after it go on from there
+    pub onwards : (j : ℕ) → imageOf (suc (q .past + j)) c ≡ imageOf j (q .later)
+    -- no call was left out
+    pub total : calls c ≡ suc (q .past + calls (q .later))
+
+  -- the call in hand is over only if it is the last
+  abbrev pub Last : Queue 𝓢 recover → Type 0
+  Last q = T (over q) → Ended (q .later)
+
+  module _ {X : 𝓢 .Img} (c : Chain 𝓢 recover X) where
+    same-count : (m n : ℕ) → m ≡ n → imageOf m c ≡ imageOf n c
+    same-count m n e = ap (λ (k : ℕ). imageOf k c) e
+
+    -- the next call comes in hand: its plan was made for the image as it stands
+    onward-along : (𝓒 : Change 𝓢) (𝓞 : Obligations 𝓒) (s : St 𝓒) (l : Chain 𝓢 recover (𝓒 .after)) (n : ℕ)
+        → let q : Queue 𝓢 recover = record { change = 𝓒; owed = 𝓞; state = s; later = l; past = n } in
+        Along c q → T (over q) → Along c (onward true q l) × Last (onward true q l)
+    onward-along 𝓒 𝓞 s end n a t = (a, λ _. tt)
+    onward-along 𝓒 𝓞 s (call 𝓒′ 𝓞′ r e l) n a t =
+        let w = whole 𝓒 (𝓞 .orderly) (s .phase) (s .waiting) t (a .inv) in
+        let k : one (decided 𝓒 s) ≡ 1 = ap one (w .0) in (
+          record {
+            inv = rw (w .1 ∙ sym e) (start-inv 𝓒′ (𝓞′ .orderly));
+            here = same-count (n + one (decided 𝓒 s)) (suc (n + 0)) (omega arith) ∙ a .onwards 0 ∙ sym e;
+            onwards = λ j. same-count (suc (n + one (decided 𝓒 s) + j)) (suc (n + suc j)) (omega arith) ∙ a .onwards (suc j);
+            total = omega (arith, a .total);
+          },
+          λ t. absurd (waits (𝓒′ .ahead) (𝓒′ .decide) (𝓒′ .behind) t),
+        )
+
+    step-along : (q : Queue 𝓢 recover) (e : Event (𝓢 .Row)) → Along c q → Along c (stepped q e)
+    step-along q e a =
+        let i = step-inv (q .change) (q .owed) (q .state) e (a .inv) in
+        record { inv = i; here = a .here; onwards = a .onwards; total = a .total }
+
+    next-along : (q : Queue 𝓢 recover) (e : Event (𝓢 .Row)) → Along c q → Along c (next q e) × Last (next q e)
+    next-along q e a = go (over r) (λ t. t) (λ t. t)
+      where
+        r : Queue 𝓢 recover
+        r = stepped q e
+
+        go : (b : Bool) → (T b → T (over r)) → (T (over r) → T b) → Along c (onward b r (q .later)) × Last (onward b r (q .later))
+        go true f g = onward-along (r .change) (r .owed) (r .state) (r .later) (r .past) (step-along q e a) (f tt)
+        go false f g = (step-along q e a, λ t. absurd (g t))
+
+    play-along : (q : Queue 𝓢 recover) (es : List (Event (𝓢 .Row))) → Along c q → Last q → Along c (play q es) × Last (play q es)
+    play-along q [] a l = (a, l)
+    play-along q (e ∷ es) a l = let n = next-along q e a in play-along (next q e) es (n .0) (n .1)
+
+    -- what the invariant says of a queue
+    queued-of : (q : Queue 𝓢 recover) → Along c q → Last q → Queued c q
+    queued-of q a l = record {
+      safe = safe-of (q .change) (q .owed) (q .state) (a .inv);
+      counted = few (decided (q .change) (q .state));
+      outcome = λ t. ended-of (q .change) (q .state) (a .inv) t ∙ sym (at (decided (q .change) (q .state)));
+      ordered = λ t.
+          let w = whole (q .change) (q .owed .orderly) (q .state .phase) (q .state .waiting) t (a .inv) in
+          let k : one (decided (q .change) (q .state)) ≡ 1 = ap one (w .0) in
+          let z = none-left (q .later) (l t) in
+          (omega (arith, a .total), w .1 ∙ sym (a .onwards 0) ∙ same-count (suc (q .past + 0)) (calls c) (omega (arith, a .total)));
+    }
+      where
+        at : (d : Bool) → imageOf (q .past + one d) c ≡ goal (q .change) d
+        at false = same-count (q .past + 0) (q .past) (omega arith) ∙ a .here
+        at true = same-count (q .past + 1) (suc (q .past + 0)) (omega arith) ∙ a .onwards 0
+
+        few : (d : Bool) → q .past + one d ≤ calls c
+        few false = omega (arith, a .total)
+        few true = omega (arith, a .total)
+
+  step-own : (q : Queue 𝓢 recover) (e : Event (𝓢 .Row)) → NoCrash e → q .state .phase ≡ own → next q e .state .phase ≡ own
+  step-own q e n h = go (over r) (q .later)
+    where
+      r : Queue 𝓢 recover
+      r = stepped q e
+
+      k : r .state .phase ≡ own
+      k = step-phase (q .change) (q .state) e n ∙ h
+
+      go : (b : Bool) (l : Chain 𝓢 recover (r .change .after)) → onward b r l .state .phase ≡ own
+      go false l = k
+      go true end = k
+      go true (call 𝓒 o s e l) = refl
+
+  play-own : (q : Queue 𝓢 recover) (es : List (Event (𝓢 .Row))) → All NoCrash es → q .state .phase ≡ own → play q es .state .phase ≡ own
+  play-own q [] n h = h
+  play-own q (e ∷ es) n h = play-own (next q e) es (n .1) (step-own q e (n .0) h)
+
+  -- ---- the theorem
+
+  module _ (𝓒 : Change 𝓢) (𝓞 : Obligations 𝓒) (r : 𝓒 .recover ≡ recover) (later : Chain 𝓢 recover (𝓒 .after)) where
+    -- all calls
+    abbrev pub whole-chain : Chain 𝓢 recover (𝓒 .before)
+    whole-chain = call 𝓒 𝓞 r refl later
+
+    -- all of them wait
+    abbrev pub queue : Queue 𝓢 recover
+    queue = record { change = 𝓒; owed = 𝓞; state = start 𝓒; later = later; past = 0 }
+
+    pub chain-along : (es : List (Event (𝓢 .Row))) → Along whole-chain (play queue es) × Last (play queue es)
+    chain-along es = play-along whole-chain queue es (record {
+      inv = start-inv 𝓒 (𝓞 .orderly);
+      here = refl;
+      onwards = λ j. same-count later (0 + j) j (omega arith);
+      total = omega arith;
+    }) (λ t. absurd (waits (𝓒 .ahead) (𝓒 .decide) (𝓒 .behind) t))
+
+    -- after every list of events
+    pub chain-safe : (es : List (Event (𝓢 .Row))) → Queued whole-chain (play queue es)
+    chain-safe es = let a = chain-along es in queued-of whole-chain (play queue es) (a .0) (a .1)
+
+    -- without a crash, whatever order was chosen, the end is what all calls make of the image
+    pub every-order : (es : List (Event (𝓢 .Row))) → All NoCrash es → Empty (play queue es .state .waiting)
+        → play queue es .state .img ≡ imageOf (calls whole-chain) whole-chain
+    every-order es n e = chain-safe es .ordered (rw (play-own queue es n refl) (empty-null (play queue es .state .waiting) e)) .1

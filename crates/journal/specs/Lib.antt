@@ -1,0 +1,19 @@
+-- The laws, each file below those that it uses.
+pub mod Pick
+pub mod Turn
+pub mod Store
+pub mod Change
+pub mod Events
+pub mod Obligations
+pub mod Settle
+pub mod Opening
+pub mod Invariant
+pub mod Crash
+pub mod Finish
+pub mod Order
+pub mod Plan
+pub mod Planned
+pub mod Queue
+pub mod Chain
+pub mod Place
+pub mod Example
