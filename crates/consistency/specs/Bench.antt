@@ -5,7 +5,7 @@ use mathlib.Core.List.{List, [], _∷_, _++_}
 use Prim.Native.Nat.{ℕ, _-_}
 use lib.ListN.{length, replicate}
 use Rattle.seq.specs.Search.{any, all, count}
-use Rattle.seq.specs.Bytes.{part, zeros, sameBytes}
+use Rattle.seq.specs.Bytes.{part, zeros, noZero, sameBytes}
 use Rattle.seq.specs.Number.{numberAt, bytesOf}
 use Rattle.layout.specs.Contents.{sectionName, nameIs, rowIs, shapeOf, rowGood, rowsGood, layoutGood}
 use Rattle.layout.specs.Record.{recordAt}
@@ -14,7 +14,7 @@ use Rattle.consistency.specs.Name.{nameBytes, isDots, nameGood, clash, h
 use Rattle.consistency.specs.Tree.{entriesOf, childDirectories, leads}
 use Rattle.consistency.specs.Inode.{leafGood, fileGood, directoryGood, textShared, symlinkGood, inodeGood}
 use Rattle.consistency.specs.Entry.{entryFormed, entryLinked, entryGood}
-use Rattle.consistency.specs.Others.{noZero, textLinked, textGood, openGood, handleGood, journalClear}
+use Rattle.consistency.specs.Others.{textLinked, textGood, openGood, handleGood, journalClear}
 use Rattle.consistency.specs.Consistent.{bodiesGood, consistent, recordsNumber, checkNumber}
 
 -- bytes, then zeros up to n bytes

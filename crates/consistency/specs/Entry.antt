@@ -11,12 +11,8 @@ use Rattle.seq.specs.Search.{all, all-at}
 use Rattle.seq.specs.Bytes.{zeros}
 use Rattle.layout.specs.declared.Shape.{Shape}
 use Rattle.layout.specs.Contents.{Laid}
-use Rattle.layout.specs.View.{View, viewOf, entryAt, isDirectory, isUsed}
+use Rattle.layout.specs.View.{View, viewOf, nameRoom, entryAt, isDirectory, isUsed}
 use Rattle.consistency.specs.Name.{nameGood, Named}
-
--- rule 9: the bytes that an entry has for its name
-abbrev pub nameRoom : Shape → ℕ
-nameRoom h = h .width - 8
 
 -- rule 18: a name fits its room; rule 19: the three bytes behind the length and the rest of the room are zero
 unfoldable pub entryFormed : Shape → List ℕ → ℕ → Bool

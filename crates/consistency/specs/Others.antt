@@ -10,7 +10,7 @@ use lib.Dec.{eqb, leb}
 use lib.ListN.{length, getD}
 use Rattle.seq.specs.Truth.{implies}
 use Rattle.seq.specs.Search.{any, all}
-use Rattle.seq.specs.Bytes.{zeros}
+use Rattle.seq.specs.Bytes.{zeros, noZero}
 use Rattle.layout.specs.declared.Shape.{Shape}
 use Rattle.layout.specs.View.{View, viewOf, textAt, handleAt, journalAt, isUsed, textUsed}
 use Rattle.consistency.specs.Inode.{hasText}
@@ -19,15 +19,11 @@ use Rattle.consistency.specs.Inode.{hasText}
 abbrev pub textRoom : ℕ
 textRoom = 63
 
--- rule 44: no byte of a text is 0
-unfoldable pub noZero : List ℕ → Bool
-noZero text = all (λ k. not (eqb (getD text k 0) 0)) (length text)
-
 -- rule 45: some symlink has text t
 unfoldable pub textLinked : View → ℕ → Bool
 textLinked v t = any (hasText v t) (v .inodes)
 
--- rule 20: a text fits its room; rule 21: what follows it is zero, so a free record is all zero
+-- rule 20: a text fits its room; rule 21: what follows it is zero, so a free record is all zero; rule 44: no byte of it is 0
 unfoldable pub textGood : Shape → List ℕ → ℕ → Bool
 textGood h s t =
     leb (viewOf h s .textLength t) textRoom && zeros (textAt h s t) (1 + viewOf h s .textLength t) (textRoom - viewOf h s .textLength t)

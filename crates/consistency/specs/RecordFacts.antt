@@ -8,12 +8,12 @@ use native.Mathlib.Omega.{arith}
 use lib.Dec.{eqb}
 use borrow.Author.Tests.{eqb-true, eqb-false, leb-true, not-true, not-false, eq-eqb, ne-eqb, le-leb}
 use Rattle.seq.specs.Truth.{implies-at, implies-of, and-left, and-right}
-use Rattle.seq.specs.Bytes.{zeros}
+use Rattle.seq.specs.Bytes.{zeros, noZero}
 use Rattle.layout.specs.declared.Shape.{Shape}
-use Rattle.layout.specs.View.{View, viewOf, entryAt, textAt, handleAt, isDirectory, isUsed, entryUsed, textUsed}
+use Rattle.layout.specs.View.{View, viewOf, nameRoom, entryAt, textAt, handleAt, isDirectory, isUsed, entryUsed, textUsed}
 use Rattle.consistency.specs.Name.{nameGood}
-use Rattle.consistency.specs.Entry.{nameRoom, entryFormed, entryLinked, entryGood}
-use Rattle.consistency.specs.Others.{textRoom, noZero, textLinked, textGood, openGood, byState, handleGood, state-closed, state-open, state-none}
+use Rattle.consistency.specs.Entry.{entryFormed, entryLinked, entryGood}
+use Rattle.consistency.specs.Others.{textRoom, textLinked, textGood, openGood, byState, handleGood, state-closed, state-open, state-none}
 
 -- what an entry in use names
 pub record Linked (v : View) (j : ℕ) : Type 0 where

@@ -5,21 +5,7 @@ ghost use Prim.Native.Nat.{_<_};
 ghost use Rattle.seq.specs.Search.{all};
 ghost use Rattle.layout.specs.Contents.{Laid};
 ghost use Rattle.layout.specs.View.{viewOf};
-ghost use Rattle.consistency.specs.Others.{noZero, textLinked, textGood};
-
-// Whether no byte is 0.
-fn no_zero(text: &[u8]) -> bool
-    ensures { λ r. ⌜ r ≡ noZero (now (text .entry)) ⌝ }
-{
-    let mut k: usize = 0;
-    while k < text.len() {
-        if text[k] == 0 {
-            return false;
-        }
-        k += 1;
-    }
-    true
-}
+ghost use Rattle.consistency.specs.Others.{textLinked, textGood};
 
 // Whether some symlink has text t.
 fn linked(s: &[u8], h: Shape, t: usize) -> bool
@@ -50,7 +36,7 @@ fn good(s: &[u8], h: Shape, t: usize) -> bool
     if !layout::bytes::all_zero(r, 1 + n, 63 - n) {
         return false;
     }
-    if !no_zero(layout::text::bytes(r)) {
+    if !layout::bytes::no_zero(layout::text::bytes(r)) {
         return false;
     }
     if n == 0 {

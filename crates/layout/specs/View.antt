@@ -27,12 +27,18 @@ handleAt h s n = recordAt h s 3 n
 abbrev pub journalAt : Shape → List ℕ → List ℕ
 journalAt h s = recordAt h s 4 0
 
+-- rule 9: the bytes that an entry has for its name
+abbrev pub nameRoom : Shape → ℕ
+nameRoom h = h .width - 8
+
 -- Each field is a function of the record's number, so that a fact about one record is a fact about the view.
 pub record View : Type 0 where
   pub inodes : ℕ
   pub entries : ℕ
   pub texts : ℕ
   pub handles : ℕ
+  -- the bytes that an entry has for its name
+  pub room : ℕ
   -- of an inode
   pub kind : ℕ → ℕ
   pub system : ℕ → ℕ
@@ -61,6 +67,7 @@ viewOf h s = record {
   entries = h .entries;
   texts = h .texts;
   handles = h .handles;
+  room = nameRoom h;
   kind = λ i. inodeKind (inodeAt h s i);
   system = λ i. inodeSystem (inodeAt h s i);
   mode = λ i. inodeMode (inodeAt h s i);
@@ -119,7 +126,7 @@ pub record Readable (h : Shape) (s : List ℕ) : Type 0 where
   pub kinds : (i : ℕ) → i < h .inodes → viewOf h s .kind i ≤ 3
   pub parents : (j : ℕ) → j < h .entries → entryUsed (viewOf h s) j ≡ true → isDirectory (viewOf h s) (viewOf h s .parent j) ≡ true
   pub targets : (j : ℕ) → j < h .entries → entryUsed (viewOf h s) j ≡ true → isUsed (viewOf h s) (viewOf h s .target j) ≡ true
-  pub names : (j : ℕ) → j < h .entries → viewOf h s .nameLength j ≤ h .width - 8
+  pub names : (j : ℕ) → j < h .entries → viewOf h s .nameLength j ≤ nameRoom h
   pub above : (i : ℕ) → isDirectory (viewOf h s) i ≡ true → viewOf h s .field i < h .inodes
   pub symlinks : (i : ℕ) → isSymlink (viewOf h s) i ≡ true → viewOf h s .field i < h .texts
   pub texts : (t : ℕ) → t < h .texts → viewOf h s .textLength t ≤ 63

@@ -1,7 +1,7 @@
 -- Ranges of bytes in a list: a part read, a part written over, and what stays. Assumes nothing.
 use mathlib.Core.Path.{_≡_, refl, _∙_}
 use mathlib.Core.Logic.{_⊎_, ⊎-elim}
-use mathlib.Core.Bool.{Bool, _&&_}
+use mathlib.Core.Bool.{Bool, _&&_, not}
 use mathlib.Core.List.{List, [], _∷_, _++_}
 use Prim.Native.Nat.{ℕ, zero, suc, _+_, _-_, _<_, _≤_}
 use native.Mathlib.Nat.{add-zero, add-sub-cancel-left, not-suc-le-zero, le-of-suc-le-suc, lt-irrefl}
@@ -23,6 +23,10 @@ put xs at ys = sets xs at ys
 -- the n bytes from index at on are zero
 unfoldable pub zeros : List ℕ → ℕ → ℕ → Bool
 zeros xs at n = all (λ k. eqb (getD xs (at + k) 0) 0) n
+
+-- no byte is zero
+unfoldable pub noZero : List ℕ → Bool
+noZero xs = all (λ k. not (eqb (getD xs k 0) 0)) (length xs)
 
 -- two lists of bytes are the same
 unfoldable pub sameBytes : List ℕ → List ℕ → Bool

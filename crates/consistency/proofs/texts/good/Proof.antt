@@ -4,12 +4,12 @@ use Prim.Native.Nat.{_+_, _-_}
 use native.Mathlib.Omega.{arith}
 use borrow.Author.Needs.{needs}
 use borrow.Author.Tests.{eq-eqb, ne-eqb, le-leb, lt-leb}
-use Rattle.seq.specs.Bytes.{zeros}
+use Rattle.seq.specs.Bytes.{zeros, noZero}
 use Rattle.seq.specs.Truth.{fails, holds}
 use Rattle.layout.specs.Fields.{textLength, textBytes}
 use Rattle.layout.specs.Record.{field-of}
 use Rattle.layout.specs.View.{viewOf, textAt}
-use Rattle.consistency.specs.Others.{noZero, textGood}
+use Rattle.consistency.specs.Others.{textGood}
 use Rattle.consistency.proofs.texts.good.Statement.{statement}
 use Rattle.consistency.proofs.texts.good.Tie as tie
 

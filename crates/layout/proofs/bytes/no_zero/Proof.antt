@@ -1,4 +1,4 @@
--- `consistency::texts::no_zero` meets its contract. Assumes nothing.
+-- `layout::bytes::no_zero` meets its contract. Assumes nothing.
 use mathlib.Core.Path.{_≡_, sym}
 use mathlib.Core.Bool.{true, not}
 use Prim.Native.Nat.{_≤_, _-_}
@@ -8,15 +8,15 @@ use lib.ListN.{length, getD}
 use borrow.Author.Needs.{needs}
 use borrow.Author.Tests.{eq-eqb, ne-eqb}
 use Rattle.seq.specs.Search.{all, all-none, all-more, all-not}
-use Rattle.consistency.specs.Others.{noZero}
-use Rattle.consistency.proofs.texts.no_zero.Statement.{statement}
-use Rattle.consistency.proofs.texts.no_zero.Tie as tie
+use Rattle.seq.specs.Bytes.{noZero}
+use Rattle.layout.proofs.bytes.no_zero.Statement.{statement}
+use Rattle.layout.proofs.bytes.no_zero.Tie as tie
 
 abbrev Inv-loop : tie.InvT-loop
-Inv-loop text k₀ k = (k ≤ length text) × (all (λ i. not (eqb (getD text i 0) 0)) k ≡ true)
+Inv-loop s k₀ k = (k ≤ length s) × (all (λ i. not (eqb (getD s i 0) 0)) k ≡ true)
 
 abbrev μ-loop : tie.MeasureT-loop
-μ-loop text k₀ k = length text - k
+μ-loop s k₀ k = length s - k
 
 loop-holds : tie.Need-loop-holds Inv-loop μ-loop
 loop-holds c = (search needs, all-none _)
@@ -39,7 +39,7 @@ loop-again c = (search needs, all-more _ _ (c .before .before .before .loop .inv
 
 returns-2 : tie.Need-returns-2 Inv-loop μ-loop
 unfolding noZero
-returns-2 c = let e : c .before .loop .k ≡ length (c .before .before .args .text .now) = omega arith in
+returns-2 c = let e : c .before .loop .k ≡ length (c .before .before .args .s .now) = omega arith in
     sym (rw e at (c .before .loop .inv .1))
 
 pub no-zero-spec : {M : Type 1} → statement M
