@@ -6,10 +6,10 @@ use Rattle.vectors.proofs.all.Statement.{statement}
 use Rattle.vectors.proofs.all.Tie as tie
 
 abbrev Inv-loop : tie.InvT-loop
-Inv-loop fd base₀ image₀ left₀ found base image left = (length base ≡ length base₀) × (length image ≡ length image₀)
+Inv-loop fd base₀ image₀ left₀ sentence base image left = (length base ≡ length base₀) × (length image ≡ length image₀)
 
 abbrev μ-loop : tie.MeasureT-loop
-μ-loop fd base₀ image₀ left₀ found base image left = left
+μ-loop fd base₀ image₀ left₀ sentence base image left = left
 
 loop-holds : tie.Need-loop-holds Inv-loop μ-loop
 loop-holds c = search needs
