@@ -42,11 +42,12 @@ pub fn read_base(fd: i32, base: &mut [u8]) -> bool {
     reader::fill(fd, &mut base[..len])
 }
 
-// The base's byte at i; past the buffer are zero bytes too.
+// The base's byte at i; past its buffer too all bytes are zero.
 fn base_byte(base: &[u8], i: usize) -> u8 {
     if i < base.len() { base[i] } else { 0 }
 }
 
+// Makes the image a copy of the base, cut or extended with zero bytes.
 fn start(base: &[u8], image: &mut [u8]) {
     let mut i: usize = 0;
     while i < image.len() {

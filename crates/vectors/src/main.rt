@@ -1,18 +1,24 @@
 // Prints the library's answers to the stored cases. docs/VECTORS.md has the form of the files.
+use libc::STDERR_FILENO;
 use reader::Tag;
 
 mod check;
 mod image;
 mod reader;
 
-// No file has more items. Nothing says that a file ends, so the count of items left is what ends the loop.
-const MOST_ITEMS: usize = 1000000;
+// So many items are too many. Nothing says that a file ends, so a count of its items ends the loop.
+const TOO_MANY: usize = 1000000;
 
+const BASE: u8 = 1;
+
+const CHECK_CASE: u8 = 2;
+
+// Reads the rest of an item, and answers it where it is a case.
 fn item(fd: i32, tag: u8, base: &mut [u8], image: &mut [u8]) -> bool {
-    if tag == 1 {
+    if tag == BASE {
         return image::read_base(fd, base);
     }
-    if tag == 2 {
+    if tag == CHECK_CASE {
         return check::case(fd, base, image);
     }
     reader::complain(b"an item has an unknown tag");
@@ -21,7 +27,7 @@ fn item(fd: i32, tag: u8, base: &mut [u8], image: &mut [u8]) -> bool {
 
 // Answers the cases of a file; false where something is wrong with it.
 fn all(fd: i32, base: &mut [u8], image: &mut [u8]) -> bool {
-    let mut left: usize = MOST_ITEMS;
+    let mut left: usize = TOO_MANY;
     while 0 < left {
         let found = reader::next(fd);
         match found {
@@ -43,17 +49,16 @@ fn all(fd: i32, base: &mut [u8], image: &mut [u8]) -> bool {
 fn run(path: &[u8]) {
     let fd = os::open_read(path);
     if fd < 0 {
+        io::write_all(STDERR_FILENO, b"vectors: cannot open ");
         os::fail(path);
         return;
     }
     let mut base = image::base_buffer();
     let mut image = image::buffer();
     if !all(fd, &mut base, &mut image) {
-        io::write_all(libc::STDERR_FILENO, path);
-        io::write_all(
-            libc::STDERR_FILENO,
-            b": the rest of this file is not read\n",
-        );
+        io::write_all(STDERR_FILENO, b"vectors: stopped in the file ");
+        io::write_all(STDERR_FILENO, path);
+        io::write_all(STDERR_FILENO, b"\n");
     }
     libc::close(fd);
 }

@@ -9,7 +9,7 @@ pub enum Tag {
     Failed,
 }
 
-// A number inside an item, or a sentence was written on why there is none.
+// A number inside an item. Where it is missing, standard error has been told why.
 pub enum Number {
     Read(usize),
     Missing,
@@ -22,6 +22,7 @@ pub fn complain(sentence: &[u8]) {
     io::write_all(STDERR_FILENO, b"\n");
 }
 
+// Reads the tag of the next item.
 pub fn next(fd: i32) -> Tag {
     let mut b = [0u8; 1];
     let got = libc::read(fd, &mut b);
@@ -35,7 +36,7 @@ pub fn next(fd: i32) -> Tag {
     Tag::Item(b[0])
 }
 
-// Fills the whole buffer.
+// Fills the buffer with the next bytes of an item; false where there are fewer.
 pub fn fill(fd: i32, buf: &mut [u8]) -> bool {
     let got = io::read_full(fd, buf);
     if got != buf.len() {
@@ -56,6 +57,7 @@ pub fn joined(a: u8, b: u8, c: u8, d: u8) -> usize {
     wide(a) + 256 * wide(b) + 65536 * wide(c) + 16777216 * wide(d)
 }
 
+// Reads a number of one byte.
 pub fn number8(fd: i32) -> Number {
     let mut b = [0u8; 1];
     if !fill(fd, &mut b) {
@@ -64,6 +66,7 @@ pub fn number8(fd: i32) -> Number {
     Number::Read(wide(b[0]))
 }
 
+// Reads a number of four bytes.
 pub fn number32(fd: i32) -> Number {
     let mut b = [0u8; 4];
     if !fill(fd, &mut b) {
