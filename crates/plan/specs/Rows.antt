@@ -54,6 +54,12 @@ row-past plan i r below fits j past =
     put-after (r .body) (put plan (headerAt i) (headerOf i r)) (bodyAt i) j (omega arith)
     ∙ put-after (headerOf i r) plan (headerAt i) j (omega (arith, header-length i r))
 
+-- Row r stands in place i of the plan, with its header in order.
+pub record Stands (plan : List ℕ) (i : ℕ) (r : Row) : Type 0 where
+  pub row : rowAt plan i ≡ r
+  pub blank : rowBlank plan i ≡ 0
+  pub position : rowPosition plan i ≡ bodyAt i
+
 -- a row is read back
 module _ (plan : List ℕ) (i : ℕ) (r : Row) (long : planBytes ≤ length plan) (below : i < planRows) where
   pub header-same : header (rowPut plan i r) i ≡ headerOf i r
@@ -97,6 +103,9 @@ module _ (plan : List ℕ) (i : ℕ) (r : Row) (long : planBytes ≤ length plan
     unfolding rowAt
     row-same = λ t. record { group = group-same t; offset = offset-same t; bytes = length-same t; body = body-same t }
 
+    pub row-stands : Stands (rowPut plan i r) i r
+    row-stands = record { row = row-same; blank = blank-same; position = position-same }
+
 -- every other row is as before
 module _ (plan : List ℕ) (i j : ℕ) (r : Row) (fits : length (r .body) ≤ bodyBytes) (in-i : i < planRows) (in-j : j < planRows) (differ : i ≢ j) where
   sides : (i < j) ⊎ (j < i)
@@ -131,3 +140,15 @@ module _ (plan : List ℕ) (i j : ℕ) (r : Row) (fits : length (r .body) ≤ bo
       let body : part (rowPut plan j r) (bodyAt i) (rowLength (rowPut plan j r) i) ≡ part plan (bodyAt i) (rowLength plan i) =
       ap (λ (n : ℕ). part (rowPut plan j r) (bodyAt i) n) bytes ∙ body-other (rowLength plan i) b in
       λ t. record { group = group t; offset = offset t; bytes = bytes t; body = body t }
+
+  pub stands-other : (q : Row) → Formed q → Stands plan i q → Stands (rowPut plan j r) i q
+  unfolding rowAt
+  stands-other q formed stands =
+      let bytes : rowLength plan i ≡ q .bytes = ap (λ (x : Row). x .bytes) (stands .row) in
+      let a = fields (rowPut plan j r) i in
+      let o = fields plan i in
+      record {
+        row = row-other (omega (arith, formed .body-fits)) ∙ stands .row;
+        blank = a .blank ∙ ap (λ (x : List ℕ). getD x 1 0) header-other ∙ sym (o .blank) ∙ stands .blank;
+        position = a .position ∙ ap (λ (x : List ℕ). numberAt 2 x 6) header-other ∙ sym (o .position) ∙ stands .position;
+      }
