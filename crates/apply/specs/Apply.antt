@@ -2,14 +2,14 @@
 use mathlib.Core.Path.{_≡_, refl, sym, ap, _∙_}
 use mathlib.Core.Bool.{Bool, true, false, cond}
 use mathlib.Core.List.{List}
-use Prim.Native.Nat.{ℕ, _≤_, _<_}
+use Prim.Native.Nat.{ℕ, _+_, _-_, _≤_, _<_}
 use lib.Dec.{eqb, ltb}
-use lib.ListN.{length}
+use lib.ListN.{length, take, drop}
 use borrow.Author.Tests.{lt-ltb, le-ltb}
-use Rattle.seq.specs.Bytes.{put}
+use Rattle.seq.specs.Bytes.{put, part-range, part-length}
 use Rattle.layout.specs.declared.Shape.{Shape}
 use Rattle.layout.specs.Contents.{layoutGood, shapeOf, Read}
-use Rattle.plan.specs.Form.{Row, planBytes, rowAt}
+use Rattle.plan.specs.Form.{Row, planBytes, bodyAt, rowLength, rowOffset, rowAt}
 use Rattle.plan.specs.Fit.{rowGood}
 
 -- the numbers of the refusals
@@ -22,7 +22,7 @@ badLayout = 201
 abbrev pub badRow : ℕ
 badRow = 207
 
--- rule L4: of an image with a good layout
+-- rule L4: the number, and the image after it, where the plan is long enough and the layout good
 abbrev pub rowNumber : Shape → List ℕ → ℕ → ℕ
 rowNumber h plan i = cond (rowGood h plan i) 0 badRow
 
@@ -38,3 +38,36 @@ applied image r = put image (r .offset) (r .body)
 -- rules L1 and L8: the whole image after the job, as it was where the job refuses
 unfoldable pub appliedImage : List ℕ → List ℕ → ℕ → List ℕ
 appliedImage image plan i = cond (eqb (applyNumber image plan i) 0) (applied image (rowAt plan i)) image
+
+-- the same where the plan is long enough and the layout good
+abbrev pub rowImage : Shape → List ℕ → List ℕ → ℕ → List ℕ
+rowImage h image plan i = cond (rowGood h plan i) (applied image (rowAt plan i)) image
+
+-- the ways out of the job
+module _ (image plan : List ℕ) (i : ℕ) where
+  pub apply-short : length plan < planBytes → (applyNumber image plan i ≡ shortPlan) × (appliedImage image plan i ≡ image)
+  unfolding appliedImage applyNumber
+  apply-short short = (rw (lt-ltb _ _ short), rw (lt-ltb _ _ short))
+
+  module _ (long : planBytes ≤ length plan) where
+    pub apply-bad : layoutGood image ≡ false → (applyNumber image plan i ≡ badLayout) × (appliedImage image plan i ≡ image)
+    unfolding appliedImage applyNumber
+    apply-bad bad = (rw (le-ltb _ _ long, bad), rw (le-ltb _ _ long, bad))
+
+    pub apply-read : (h : Shape) → Read image h → (applyNumber image plan i ≡ rowNumber h plan i) × (appliedImage image plan i ≡ rowImage h image plan i)
+    unfolding appliedImage applyNumber
+    apply-read h r =
+        (rw (le-ltb _ _ long, r .good, r .shape), rw (le-ltb _ _ long, r .good, r .shape) (pick (rowGood (shapeOf image) plan i)))
+      where
+        pick : (b : Bool) → cond (eqb (cond b 0 badRow) 0) (applied image (rowAt plan i)) image ≡ cond b (applied image (rowAt plan i)) image
+        pick true = refl
+        pick false = refl
+
+-- the body as the code takes it, `&plan[at..at + n]`
+pub body-length : (plan : List ℕ) (at n : ℕ) → at + n ≤ length plan → length (take (at + n - at) (drop at plan)) ≡ n
+body-length plan at n l = ap (λ (x : List ℕ). length x) (part-range plan at n) ∙ part-length plan at n l
+
+pub body-copied : (h : Shape) (image plan : List ℕ) (i at n : ℕ) → rowGood h plan i ≡ true → at ≡ rowOffset plan i → n ≡ rowLength plan i
+    → put image at (take (bodyAt i + n - bodyAt i) (drop (bodyAt i) plan)) ≡ rowImage h image plan i
+unfolding rowAt
+body-copied h image plan i at n good a b = rw (good, a, b, part-range plan (bodyAt i) (rowLength plan i))

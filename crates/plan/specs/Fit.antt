@@ -6,12 +6,12 @@ use Prim.Native.Nat.{ℕ, zero, suc, _+_, _*_, _≤_, _<_}
 use native.Mathlib.Omega.{arith}
 use lib.Dec.{eqb, leb, ltb}
 use lib.ListN.{length}
-use borrow.Author.Tests.{eq-eqb, eqb-true, lt-ltb, le-leb}
+use borrow.Author.Tests.{eq-eqb, eqb-true, lt-ltb, ltb-true, le-leb, leb-true}
 use Rattle.seq.specs.Truth.{and-left, and-right, and-both}
 use Rattle.seq.specs.Search.{any, any-hit, any-at}
 use Rattle.layout.specs.declared.Shape.{Shape}
 use Rattle.layout.specs.Place.{Key, Valid, recordBytes, records, place, imageBytes, inside}
-use Rattle.plan.specs.Form.{Row, planRows, bodyBytes, planBytes, bodyAt, rowOf, rowBlank, rowPosition, rowAt, rowPut}
+use Rattle.plan.specs.Form.{Row, planRows, bodyBytes, planBytes, bodyAt, rowOf, rowGroup, rowBlank, rowLength, rowOffset, rowPosition, rowAt, rowPut}
 use Rattle.layout.specs.Contents.{Laid, layoutGood, shapeOf, entryWidth, good-laid}
 use Rattle.plan.specs.Rows.{Formed, Stands, row-stands}
 
@@ -79,6 +79,49 @@ one-covers h at n c =
     (any-hit (coversRecord h at n (c .key .section)) (records h (c .key .section)) (c .key .index) (c .valid .in-section)
     (and-both (eqb at _) _ (eq-eqb _ _ (c .begins)) (eq-eqb _ _ (c .whole)))))
 
+-- such a record lies in the image
+pub covered-ends : (h : Shape) (at n : ℕ) → Covered h at n → at + n ≤ imageBytes h
+covered-ends h at n c = rw (c .begins, c .whole) (inside h (c .key .section) (c .key .index) (c .valid .in-image) (c .valid .in-section))
+
+-- a record is not empty, and it fits a body
+record-room : (h : Shape) → 32 ≤ h .width → h .width ≤ 48 → (k : ℕ) → (1 ≤ recordBytes h k) × (recordBytes h k ≤ bodyBytes)
+record-room h a b zero = (omega arith, omega arith)
+record-room h a b (suc zero) = (omega arith, omega arith)
+record-room h a b (suc (suc zero)) = (omega arith, omega arith)
+record-room h a b (suc (suc (suc zero))) = (omega arith, omega arith)
+record-room h a b (suc (suc (suc (suc k)))) = (omega arith, omega arith)
+
+-- What holds of a good row.
+pub record RowGood (h : Shape) (plan : List ℕ) (i : ℕ) : Type 0 where
+  pub below : i < planRows
+  pub blank : rowBlank plan i ≡ 0
+  pub position : rowPosition plan i ≡ bodyAt i
+  pub first : 1 ≤ rowGroup plan i
+  pub last : rowGroup plan i ≤ lastGroup
+  pub covered : Covered h (rowOffset plan i) (rowLength plan i)
+
+pub good-row : (h : Shape) (plan : List ℕ) (i : ℕ) → rowGood h plan i ≡ true → RowGood h plan i
+unfolding rowGood rowFits rowAt
+good-row h plan i e = record {
+  below = ltb-true _ _ (search (and-left, and-right));
+  blank = eqb-true _ _ (search (and-left, and-right));
+  position = eqb-true _ _ (search (and-left, and-right));
+  first = leb-true _ _ (search (and-left, and-right));
+  last = leb-true _ _ (search (and-left, and-right));
+  covered = covers-one h _ _ (search (and-left, and-right));
+}
+
+pub row-good : (h : Shape) (plan : List ℕ) (i : ℕ) → RowGood h plan i → rowGood h plan i ≡ true
+unfolding rowGood rowFits rowAt
+row-good h plan i g =
+    rw (lt-ltb _ _ (g .below), eq-eqb _ _ (g .blank), eq-eqb _ _ (g .position), le-leb _ _ (g .first), le-leb _ _ (g .last), one-covers h _ _ (g .covered))
+
+-- a good row has its body in the plan and its record in the image
+pub good-fits : (h : Shape) (s plan : List ℕ) (i : ℕ) → Laid h s → RowGood h plan i → (rowLength plan i ≤ bodyBytes) × (rowOffset plan i + rowLength plan i ≤ length s)
+good-fits h s plan i laid g =
+    let room = record-room h (laid .width-least) (laid .width-most) (g .covered .key .section) .1 in
+    (rw (g .covered .whole) room, omega (arith, laid .long, covered-ends h _ _ (g .covered)))
+
 -- the row that replaces one record, as every operation writes it
 abbrev pub rowFor : Shape → ℕ → Key → List ℕ → Row
 rowFor h group k body = rowOf group (place h (k .section) (k .index)) body
@@ -108,14 +151,7 @@ unfolding rowGood
 stands-good h plan i r below stands =
     rw (lt-ltb _ _ below, eq-eqb _ _ (stands .blank), eq-eqb _ _ (stands .position), stands .row)
 
--- a record is not empty and fits a body, and its offset fits two bytes
-record-room : (h : Shape) → 32 ≤ h .width → h .width ≤ 48 → (k : ℕ) → (1 ≤ recordBytes h k) × (recordBytes h k ≤ bodyBytes)
-record-room h a b zero = (omega arith, omega arith)
-record-room h a b (suc zero) = (omega arith, omega arith)
-record-room h a b (suc (suc zero)) = (omega arith, omega arith)
-record-room h a b (suc (suc (suc zero))) = (omega arith, omega arith)
-record-room h a b (suc (suc (suc (suc k)))) = (omega arith, omega arith)
-
+-- the offset of a record fits two bytes
 pub image-small : (s : List ℕ) → layoutGood s ≡ true → imageBytes (shapeOf s) ≤ 65536
 unfolding shapeOf
 image-small s good =
