@@ -1,8 +1,8 @@
 -- Which rows an image can take: their ordering group, and the record that each replaces (rules P6, L4 to L7). Assumes nothing.
-use mathlib.Core.Path.{_≡_, refl, sym, ap, ap₂, _∙_}
+use mathlib.Core.Path.{_≡_, refl, _∙_}
 use mathlib.Core.Bool.{Bool, true, false, _&&_}
 use mathlib.Core.List.{List}
-use Prim.Native.Nat.{ℕ, zero, suc, _+_, _*_, _≤_, _<_}
+use Prim.Native.Nat.{ℕ, zero, suc, _+_, _≤_, _<_}
 use native.Mathlib.Omega.{arith}
 use lib.Dec.{eqb, leb, ltb}
 use lib.ListN.{length}
@@ -12,7 +12,7 @@ use Rattle.seq.specs.Search.{any, any-hit, any-at}
 use Rattle.layout.specs.declared.Shape.{Shape}
 use Rattle.layout.specs.Place.{Key, Valid, recordBytes, records, place, imageBytes, inside}
 use Rattle.plan.specs.Form.{Row, planRows, bodyBytes, planBytes, bodyAt, rowOf, rowGroup, rowBlank, rowLength, rowOffset, rowPosition, rowAt, rowPut}
-use Rattle.layout.specs.Contents.{Laid, layoutGood, shapeOf, entryWidth, good-laid}
+use Rattle.layout.specs.Contents.{Laid, layoutGood, shapeOf, good-laid}
 use Rattle.plan.specs.Rows.{Formed, Stands, row-stands}
 
 -- rule L5: the ordering groups, counted from 1

@@ -1,7 +1,7 @@
 -- The form of a plan (rules P1 to P5): nine rows, each a header and a body, in 648 bytes. Assumes nothing.
 use mathlib.Core.Bool.{Bool}
 use mathlib.Core.List.{List, [], _∷_, _++_}
-use Prim.Native.Nat.{ℕ, zero, suc, _+_, _*_}
+use Prim.Native.Nat.{ℕ, _+_, _*_}
 use lib.ListN.{length, getD, replicate}
 use Rattle.seq.specs.Search.{first}
 use Rattle.seq.specs.Bytes.{part, put, zeros}

@@ -1,14 +1,13 @@
 -- Rows put into a plan are read back from it, and leave every other row and byte as it was. Assumes nothing.
-use mathlib.Core.Path.{_≡_, refl, sym, ap, ap₂, _∙_, subst}
+use mathlib.Core.Path.{_≡_, refl, sym, ap, _∙_, subst}
 use mathlib.Core.Logic.{_⊎_, ⊎-elim, inl, inr, _≢_}
-use mathlib.Core.Bool.{Bool, true, false}
-use mathlib.Core.List.{List, [], _∷_, _++_}
-use Prim.Native.Nat.{ℕ, zero, suc, _+_, _*_, _≤_, _<_}
+use mathlib.Core.List.{List}
+use Prim.Native.Nat.{ℕ, _≤_, _<_}
 use native.Mathlib.Nat.{add-zero}
 use native.Mathlib.Decide.{decLt}
 use native.Mathlib.Omega.{arith}
 use lib.ListN.{length, getD}
-use Rattle.seq.specs.Bytes.{part, put, part-byte, put-length, put-part, put-part-other, put-before, put-after}
+use Rattle.seq.specs.Bytes.{part, put, part-byte, put-length, put-part, put-part-other, put-after}
 use Rattle.seq.specs.Number.{numberAt, bytesOf, number-part}
 use Rattle.plan.specs.Form.{Row, planRows, headerBytes, bodyBytes, planBytes, headerAt, bodyAt, rowGroup, rowBlank, rowLength, rowOffset, rowPosition, rowAt, headerOf, rowPut}
 

@@ -1,50 +1,38 @@
-use mathlib.Core.Path.{refl, sym, _∙_, ap}
+-- `apply::land` meets its contract. Assumes nothing.
+use mathlib.Core.Path.{sym, _∙_}
 use Rattle.layout.specs.Contents.{contents-good, contents-bad}
 use Rattle.apply.specs.Apply.{apply-short, apply-bad, apply-read}
 use borrow.Author.Needs.{needs}
 use Rattle.apply.proofs.land.Statement.{statement}
 use Rattle.apply.proofs.land.Tie as tie
-use Rattle.apply.proofs.land.Reads as reads
-use Rattle.apply.proofs.land.Lts as lts
-use Rattle.apply.proofs.apply_row.Reads as apply-row-reads
-use Rattle.layout.proofs.contents.read.Reads as read-reads
 
--- src/lib.rt:68:9
 returns : tie.Need-returns
 returns c = let e = apply-short (c .before .before .before .args .image .now) (c .before .before .before .args .plan .now) (c .before .before .before .args .row) (c .if1 .taken) in (sym (e .0), sym (e .1))
 
--- src/lib.rt:70:9
 read-requires : tie.Need-read-requires
 read-requires c κs = search needs
 
--- src/lib.rt:72:26
 enum-told : tie.Need-enum-told
 enum-told c = search needs
 
--- src/lib.rt:73:24
 enum-known-found : tie.Need-enum-known-found
 enum-known-found c = search needs
 
--- src/lib.rt:73:30
 apply-row-requires : tie.Need-apply-row-requires
 apply-row-requires c κs = (contents-good _ _ (sym (c .before .before .before .before .read .ensures) ∙ c .before .before .found .given .1) .laid, c .before .before .before .before .before .before .if1 .left)
 
--- src/lib.rt:64:1
 same-length : tie.Need-same-length
 same-length c = search needs
 
--- src/lib.rt:64:1
 returns-2 : tie.Need-returns-2
-returns-2 c =     let e = apply-bad (c .before .before .before .before .before .before .before .args .image .now) (c .before .before .before .before .before .before .before .args .plan .now) (c .before .before .before .before .before .before .before .args .row) (c .before .before .before .before .if1 .left) (contents-bad _ (sym (c .before .before .read .ensures) ∙ c .enum-told .given .1)) in
+returns-2 c = let e = apply-bad (c .before .before .before .before .before .before .before .args .image .now) (c .before .before .before .before .before .before .before .args .plan .now) (c .before .before .before .before .before .before .before .args .row) (c .before .before .before .before .if1 .left) (contents-bad _ (sym (c .before .before .read .ensures) ∙ c .enum-told .given .1)) in
     (sym (e .0), sym (e .1))
 
--- src/lib.rt:64:1
 same-length-2 : tie.Need-same-length-2
 same-length-2 c = search needs
 
--- src/lib.rt:64:1
 returns-3 : tie.Need-returns-3
-returns-3 c =     let e = apply-read (c .before .before .before .before .before .before .before .before .before .before .before .before .args .image .now) (c .before .before .before .before .before .before .before .before .before .before .before .before .args .plan .now) (c .before .before .before .before .before .before .before .before .before .before .before .before .args .row) (c .before .before .before .before .before .before .before .before .before .if1 .left) _ (contents-good _ _ (sym (c .before .before .before .before .before .before .before .read .ensures) ∙ c .before .before .before .before .before .found .given .1)) in
+returns-3 c = let e = apply-read (c .before .before .before .before .before .before .before .before .before .before .before .before .args .image .now) (c .before .before .before .before .before .before .before .before .before .before .before .before .args .plan .now) (c .before .before .before .before .before .before .before .before .before .before .before .before .args .row) (c .before .before .before .before .before .before .before .before .before .if1 .left) _ (contents-good _ _ (sym (c .before .before .before .before .before .before .before .read .ensures) ∙ c .before .before .before .before .before .found .given .1)) in
     (c .before .before .apply-row .ensures .0 ∙ sym (e .0), c .before .before .apply-row .ensures .1 ∙ sym (e .1))
 
 pub land-spec : {M : Type 1} → statement M

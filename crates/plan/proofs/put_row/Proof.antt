@@ -1,3 +1,4 @@
+-- `plan::put_row` meets its contract. Assumes nothing.
 use mathlib.Core.Path.{_∙_, ap}
 use Prim.Native.Nat.{_+_, _*_}
 use Rattle.seq.specs.Bytes.{put}
@@ -6,63 +7,46 @@ use Rattle.plan.specs.Form.{headerOf, rowPut}
 use borrow.Author.Needs.{needs}
 use Rattle.plan.proofs.put_row.Statement.{statement}
 use Rattle.plan.proofs.put_row.Tie as tie
-use Rattle.plan.proofs.put_row.Reads as reads
-use Rattle.plan.proofs.put_row.Lts as lts
-use Rattle.layout.proofs.bytes.copy.Reads as copy-reads
 
--- src/lib.rt:22:19
 mul-at : tie.Need-mul-at
 mul-at c = search needs
 
--- src/lib.rt:22:14
 add-at : tie.Need-add-at
 add-at c = search needs
 
--- src/lib.rt:26:9
 cast-t10 : tie.Need-cast-t10
 cast-t10 c = search needs
 
--- src/lib.rt:27:9
 cast-t13 : tie.Need-cast-t13
 cast-t13 c = search needs
 
--- src/lib.rt:28:9
 cast-t15 : tie.Need-cast-t15
 cast-t15 c = search needs
 
--- src/lib.rt:29:9
 cast-t18 : tie.Need-cast-t18
 cast-t18 c = search needs
 
--- src/lib.rt:30:9
 cast-t20 : tie.Need-cast-t20
 cast-t20 c = search needs
 
--- src/lib.rt:31:9
 cast-t23 : tie.Need-cast-t23
 cast-t23 c = search needs
 
--- src/lib.rt:33:31
 mul-copy : tie.Need-mul-copy
 mul-copy c = search needs
 
--- src/lib.rt:33:38
 slice-aggregate-copy : tie.Need-slice-aggregate-copy
 slice-aggregate-copy c = search needs
 
--- src/lib.rt:33:5
 copy-requires : tie.Need-copy-requires
 copy-requires c κs = search needs
 
--- src/lib.rt:34:5
 copy-requires-2 : tie.Need-copy-requires-2
 copy-requires-2 c κs = search needs
 
--- src/lib.rt:17:1
 same-length : tie.Need-same-length
 same-length c = search needs
 
--- src/lib.rt:17:1
 returns : tie.Need-returns
 unfolding rowPut headerOf bytesOf
 returns c = c .before .before .copy2 .ensures ∙ ap (λ l. put l (72 + 64 * c .before .before .before .before .before .before .before .before .before .before .before .args .i) (c .before .before .before .before .before .before .before .before .before .before .before .args .body .now)) (c .before .before .before .before .before .before .copy .ensures)

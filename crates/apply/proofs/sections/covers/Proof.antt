@@ -1,19 +1,15 @@
-use mathlib.Core.Bool.{true, false}
+-- `apply::sections::covers` meets its contract. Assumes nothing.
+use mathlib.Core.Bool.{false}
 use Rattle.seq.specs.Search.{any, any-none, any-miss, any-hit}
 use Rattle.layout.specs.Place.{base}
 use Rattle.plan.specs.Fit.{coversSection, covers}
 use Rattle.apply.specs.Find.{section-is, section-next, section-room, bytes-some}
 use mathlib.Core.Path.{_≡_, sym, _∙_}
-use Prim.Native.Nat.{_≤_, _<_, _-_, _+_, _*_}
+use Prim.Native.Nat.{_≤_, _-_}
 use native.Mathlib.Omega.{arith}
 use borrow.Author.Needs.{needs}
 use Rattle.apply.proofs.sections.covers.Statement.{statement}
 use Rattle.apply.proofs.sections.covers.Tie as tie
-use Rattle.apply.proofs.sections.covers.Reads as reads
-use Rattle.apply.proofs.sections.covers.Lts as lts
-use Rattle.apply.proofs.sections.one_of_section.Reads as one-of-section-reads
-use Rattle.apply.proofs.sections.record_bytes.Reads as record-bytes-reads
-use Rattle.apply.proofs.sections.records.Reads as records-reads
 
 abbrev Inv-loop : tie.InvT-loop
 Inv-loop h at n start₀ k₀ start k = (k ≤ 5) × (start ≡ base h k) × (any (coversSection h at n) k ≡ false)
@@ -21,48 +17,37 @@ Inv-loop h at n start₀ k₀ start k = (k ≤ 5) × (start ≡ base h k) × (an
 abbrev μ-loop : tie.MeasureT-loop
 μ-loop h at n start₀ k₀ start k = 5 - k
 
--- src/sections.rt:82:5
 loop-holds : tie.Need-loop-holds Inv-loop μ-loop
 loop-holds c = (search needs, search needs, any-none _)
 
--- src/sections.rt:83:13
 record-bytes-requires : tie.Need-record-bytes-requires Inv-loop μ-loop
 record-bytes-requires c κs = search needs
 
--- src/sections.rt:84:13
 records-requires : tie.Need-records-requires Inv-loop μ-loop
 records-requires c κs = search needs
 
--- src/sections.rt:85:12
 one-of-section-requires : tie.Need-one-of-section-requires Inv-loop μ-loop
 one-of-section-requires c κs = rw (c .before .record-bytes .ensures) (bytes-some (c .before .before .before .before .args .h) (c .before .before .before .before .pre) (c .before .before .before .loop .k))
 
--- src/sections.rt:86:13
 returns : tie.Need-returns Inv-loop μ-loop
 unfolding covers
 returns c = sym (any-hit _ _ _ (c .before .before .before .before .loop-test .taken) (sym (section-is (c .before .before .before .before .before .before .args .h) (c .before .before .before .before .before .loop .k) _ _ _ (c .before .before .before .before .before .loop .inv .1) (c .before .before .before .record-bytes .ensures) (c .before .before .records .ensures) _ _) ∙ sym (c .before .one-of-section .ensures) ∙ c .if1 .taken))
 
--- src/sections.rt:88:18
 mul-start : tie.Need-mul-start Inv-loop μ-loop
 mul-start c = omega (arith, section-room (c .before .before .before .before .before .before .args .h) (c .before .before .before .before .before .loop .k) _ _ _ (c .before .before .before .before .before .loop .inv .1) (c .before .before .before .record-bytes .ensures) (c .before .before .records .ensures) (c .before .before .before .before .before .before .pre) (c .before .before .before .before .loop-test .taken))
 
--- src/sections.rt:88:9
 add-start : tie.Need-add-start Inv-loop μ-loop
 add-start c = omega (arith, section-room (c .before .before .before .before .before .before .args .h) (c .before .before .before .before .before .loop .k) _ _ _ (c .before .before .before .before .before .loop .inv .1) (c .before .before .before .record-bytes .ensures) (c .before .before .records .ensures) (c .before .before .before .before .before .before .pre) (c .before .before .before .before .loop-test .taken))
 
--- src/sections.rt:89:9
 add-k : tie.Need-add-k Inv-loop μ-loop
 add-k c = search needs
 
--- src/sections.rt:82:5
 loop-less : tie.Need-loop-less Inv-loop μ-loop
 loop-less c = search needs
 
--- src/sections.rt:82:5
 loop-again : tie.Need-loop-again Inv-loop μ-loop
 loop-again c = (search needs, section-next (c .before .before .before .before .before .before .args .h) (c .before .before .before .before .before .loop .k) _ _ _ (c .before .before .before .before .before .loop .inv .1) (c .before .before .before .record-bytes .ensures) (c .before .before .records .ensures), any-miss _ _ (c .before .before .before .before .before .loop .inv .2) (sym (section-is (c .before .before .before .before .before .before .args .h) (c .before .before .before .before .before .loop .k) _ _ _ (c .before .before .before .before .before .loop .inv .1) (c .before .before .before .record-bytes .ensures) (c .before .before .records .ensures) _ _) ∙ sym (c .before .one-of-section .ensures) ∙ c .if1 .left))
 
--- src/sections.rt:76:1
 returns-2 : tie.Need-returns-2 Inv-loop μ-loop
 unfolding covers
 returns-2 c = let e : c .before .loop .k ≡ 5 = omega arith in

@@ -1,25 +1,18 @@
+-- `apply::sections::one_of_section` meets its contract. Assumes nothing.
 use Rattle.seq.specs.Truth.{fails, holds}
 use borrow.Author.Needs.{needs}
 use Rattle.apply.proofs.sections.one_of_section.Statement.{statement}
 use Rattle.apply.proofs.sections.one_of_section.Tie as tie
-use Rattle.apply.proofs.sections.one_of_section.Reads as reads
-use Rattle.apply.proofs.sections.one_of_section.Lts as lts
-use Rattle.apply.proofs.sections.coverable.Reads as coverable-reads
-use Rattle.apply.proofs.sections.one_of.Reads as one-of-reads
 
--- src/sections.rt:69:9
 coverable-requires : tie.Need-coverable-requires
 coverable-requires c κs = search needs
 
--- src/sections.rt:70:9
 returns : tie.Need-returns
 returns c = simp (fails (c .before .coverable .ensures) (c .if1 .taken))
 
--- src/sections.rt:72:5
 one-of-requires : tie.Need-one-of-requires
 one-of-requires c κs = search needs
 
--- src/sections.rt:65:1
 returns-2 : tie.Need-returns-2
 returns-2 c = simp (holds (c .before .before .coverable .ensures) (c .before .if1 .left), c .one-of .ensures)
 
