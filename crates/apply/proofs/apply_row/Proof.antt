@@ -1,14 +1,27 @@
 -- `apply::apply_row` meets its contract. Assumes nothing.
-use mathlib.Core.Path.{_∙_}
+use mathlib.Core.Path.{_≡_, _∙_}
+use mathlib.Core.Bool.{true}
 use native.Mathlib.Omega.{arith}
-use Prim.Native.Nat.{_+_, _*_}
+use Prim.Native.Nat.{_+_, _*_, _≤_}
+use lib.ListN.{length}
 use Rattle.seq.specs.Truth.{fails, holds}
-use Rattle.plan.specs.Fit.{good-row, good-fits}
+use Rattle.plan.specs.Form.{bodyBytes, rowLength, rowOffset}
+use Rattle.plan.specs.Fit.{RowGood, rowGood, good-row, good-fits}
 use Rattle.apply.specs.Find.{laid-bounded}
 use Rattle.apply.specs.Apply.{body-length, body-copied}
 use borrow.Author.Needs.{needs}
 use Rattle.apply.proofs.apply_row.Statement.{statement}
 use Rattle.apply.proofs.apply_row.Tie as tie
+
+-- past the test the row is good, its body is in the plan and its record in the image
+passed : (c : tie.Else1) → rowGood (c .before .before .before .before .args .h) (c .before .before .before .before .args .plan .now) (c .before .before .before .before .args .row) ≡ true
+passed c = holds (c .before .row-good .ensures) (c .if1 .left)
+
+good : (c : tie.Else1) → RowGood (c .before .before .before .before .args .h) (c .before .before .before .before .args .plan .now) (c .before .before .before .before .args .row)
+good c = good-row _ _ _ (passed c)
+
+fits : (c : tie.Else1) → (rowLength (c .before .before .before .before .args .plan .now) (c .before .before .before .before .args .row) ≤ bodyBytes) × (rowOffset (c .before .before .before .before .args .plan .now) (c .before .before .before .before .args .row) + rowLength (c .before .before .before .before .args .plan .now) (c .before .before .before .before .args .row) ≤ length (c .before .before .before .before .args .image .now))
+fits c = good-fits (c .before .before .before .before .args .h) (c .before .before .before .before .args .image .now) _ _ (c .before .before .before .before .pre .0) (good c)
 
 row-good-requires : tie.Need-row-good-requires
 row-good-requires c κs = (laid-bounded _ _ (c .before .before .pre .0), c .before .before .pre .1)
@@ -17,21 +30,19 @@ returns : tie.Need-returns
 returns c = let e = fails (c .before .row-good .ensures) (c .if1 .taken) in (rw e, rw e)
 
 mul-at : tie.Need-mul-at
-mul-at c = let g = good-row (c .before .before .before .before .args .h) (c .before .before .before .before .args .plan .now) (c .before .before .before .before .args .row) (holds (c .before .row-good .ensures) (c .if1 .left)) in omega (arith, g .below)
+mul-at c = omega (arith, good c .below)
 
 add-at : tie.Need-add-at
-add-at c = let g = good-row (c .before .before .before .before .args .h) (c .before .before .before .before .args .plan .now) (c .before .before .before .before .args .row) (holds (c .before .row-good .ensures) (c .if1 .left)) in omega (arith, g .below)
+add-at c = omega (arith, good c .below)
 
 length-requires : tie.Need-length-requires
-length-requires c κs = let g = good-row (c .before .before .before .before .args .h) (c .before .before .before .before .args .plan .now) (c .before .before .before .before .args .row) (holds (c .before .row-good .ensures) (c .if1 .left)) in (c .before .before .before .before .pre .1, g .below)
+length-requires c κs = (c .before .before .before .before .pre .1, good c .below)
 
 offset-requires : tie.Need-offset-requires
-offset-requires c κs = let g = good-row (c .before .before .before .before .before .before .args .h) (c .before .before .before .before .before .before .args .plan .now) (c .before .before .before .before .before .before .args .row) (holds (c .before .before .before .row-good .ensures) (c .before .before .if1 .left)) in (c .before .before .before .before .before .before .pre .1, g .below)
+offset-requires c κs = (c .before .before .before .before .before .before .pre .1, good (c .before .before) .below)
 
 add-copy : tie.Need-add-copy
-add-copy c = let g = good-row (c .before .before .before .before .before .before .before .args .h) (c .before .before .before .before .before .before .before .args .plan .now) (c .before .before .before .before .before .before .before .args .row) (holds (c .before .before .before .before .row-good .ensures) (c .before .before .before .if1 .left)) in
-    let f = good-fits (c .before .before .before .before .before .before .before .args .h) (c .before .before .before .before .before .before .before .args .image .now) (c .before .before .before .before .before .before .before .args .plan .now) (c .before .before .before .before .before .before .before .args .row) (c .before .before .before .before .before .before .before .pre .0) g in
-    omega (arith, g .below, c .before .before .length .ensures .1)
+add-copy c = omega (arith, good (c .before .before .before) .below, c .before .before .length .ensures .1)
 
 sub-copy : tie.Need-sub-copy
 sub-copy c = search needs
@@ -40,22 +51,24 @@ part-copy-start : tie.Need-part-copy-start
 part-copy-start c = search needs
 
 part-copy-end : tie.Need-part-copy-end
-part-copy-end c = let g = good-row (c .before .before .before .before .before .before .before .args .h) (c .before .before .before .before .before .before .before .args .plan .now) (c .before .before .before .before .before .before .before .args .row) (holds (c .before .before .before .before .row-good .ensures) (c .before .before .before .if1 .left)) in
-    let f = good-fits (c .before .before .before .before .before .before .before .args .h) (c .before .before .before .before .before .before .before .args .image .now) (c .before .before .before .before .before .before .before .args .plan .now) (c .before .before .before .before .before .before .before .args .row) (c .before .before .before .before .before .before .before .pre .0) g in
-    omega (arith, g .below, f .0, c .before .before .length .ensures .0, c .before .before .before .before .before .before .before .pre .1)
+part-copy-end c =
+    let e = c .before .before .before in
+    omega (arith, good e .below, fits e .0, c .before .before .length .ensures .0, e .before .before .before .before .pre .1)
 
 copy-requires : tie.Need-copy-requires
-copy-requires c κs = let g = good-row (c .before .before .before .before .before .before .before .before .args .h) (c .before .before .before .before .before .before .before .before .args .plan .now) (c .before .before .before .before .before .before .before .before .args .row) (holds (c .before .before .before .before .before .row-good .ensures) (c .before .before .before .before .if1 .left)) in
-    let f = good-fits (c .before .before .before .before .before .before .before .before .args .h) (c .before .before .before .before .before .before .before .before .args .image .now) (c .before .before .before .before .before .before .before .before .args .plan .now) (c .before .before .before .before .before .before .before .before .args .row) (c .before .before .before .before .before .before .before .before .pre .0) g in
-    let e = body-length (c .before .before .before .before .before .before .before .before .args .plan .now) (72 + 64 * c .before .before .before .before .before .before .before .before .args .row) (c .before .before .before .length .result) (omega (arith, g .below, f .0, c .before .before .before .length .ensures .0, c .before .before .before .before .before .before .before .before .pre .1)) in
-    omega (arith, f .1, c .before .offset .ensures .0, c .before .before .before .length .ensures .0)
+copy-requires c κs =
+    let e = c .before .before .before .before in
+    let n = c .before .before .before .length in
+    let l = body-length (e .before .before .before .before .args .plan .now) (72 + 64 * e .before .before .before .before .args .row) (n .result) (omega (arith, good e .below, fits e .0, n .ensures .0, e .before .before .before .before .pre .1)) in
+    omega (arith, fits e .1, c .before .offset .ensures .0, n .ensures .0)
 
 same-length : tie.Need-same-length
 same-length c = search needs
 
 returns-2 : tie.Need-returns-2
-returns-2 c = let e = holds (c .before .before .before .before .before .before .before .before .row-good .ensures) (c .before .before .before .before .before .before .before .if1 .left) in
-    (rw e, c .before .before .copy .ensures ∙ body-copied (c .before .before .before .before .before .before .before .before .before .before .before .args .h) (c .before .before .before .before .before .before .before .before .before .before .before .args .image .now) (c .before .before .before .before .before .before .before .before .before .before .before .args .plan .now) (c .before .before .before .before .before .before .before .before .before .before .before .args .row) _ _ e (c .before .before .before .before .offset .ensures .0) (c .before .before .before .before .before .before .length .ensures .0))
+returns-2 c =
+    let p = passed (c .before .before .before .before .before .before .before) in
+    (rw p, c .before .before .copy .ensures ∙ body-copied _ _ _ _ _ _ p (c .before .before .before .before .offset .ensures .0) (c .before .before .before .before .before .before .length .ensures .0))
 
 pub apply-row-spec : {M : Type 1} → statement M
 apply-row-spec =
