@@ -1,15 +1,15 @@
 -- The number that applying a row answers, and the image after it (rules L1 to L8). Assumes nothing.
-use mathlib.Core.Path.{_≡_, refl, ap, _∙_}
+use mathlib.Core.Path.{_≡_, refl}
 use mathlib.Core.Bool.{Bool, true, false, cond}
 use mathlib.Core.List.{List}
-use Prim.Native.Nat.{ℕ, _+_, _-_, _≤_, _<_}
+use Prim.Native.Nat.{ℕ, _≤_, _<_}
 use lib.Dec.{eqb, ltb}
-use lib.ListN.{length, take, drop}
+use lib.ListN.{length}
 use borrow.Author.Tests.{lt-ltb, le-ltb}
-use Rattle.seq.specs.Bytes.{put, part-range, part-length}
+use Rattle.seq.specs.Bytes.{put}
 use Rattle.layout.specs.declared.Shape.{Shape}
 use Rattle.layout.specs.Contents.{layoutGood, shapeOf, Read}
-use Rattle.plan.specs.Form.{Row, planBytes, bodyAt, rowLength, rowOffset, rowAt}
+use Rattle.plan.specs.Form.{Row, planBytes, rowOffset, rowAt}
 use Rattle.plan.specs.Fit.{rowGood}
 
 -- the numbers of the refusals
@@ -63,11 +63,8 @@ module _ (image plan : List ℕ) (i : ℕ) where
         pick true = refl
         pick false = refl
 
--- the body as the code takes it, `&plan[at..at + n]`
-pub body-length : (plan : List ℕ) (at n : ℕ) → at + n ≤ length plan → length (take (at + n - at) (drop at plan)) ≡ n
-body-length plan at n l = ap (λ (x : List ℕ). length x) (part-range plan at n) ∙ part-length plan at n l
-
-pub body-copied : (h : Shape) (image plan : List ℕ) (i at n : ℕ) → rowGood h plan i ≡ true → at ≡ rowOffset plan i → n ≡ rowLength plan i
-    → put image at (take (bodyAt i + n - bodyAt i) (drop (bodyAt i) plan)) ≡ rowImage h image plan i
+-- a good row copied
+pub row-copied : (h : Shape) (image plan : List ℕ) (i at : ℕ) (body : List ℕ) → rowGood h plan i ≡ true → at ≡ rowOffset plan i → body ≡ rowAt plan i .body
+    → put image at body ≡ rowImage h image plan i
 unfolding rowAt
-body-copied h image plan i at n good a b = rw (good, a, b, part-range plan (bodyAt i) (rowLength plan i))
+row-copied h image plan i at body good a b = rw (good, a, b)

@@ -1,23 +1,23 @@
 -- What applying a row does to an image: it stores one record, or changes nothing. Assumes nothing.
-use mathlib.Core.Path.{_≡_, refl, sym, ap, ap₂, _∙_, subst}
+use mathlib.Core.Path.{_≡_, refl, sym, ap, _∙_, subst}
 use mathlib.Core.Logic.{_≢_}
 use mathlib.Core.Bool.{Bool, true, false, cond}
 use mathlib.Core.List.{List}
-use Prim.Native.Nat.{ℕ, _+_, _*_, _≤_, _<_}
+use Prim.Native.Nat.{ℕ, _≤_, _<_}
 use native.Mathlib.Omega.{arith}
 use lib.Dec.{eqb, ltb}
 use lib.ListN.{length}
 use borrow.Author.Tests.{eq-eqb, eqb-true, eqb-false, ne-eqb, le-ltb, ltb-false}
-use Rattle.seq.specs.Bytes.{put, part-length}
+use Rattle.seq.specs.Bytes.{part-length}
 use Rattle.layout.specs.declared.Shape.{Shape}
-use Rattle.layout.specs.Place.{Key, Valid, recordBytes, place, imageBytes}
-use Rattle.layout.specs.Contents.{Laid, layoutGood, shapeOf, good-laid}
+use Rattle.layout.specs.Place.{Key, recordBytes, place}
+use Rattle.layout.specs.Contents.{layoutGood, shapeOf, good-laid}
 use Rattle.layout.specs.Record.{store, store-length}
 use Rattle.layout.specs.Commute.{store-shape, store-layout, store-swap}
-use Rattle.plan.specs.Form.{Row, planRows, bodyBytes, planBytes, bodyAt, rowLength, rowOffset, rowAt}
+use Rattle.plan.specs.Form.{Row, planRows, planBytes, bodyAt, rowLength, rowOffset, rowAt}
 use Rattle.plan.specs.Rows.{Stands}
 use Rattle.plan.specs.Fit.{Covered, RowGood, Writes, rowGood, rowFor, good-row, row-good, good-fits, stands-good, written-fits}
-use Rattle.apply.specs.Apply.{shortPlan, badLayout, badRow, rowNumber, applyNumber, applied, appliedImage}
+use Rattle.apply.specs.Apply.{shortPlan, badLayout, badRow, applyNumber, applied, appliedImage}
 
 -- What it takes for the job to answer 0.
 pub record Applies (image plan : List ℕ) (i : ℕ) : Type 0 where

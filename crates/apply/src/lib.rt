@@ -5,7 +5,7 @@ ghost use mathlib.Core.Path.{_≡_};
 ghost use Prim.Native.Nat.{_<_, _≤_};
 ghost use lib.ListN.{length};
 ghost use Rattle.layout.specs.Contents.{Laid};
-ghost use Rattle.plan.specs.Form.{rowAt};
+ghost use Rattle.plan.specs.Form.{planBytes, planRows, rowAt};
 ghost use Rattle.plan.specs.Fit.{rowFits, rowGood};
 ghost use Rattle.apply.specs.Find.{Bounded};
 ghost use Rattle.apply.specs.Apply.{rowNumber, rowImage, applyNumber, appliedImage};
@@ -14,7 +14,7 @@ pub mod sections;
 
 // Whether an image of this shape can take row i.
 fn row_fits(h: Shape, plan: &[u8], i: usize) -> bool
-    requires { ⌜ Bounded h × (648 ≤ length (now plan)) × (i < 9) ⌝ }
+    requires { ⌜ Bounded h × (planBytes ≤ length (now plan)) × (i < planRows) ⌝ }
     ensures { λ r. ⌜ r ≡ rowFits h (rowAt (now (plan .entry)) i) ⌝ }
 {
     let group = plan::group(plan, i);
@@ -29,7 +29,7 @@ fn row_fits(h: Shape, plan: &[u8], i: usize) -> bool
 
 // Whether the number is a row's, its header is in order, and the image can take it.
 pub fn row_good(h: Shape, plan: &[u8], row: u64) -> bool
-    requires { ⌜ Bounded h × (648 ≤ length (now plan)) ⌝ }
+    requires { ⌜ Bounded h × (planBytes ≤ length (now plan)) ⌝ }
     ensures { λ r. ⌜ r ≡ rowGood h (now (plan .entry)) row ⌝ }
 {
     if 9 <= row {
@@ -47,16 +47,14 @@ pub fn row_good(h: Shape, plan: &[u8], row: u64) -> bool
 
 // Applies a row where the plan is long enough and the layout good.
 fn apply_row(image: &mut [u8], h: Shape, plan: &[u8], row: u64) -> u8
-    requires { ⌜ Laid h (now image) × (648 ≤ length (now plan)) ⌝ }
+    requires { ⌜ Laid h (now image) × (planBytes ≤ length (now plan)) ⌝ }
     ensures { λ r. ⌜ (r ≡ rowNumber h (now (plan .entry)) row) × (now (image .exit) ≡ rowImage h (now (image .entry)) (now (plan .entry)) row) ⌝ }
 {
     if !row_good(h, plan, row) {
         return 207;
     }
     let i = row as usize;
-    let at = 72 + 64 * i;
-    let n = plan::length(plan, i);
-    layout::bytes::copy(image, plan::offset(plan, i), &plan[at..at + n]);
+    layout::bytes::copy(image, plan::offset(plan, i), plan::body(plan, i));
     0
 }
 

@@ -1,18 +1,17 @@
 -- Rows put one after another into a plan: each is read back, and their count is how many they are. Assumes nothing.
 use mathlib.Core.Path.{_≡_, refl, sym, ap, _∙_, subst}
-use mathlib.Core.Logic.{_≢_, ⊎-elim}
+use mathlib.Core.Logic.{⊎-elim}
 use mathlib.Core.Bool.{Bool, true, false}
 use mathlib.Core.List.{List, [], _∷_}
 use Prim.Native.Nat.{ℕ, zero, suc, _+_, _≤_, _<_}
 use native.Mathlib.Nat.{add-zero, zero-add, not-suc-le-zero, eq-or-lt-of-le}
-use native.Mathlib.Numerals.{add-one}
 use native.Mathlib.Omega.{arith}
 use lib.Dec.{eqb}
 use lib.ListN.{length, getD, replicate, getD-replicate, length-replicate}
 use borrow.Author.Tests.{eq-eqb, ne-eqb}
 use Rattle.seq.specs.Truth.{not-both}
-use Rattle.seq.specs.Search.{any, all, any-at, all-not, all-of, first, first-hit, first-none}
-use Rattle.seq.specs.Bytes.{part, put, zeros, part-byte, put-length, put-inside, put-after}
+use Rattle.seq.specs.Search.{any, any-at, all-not, all-of, first-hit, first-none}
+use Rattle.seq.specs.Bytes.{put, zeros, part-byte, put-length, put-inside, put-after}
 use Rattle.plan.specs.Form.{Row, planRows, headerBytes, bodyBytes, planBytes, headerAt, rowGroup, rowAt, rowPut, rowsPut, cleared, noRow, rowCount}
 use Rattle.plan.specs.Rows.{Formed, Stands, header, row-length, row-past, row-stands, header-other, stands-other}
 

@@ -2,14 +2,24 @@
 use mathlib.Core.Path.{_≡_, refl, sym, ap, _∙_, subst}
 use mathlib.Core.Logic.{_⊎_, ⊎-elim, inl, inr, _≢_}
 use mathlib.Core.List.{List}
-use Prim.Native.Nat.{ℕ, _≤_, _<_}
+use Prim.Native.Nat.{ℕ, _+_, _-_, _≤_, _<_}
 use native.Mathlib.Nat.{add-zero}
 use native.Mathlib.Decide.{decLt}
 use native.Mathlib.Omega.{arith}
-use lib.ListN.{length, getD}
-use Rattle.seq.specs.Bytes.{part, put, part-byte, put-length, put-part, put-part-other, put-after}
+use lib.ListN.{length, getD, take, drop}
+use Rattle.seq.specs.Bytes.{part, put, part-byte, part-length, part-range, put-length, put-part, put-part-other, put-after}
 use Rattle.seq.specs.Number.{numberAt, bytesOf, number-part}
+use Rattle.layout.specs.Record.{Reads}
 use Rattle.plan.specs.Form.{Row, planRows, headerBytes, bodyBytes, planBytes, headerAt, bodyAt, rowGroup, rowBlank, rowLength, rowOffset, rowPosition, rowAt, headerOf, rowPut}
+
+-- a body as the code takes it, `&plan[at..at + n]`
+pub reads-body : (plan : List ℕ) (i n : ℕ) → planBytes ≤ length plan → i < planRows → n ≤ bodyBytes → n ≡ rowLength plan i
+    → Reads (take (bodyAt i + n - bodyAt i) (drop (bodyAt i) plan)) (rowAt plan i .body) (rowLength plan i)
+unfolding rowAt
+reads-body plan i n long below small e =
+    let same : take (bodyAt i + n - bodyAt i) (drop (bodyAt i) plan) ≡ part plan (bodyAt i) (rowLength plan i) =
+    part-range plan (bodyAt i) n ∙ ap (λ (m : ℕ). part plan (bodyAt i) m) e in
+    record { is = same; long = ap (λ (x : List ℕ). length x) same ∙ part-length plan (bodyAt i) (rowLength plan i) (omega arith) }
 
 -- A row that a plan can hold.
 pub record Formed (r : Row) : Type 0 where

@@ -2,11 +2,12 @@
 ghost use mathlib.Core.Path.{_≡_};
 ghost use Prim.Native.Nat.{_+_, _*_, _<_, _≤_};
 ghost use lib.ListN.{length};
-ghost use Rattle.plan.specs.Form.{rowOf, rowPut, rowGroup, rowBlank, rowLength, rowOffset, rowPosition, cleared};
+ghost use Rattle.layout.specs.Record.{Reads};
+ghost use Rattle.plan.specs.Form.{planBytes, planRows, bodyBytes, rowOf, rowPut, rowGroup, rowBlank, rowLength, rowOffset, rowPosition, rowAt, cleared};
 
 // Makes a plan of no rows.
 pub fn clear(plan: &mut [u8])
-    requires { ⌜ 648 ≤ length (now plan) ⌝ }
+    requires { ⌜ planBytes ≤ length (now plan) ⌝ }
     ensures { λ _. ⌜ now (plan .exit) ≡ cleared (now (plan .entry)) ⌝ }
 {
     let zeros = [0u8; 648];
@@ -15,7 +16,7 @@ pub fn clear(plan: &mut [u8])
 
 // Puts a row in place i: its header, and a body of the bytes it replaces.
 pub fn put_row(plan: &mut [u8], i: usize, group: u8, offset: usize, body: &[u8])
-    requires { ⌜ (648 ≤ length (now plan)) × (i < 9) × (length (now body) ≤ 64) ⌝ }
+    requires { ⌜ (planBytes ≤ length (now plan)) × (i < planRows) × (length (now body) ≤ bodyBytes) ⌝ }
     ensures { λ _. ⌜ now (plan .exit) ≡ rowPut (now (plan .entry)) i (rowOf group offset (now (body .entry))) ⌝ }
 {
     let n = body.len();
@@ -36,7 +37,7 @@ pub fn put_row(plan: &mut [u8], i: usize, group: u8, offset: usize, body: &[u8])
 
 // The ordering group of row i.
 pub fn group(plan: &[u8], i: usize) -> u8
-    requires { ⌜ (648 ≤ length (now plan)) × (i < 9) ⌝ }
+    requires { ⌜ (planBytes ≤ length (now plan)) × (i < planRows) ⌝ }
     ensures { λ r. ⌜ r ≡ rowGroup (now (plan .entry)) i ⌝ }
 {
     plan[8 * i]
@@ -44,7 +45,7 @@ pub fn group(plan: &[u8], i: usize) -> u8
 
 // The byte of row i's header that holds nothing.
 pub fn blank(plan: &[u8], i: usize) -> u8
-    requires { ⌜ (648 ≤ length (now plan)) × (i < 9) ⌝ }
+    requires { ⌜ (planBytes ≤ length (now plan)) × (i < planRows) ⌝ }
     ensures { λ r. ⌜ r ≡ rowBlank (now (plan .entry)) i ⌝ }
 {
     plan[8 * i + 1]
@@ -52,7 +53,7 @@ pub fn blank(plan: &[u8], i: usize) -> u8
 
 // How many bytes of the image row i replaces.
 pub fn length(plan: &[u8], i: usize) -> usize
-    requires { ⌜ (648 ≤ length (now plan)) × (i < 9) ⌝ }
+    requires { ⌜ (planBytes ≤ length (now plan)) × (i < planRows) ⌝ }
     ensures { λ r. ⌜ (r ≡ rowLength (now (plan .entry)) i) × (r < 65536) ⌝ }
 {
     layout::number::get16(plan, 8 * i + 2)
@@ -60,7 +61,7 @@ pub fn length(plan: &[u8], i: usize) -> usize
 
 // Where in the image row i belongs.
 pub fn offset(plan: &[u8], i: usize) -> usize
-    requires { ⌜ (648 ≤ length (now plan)) × (i < 9) ⌝ }
+    requires { ⌜ (planBytes ≤ length (now plan)) × (i < planRows) ⌝ }
     ensures { λ r. ⌜ (r ≡ rowOffset (now (plan .entry)) i) × (r < 65536) ⌝ }
 {
     layout::number::get16(plan, 8 * i + 4)
@@ -68,8 +69,18 @@ pub fn offset(plan: &[u8], i: usize) -> usize
 
 // Where in the plan row i says that its body is.
 pub fn position(plan: &[u8], i: usize) -> usize
-    requires { ⌜ (648 ≤ length (now plan)) × (i < 9) ⌝ }
+    requires { ⌜ (planBytes ≤ length (now plan)) × (i < planRows) ⌝ }
     ensures { λ r. ⌜ (r ≡ rowPosition (now (plan .entry)) i) × (r < 65536) ⌝ }
 {
     layout::number::get16(plan, 8 * i + 6)
+}
+
+// The bytes that row i puts there: as many of its body as its length says.
+pub fn body(plan: &[u8], i: usize) -> &[u8]
+    requires { ⌜ (planBytes ≤ length (now plan)) × (i < planRows) × (rowLength (now plan) i ≤ bodyBytes) ⌝ }
+    ensures { λ r. ⌜ Reads (now r) (rowAt (now (plan .entry)) i .body) (rowLength (now (plan .entry)) i) ⌝ }
+{
+    let at = 72 + 64 * i;
+    let n = length(plan, i);
+    &plan[at..at + n]
 }

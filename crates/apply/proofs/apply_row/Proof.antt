@@ -2,13 +2,13 @@
 use mathlib.Core.Path.{_≡_, _∙_}
 use mathlib.Core.Bool.{true}
 use native.Mathlib.Omega.{arith}
-use Prim.Native.Nat.{_+_, _*_, _≤_}
+use Prim.Native.Nat.{_+_, _≤_}
 use lib.ListN.{length}
 use Rattle.seq.specs.Truth.{fails, holds}
 use Rattle.plan.specs.Form.{bodyBytes, rowLength, rowOffset}
 use Rattle.plan.specs.Fit.{RowGood, rowGood, good-row, good-fits}
 use Rattle.apply.specs.Find.{laid-bounded}
-use Rattle.apply.specs.Apply.{body-length, body-copied}
+use Rattle.apply.specs.Apply.{row-copied}
 use borrow.Author.Needs.{needs}
 use Rattle.apply.proofs.apply_row.Statement.{statement}
 use Rattle.apply.proofs.apply_row.Tie as tie
@@ -29,46 +29,21 @@ row-good-requires c κs = (laid-bounded _ _ (c .before .before .pre .0), c .befo
 returns : tie.Need-returns
 returns c = let e = fails (c .before .row-good .ensures) (c .if1 .taken) in (rw e, rw e)
 
-mul-at : tie.Need-mul-at
-mul-at c = omega (arith, good c .below)
-
-add-at : tie.Need-add-at
-add-at c = omega (arith, good c .below)
-
-length-requires : tie.Need-length-requires
-length-requires c κs = (c .before .before .before .before .pre .1, good c .below)
-
 offset-requires : tie.Need-offset-requires
-offset-requires c κs = (c .before .before .before .before .before .before .pre .1, good (c .before .before) .below)
+offset-requires c κs = (c .before .before .before .before .before .pre .1, good (c .before) .below)
 
-add-copy : tie.Need-add-copy
-add-copy c = omega (arith, good (c .before .before .before) .below, c .before .before .length .ensures .1)
-
-sub-copy : tie.Need-sub-copy
-sub-copy c = search needs
-
-part-copy-start : tie.Need-part-copy-start
-part-copy-start c = search needs
-
-part-copy-end : tie.Need-part-copy-end
-part-copy-end c =
-    let e = c .before .before .before in
-    omega (arith, good e .below, fits e .0, c .before .before .length .ensures .0, e .before .before .before .before .pre .1)
+body-requires : tie.Need-body-requires
+body-requires c κs = (c .before .before .before .before .before .before .pre .1, good (c .before .before) .below, fits (c .before .before) .0)
 
 copy-requires : tie.Need-copy-requires
-copy-requires c κs =
-    let e = c .before .before .before .before in
-    let n = c .before .before .before .length in
-    let l = body-length (e .before .before .before .before .args .plan .now) (72 + 64 * e .before .before .before .before .args .row) (n .result) (omega (arith, good e .below, fits e .0, n .ensures .0, e .before .before .before .before .pre .1)) in
-    omega (arith, fits e .1, c .before .offset .ensures .0, n .ensures .0)
+copy-requires c κs = omega (arith, fits (c .before .before .before) .1, c .before .offset .ensures .0, c .body .ensures .long)
 
 same-length : tie.Need-same-length
 same-length c = search needs
 
 returns-2 : tie.Need-returns-2
-returns-2 c =
-    let p = passed (c .before .before .before .before .before .before .before) in
-    (rw p, c .before .before .copy .ensures ∙ body-copied _ _ _ _ _ _ p (c .before .before .before .before .offset .ensures .0) (c .before .before .before .before .before .before .length .ensures .0))
+returns-2 c = let p = passed (c .before .before .before .before .before .before) in
+    (rw p, c .before .before .copy .ensures ∙ row-copied _ _ _ _ _ _ p (c .before .before .before .before .offset .ensures .0) (c .before .before .before .body .ensures .is))
 
 pub apply-row-spec : {M : Type 1} → statement M
 apply-row-spec =
@@ -76,14 +51,8 @@ apply-row-spec =
     (tie.spec
     row-good-requires
     returns
-    mul-at
-    add-at
-    length-requires
     offset-requires
-    add-copy
-    sub-copy
-    part-copy-start
-    part-copy-end
+    body-requires
     copy-requires
     same-length
     returns-2)
