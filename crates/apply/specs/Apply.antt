@@ -10,7 +10,7 @@ use Rattle.seq.specs.Bytes.{put}
 use Rattle.layout.specs.declared.Shape.{Shape}
 use Rattle.layout.specs.Contents.{layoutGood, shapeOf, Read}
 use Rattle.plan.specs.Form.{Row, planBytes, rowOffset, rowAt}
-use Rattle.plan.specs.Fit.{rowGood}
+use Rattle.plan.specs.Fit.{applicable}
 
 -- the numbers of the refusals
 abbrev pub shortPlan : ℕ
@@ -24,7 +24,7 @@ badRow = 207
 
 -- rule L4: the number, and the image after it, where the plan is long enough and the layout good
 abbrev pub rowNumber : Shape → List ℕ → ℕ → ℕ
-rowNumber h plan i = cond (rowGood h plan i) 0 badRow
+rowNumber h plan i = cond (applicable h plan i) 0 badRow
 
 -- rules L1 to L4: the first refusal that applies, in this order (applying is the papers' landing)
 unfoldable pub applyNumber : List ℕ → List ℕ → ℕ → ℕ
@@ -41,7 +41,7 @@ appliedImage image plan i = cond (eqb (applyNumber image plan i) 0) (applied ima
 
 -- the same where the plan is long enough and the layout good
 abbrev pub rowImage : Shape → List ℕ → List ℕ → ℕ → List ℕ
-rowImage h image plan i = cond (rowGood h plan i) (applied image (rowAt plan i)) image
+rowImage h image plan i = cond (applicable h plan i) (applied image (rowAt plan i)) image
 
 -- the ways out of the job
 module _ (image plan : List ℕ) (i : ℕ) where
@@ -57,14 +57,14 @@ module _ (image plan : List ℕ) (i : ℕ) where
     pub apply-read : (h : Shape) → Read image h → (applyNumber image plan i ≡ rowNumber h plan i) × (appliedImage image plan i ≡ rowImage h image plan i)
     unfolding appliedImage applyNumber
     apply-read h r =
-        (rw (le-ltb _ _ long, r .good, r .shape), rw (le-ltb _ _ long, r .good, r .shape) (pick (rowGood (shapeOf image) plan i)))
+        (rw (le-ltb _ _ long, r .good, r .shape), rw (le-ltb _ _ long, r .good, r .shape) (pick (applicable (shapeOf image) plan i)))
       where
         pick : (b : Bool) → cond (eqb (cond b 0 badRow) 0) (applied image (rowAt plan i)) image ≡ cond b (applied image (rowAt plan i)) image
         pick true = refl
         pick false = refl
 
 -- a good row copied
-pub row-copied : (h : Shape) (image plan : List ℕ) (i at : ℕ) (body : List ℕ) → rowGood h plan i ≡ true → at ≡ rowOffset plan i → body ≡ rowAt plan i .body
+pub row-copied : (h : Shape) (image plan : List ℕ) (i at : ℕ) (body : List ℕ) → applicable h plan i ≡ true → at ≡ rowOffset plan i → body ≡ rowAt plan i .body
     → put image at body ≡ rowImage h image plan i
 unfolding rowAt
 row-copied h image plan i at body good a b = rw (good, a, b)

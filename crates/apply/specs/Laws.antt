@@ -10,35 +10,35 @@ use lib.ListN.{length}
 use borrow.Author.Tests.{eq-eqb, eqb-true, eqb-false, ne-eqb, le-ltb, ltb-false}
 use Rattle.seq.specs.Bytes.{part-length}
 use Rattle.layout.specs.declared.Shape.{Shape}
-use Rattle.layout.specs.Place.{Key, recordBytes, place}
+use Rattle.layout.specs.Place.{Key, Valid, recordBytes, place}
 use Rattle.layout.specs.Contents.{layoutGood, shapeOf, good-laid}
-use Rattle.layout.specs.Record.{store, store-length}
+use Rattle.layout.specs.Record.{recordAt, store, store-length, store-same, store-other}
 use Rattle.layout.specs.Commute.{store-shape, store-layout, store-swap}
 use Rattle.plan.specs.Form.{Row, planRows, planBytes, bodyAt, rowLength, rowOffset, rowAt}
 use Rattle.plan.specs.Rows.{Stands}
-use Rattle.plan.specs.Fit.{Covered, RowGood, Writes, rowGood, rowFor, good-row, row-good, good-fits, stands-good, written-fits}
+use Rattle.plan.specs.Fit.{Covered, Applicable, Writes, applicable, rowFor, applicable-is, is-applicable, applicable-fits, stands-applicable, written-fits}
 use Rattle.apply.specs.Apply.{shortPlan, badLayout, badRow, applyNumber, applied, appliedImage}
 
 -- What it takes for the job to answer 0.
 pub record Applies (image plan : List ℕ) (i : ℕ) : Type 0 where
   pub long : planBytes ≤ length plan
   pub layout : layoutGood image ≡ true
-  pub row : RowGood (shapeOf image) plan i
+  pub row : Applicable (shapeOf image) plan i
 
 pub applies-zero : (image plan : List ℕ) (i : ℕ) → Applies image plan i → applyNumber image plan i ≡ 0
 unfolding applyNumber
-applies-zero image plan i a = rw (le-ltb _ _ (a .long), a .layout, row-good _ _ _ (a .row))
+applies-zero image plan i a = rw (le-ltb _ _ (a .long), a .layout, is-applicable _ _ _ (a .row))
 
 pub zero-applies : (image plan : List ℕ) (i : ℕ) → applyNumber image plan i ≡ 0 → Applies image plan i
 unfolding applyNumber
-zero-applies image plan i e = go (ltb (length plan) planBytes) (layoutGood image) (rowGood (shapeOf image) plan i) refl refl refl e
+zero-applies image plan i e = go (ltb (length plan) planBytes) (layoutGood image) (applicable (shapeOf image) plan i) refl refl refl e
   where
-    go : (a b c : Bool) → ltb (length plan) planBytes ≡ a → layoutGood image ≡ b → rowGood (shapeOf image) plan i ≡ c
+    go : (a b c : Bool) → ltb (length plan) planBytes ≡ a → layoutGood image ≡ b → applicable (shapeOf image) plan i ≡ c
         → cond a shortPlan (cond b (cond c 0 badRow) badLayout) ≡ 0 → Applies image plan i
     go true b c ea eb ec z = absurd (omega arith)
     go false false c ea eb ec z = absurd (omega arith)
     go false true false ea eb ec z = absurd (omega arith)
-    go false true true ea eb ec z = record { long = ltb-false _ _ ea; layout = eb; row = good-row _ _ _ ec }
+    go false true true ea eb ec z = record { long = ltb-false _ _ ea; layout = eb; row = applicable-is _ _ _ ec }
 
 -- a refusal changes nothing
 pub refused-same : (image plan : List ℕ) (i : ℕ) → (applyNumber image plan i ≡ 0 → ⊥) → appliedImage image plan i ≡ image
@@ -71,12 +71,24 @@ module _ (image plan : List ℕ) (i : ℕ) (a : Applies image plan i) where
   pub body-whole : length appliedBody ≡ recordBytes (shapeOf image) (appliedKey .section)
   unfolding rowAt
   body-whole =
-      let f = good-fits (shapeOf image) image plan i (good-laid image (a .layout)) (a .row) in
+      let f = applicable-fits (shapeOf image) image plan i (good-laid image (a .layout)) (a .row) in
       part-length plan (bodyAt i) (rowLength plan i) (omega (arith, f .0, a .long, a .row .below)) ∙ a .row .covered .whole
 
   pub applied-is : appliedImage image plan i ≡ store (shapeOf image) image appliedKey appliedBody
   unfolding rowAt
   applied-is = applied-done image plan i a ∙ applied-store (shapeOf image) image (rowAt plan i) (a .row .covered)
+
+  -- so the record is read back, and every other is untouched
+  pub applied-same : recordAt (shapeOf image) (appliedImage image plan i) (appliedKey .section) (appliedKey .index) ≡ appliedBody
+  applied-same =
+      ap (λ (s : List ℕ). recordAt (shapeOf image) s (appliedKey .section) (appliedKey .index)) applied-is
+      ∙ store-same (shapeOf image) image appliedBody appliedKey (good-laid image (a .layout) .long) (a .row .covered .valid) body-whole
+
+  pub applied-other : (j : Key) → Valid (shapeOf image) j → j ≢ appliedKey
+      → recordAt (shapeOf image) (appliedImage image plan i) (j .section) (j .index) ≡ recordAt (shapeOf image) image (j .section) (j .index)
+  applied-other j valid differ =
+      ap (λ (s : List ℕ). recordAt (shapeOf image) s (j .section) (j .index)) applied-is
+      ∙ store-other (shapeOf image) image appliedBody appliedKey (good-laid image (a .layout) .long) (a .row .covered .valid) body-whole j valid differ
 
 -- a row that an operation wrote, and that stands in a plan, is applied as the store it is meant to be
 module _ (image plan : List ℕ) (i group : ℕ) (k : Key) (body : List ℕ) (long : planBytes ≤ length plan) (good : layoutGood image ≡ true) (below : i < planRows)
@@ -85,7 +97,7 @@ module _ (image plan : List ℕ) (i group : ℕ) (k : Key) (body : List ℕ) (lo
   written-applies = record {
     long = long;
     layout = good;
-    row = good-row _ _ _ (stands-good (shapeOf image) plan i _ below stands ∙ written-fits (shapeOf image) group k body w);
+    row = applicable-is _ _ _ (stands-applicable (shapeOf image) plan i _ below stands ∙ written-fits (shapeOf image) group k body w);
   }
 
   pub written-stores : appliedImage image plan i ≡ store (shapeOf image) image k body

@@ -6,7 +6,7 @@ ghost use Prim.Native.Nat.{_<_, _≤_};
 ghost use lib.ListN.{length};
 ghost use Rattle.layout.specs.Contents.{Laid};
 ghost use Rattle.plan.specs.Form.{planBytes, planRows, rowAt};
-ghost use Rattle.plan.specs.Fit.{rowFits, rowGood};
+ghost use Rattle.plan.specs.Fit.{rowFits, applicable};
 ghost use Rattle.apply.specs.Find.{Bounded};
 ghost use Rattle.apply.specs.Apply.{rowNumber, rowImage, applyNumber, appliedImage};
 
@@ -28,9 +28,9 @@ fn row_fits(h: Shape, plan: &[u8], i: usize) -> bool
 }
 
 // Whether the number is a row's, its header is in order, and the image can take it.
-pub fn row_good(h: Shape, plan: &[u8], row: u64) -> bool
+pub fn applicable(h: Shape, plan: &[u8], row: u64) -> bool
     requires { ⌜ Bounded h × (planBytes ≤ length (now plan)) ⌝ }
-    ensures { λ r. ⌜ r ≡ rowGood h (now (plan .entry)) row ⌝ }
+    ensures { λ r. ⌜ r ≡ applicable h (now (plan .entry)) row ⌝ }
 {
     if 9 <= row {
         return false;
@@ -50,7 +50,7 @@ fn apply_row(image: &mut [u8], h: Shape, plan: &[u8], row: u64) -> u8
     requires { ⌜ Laid h (now image) × (planBytes ≤ length (now plan)) ⌝ }
     ensures { λ r. ⌜ (r ≡ rowNumber h (now (plan .entry)) row) × (now (image .exit) ≡ rowImage h (now (image .entry)) (now (plan .entry)) row) ⌝ }
 {
-    if !row_good(h, plan, row) {
+    if !applicable(h, plan, row) {
         return 207;
     }
     let i = row as usize;

@@ -47,8 +47,8 @@ unfoldable pub rowFits : Shape → Row → Bool
 rowFits h r = groupGood (r .group) && covers h (r .offset) (r .bytes)
 
 -- rules L4 to L7: the number is a row's, its header is in order, and the image can take it
-unfoldable pub rowGood : Shape → List ℕ → ℕ → Bool
-rowGood h plan i = ltb i planRows && eqb (rowBlank plan i) 0 && eqb (rowPosition plan i) (bodyAt i) && rowFits h (rowAt plan i)
+unfoldable pub applicable : Shape → List ℕ → ℕ → Bool
+applicable h plan i = ltb i planRows && eqb (rowBlank plan i) 0 && eqb (rowPosition plan i) (bodyAt i) && rowFits h (rowAt plan i)
 
 -- The record that n bytes from at on are.
 pub record Covered (h : Shape) (at n : ℕ) : Type 0 where
@@ -92,7 +92,7 @@ record-room h a b (suc (suc (suc zero))) = (omega arith, omega arith)
 record-room h a b (suc (suc (suc (suc k)))) = (omega arith, omega arith)
 
 -- What holds of a good row.
-pub record RowGood (h : Shape) (plan : List ℕ) (i : ℕ) : Type 0 where
+pub record Applicable (h : Shape) (plan : List ℕ) (i : ℕ) : Type 0 where
   pub below : i < planRows
   pub blank : rowBlank plan i ≡ 0
   pub position : rowPosition plan i ≡ bodyAt i
@@ -100,9 +100,9 @@ pub record RowGood (h : Shape) (plan : List ℕ) (i : ℕ) : Type 0 where
   pub last : rowGroup plan i ≤ lastGroup
   pub covered : Covered h (rowOffset plan i) (rowLength plan i)
 
-pub good-row : (h : Shape) (plan : List ℕ) (i : ℕ) → rowGood h plan i ≡ true → RowGood h plan i
-unfolding rowGood rowFits rowAt
-good-row h plan i e = record {
+pub applicable-is : (h : Shape) (plan : List ℕ) (i : ℕ) → applicable h plan i ≡ true → Applicable h plan i
+unfolding applicable rowFits rowAt
+applicable-is h plan i e = record {
   below = ltb-true _ _ (search (and-left, and-right));
   blank = eqb-true _ _ (search (and-left, and-right));
   position = eqb-true _ _ (search (and-left, and-right));
@@ -111,14 +111,14 @@ good-row h plan i e = record {
   covered = covers-one h _ _ (search (and-left, and-right));
 }
 
-pub row-good : (h : Shape) (plan : List ℕ) (i : ℕ) → RowGood h plan i → rowGood h plan i ≡ true
-unfolding rowGood rowFits rowAt
-row-good h plan i g =
+pub is-applicable : (h : Shape) (plan : List ℕ) (i : ℕ) → Applicable h plan i → applicable h plan i ≡ true
+unfolding applicable rowFits rowAt
+is-applicable h plan i g =
     rw (lt-ltb _ _ (g .below), eq-eqb _ _ (g .blank), eq-eqb _ _ (g .position), le-leb _ _ (g .first), le-leb _ _ (g .last), one-covers h _ _ (g .covered))
 
 -- a good row has its body in the plan and its record in the image
-pub good-fits : (h : Shape) (s plan : List ℕ) (i : ℕ) → Laid h s → RowGood h plan i → (rowLength plan i ≤ bodyBytes) × (rowOffset plan i + rowLength plan i ≤ length s)
-good-fits h s plan i laid g =
+pub applicable-fits : (h : Shape) (s plan : List ℕ) (i : ℕ) → Laid h s → Applicable h plan i → (rowLength plan i ≤ bodyBytes) × (rowOffset plan i + rowLength plan i ≤ length s)
+applicable-fits h s plan i laid g =
     let room = record-room h (laid .width-least) (laid .width-most) (g .covered .key .section) .1 in
     (rw (g .covered .whole) room, omega (arith, laid .long, covered-ends h _ _ (g .covered)))
 
@@ -146,9 +146,9 @@ module _ (h : Shape) (group : ℕ) (k : Key) (body : List ℕ) (w : Writes h gro
       (one-covers h _ _ written-covers)
 
 -- a row that stands in its place is good exactly if the image can take it
-pub stands-good : (h : Shape) (plan : List ℕ) (i : ℕ) (r : Row) → i < planRows → Stands plan i r → rowGood h plan i ≡ rowFits h r
-unfolding rowGood
-stands-good h plan i r below stands =
+pub stands-applicable : (h : Shape) (plan : List ℕ) (i : ℕ) (r : Row) → i < planRows → Stands plan i r → applicable h plan i ≡ rowFits h r
+unfolding applicable
+stands-applicable h plan i r below stands =
     rw (lt-ltb _ _ below, eq-eqb _ _ (stands .blank), eq-eqb _ _ (stands .position), stands .row)
 
 -- the offset of a record fits two bytes
@@ -166,6 +166,6 @@ module _ (h : Shape) (s : List ℕ) (laid : Laid h s) (small : imageBytes h ≤ 
       record { offset-small = omega (arith, room .0); body-fits = omega (arith, room .1, w .whole); whole = refl }
 
   -- put into a plan, it can be applied from there
-  pub written-good : (plan : List ℕ) (i : ℕ) → planBytes ≤ length plan → i < planRows → rowGood h (rowPut plan i (rowFor h group k body)) i ≡ true
-  written-good plan i long below =
-      stands-good h _ i _ below (row-stands plan i (rowFor h group k body) long below written-formed) ∙ written-fits h group k body w
+  pub written-applicable : (plan : List ℕ) (i : ℕ) → planBytes ≤ length plan → i < planRows → applicable h (rowPut plan i (rowFor h group k body)) i ≡ true
+  written-applicable plan i long below =
+      stands-applicable h _ i _ below (row-stands plan i (rowFor h group k body) long below written-formed) ∙ written-fits h group k body w

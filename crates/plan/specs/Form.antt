@@ -17,11 +17,12 @@ headerBytes = 8
 abbrev pub bodyBytes : ℕ
 bodyBytes = 64
 
+-- the bodies follow the headers, and the plan ends with the last
 abbrev pub bodiesAt : ℕ
-bodiesAt = 72
+bodiesAt = headerBytes * planRows
 
 abbrev pub planBytes : ℕ
-planBytes = 648
+planBytes = bodiesAt + bodyBytes * planRows
 
 -- rule P2: where row i's header and body begin
 abbrev pub headerAt : ℕ → ℕ

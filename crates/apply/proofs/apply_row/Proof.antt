@@ -6,7 +6,7 @@ use Prim.Native.Nat.{_+_, _≤_}
 use lib.ListN.{length}
 use Rattle.seq.specs.Truth.{fails, holds}
 use Rattle.plan.specs.Form.{bodyBytes, rowLength, rowOffset}
-use Rattle.plan.specs.Fit.{RowGood, rowGood, good-row, good-fits}
+use Rattle.plan.specs.Fit.{Applicable, applicable, applicable-is, applicable-fits}
 use Rattle.apply.specs.Find.{laid-bounded}
 use Rattle.apply.specs.Apply.{row-copied}
 use borrow.Author.Needs.{needs}
@@ -14,20 +14,20 @@ use Rattle.apply.proofs.apply_row.Statement.{statement}
 use Rattle.apply.proofs.apply_row.Tie as tie
 
 -- past the test the row is good, its body is in the plan and its record in the image
-passed : (c : tie.Else1) → rowGood (c .before .before .before .before .args .h) (c .before .before .before .before .args .plan .now) (c .before .before .before .before .args .row) ≡ true
-passed c = holds (c .before .row-good .ensures) (c .if1 .left)
+passed : (c : tie.Else1) → applicable (c .before .before .before .before .args .h) (c .before .before .before .before .args .plan .now) (c .before .before .before .before .args .row) ≡ true
+passed c = holds (c .before .applicable .ensures) (c .if1 .left)
 
-good : (c : tie.Else1) → RowGood (c .before .before .before .before .args .h) (c .before .before .before .before .args .plan .now) (c .before .before .before .before .args .row)
-good c = good-row _ _ _ (passed c)
+good : (c : tie.Else1) → Applicable (c .before .before .before .before .args .h) (c .before .before .before .before .args .plan .now) (c .before .before .before .before .args .row)
+good c = applicable-is _ _ _ (passed c)
 
 fits : (c : tie.Else1) → (rowLength (c .before .before .before .before .args .plan .now) (c .before .before .before .before .args .row) ≤ bodyBytes) × (rowOffset (c .before .before .before .before .args .plan .now) (c .before .before .before .before .args .row) + rowLength (c .before .before .before .before .args .plan .now) (c .before .before .before .before .args .row) ≤ length (c .before .before .before .before .args .image .now))
-fits c = good-fits (c .before .before .before .before .args .h) (c .before .before .before .before .args .image .now) _ _ (c .before .before .before .before .pre .0) (good c)
+fits c = applicable-fits (c .before .before .before .before .args .h) (c .before .before .before .before .args .image .now) _ _ (c .before .before .before .before .pre .0) (good c)
 
-row-good-requires : tie.Need-row-good-requires
-row-good-requires c κs = (laid-bounded _ _ (c .before .before .pre .0), c .before .before .pre .1)
+applicable-requires : tie.Need-applicable-requires
+applicable-requires c κs = (laid-bounded _ _ (c .before .before .pre .0), c .before .before .pre .1)
 
 returns : tie.Need-returns
-returns c = let e = fails (c .before .row-good .ensures) (c .if1 .taken) in (rw e, rw e)
+returns c = let e = fails (c .before .applicable .ensures) (c .if1 .taken) in (rw e, rw e)
 
 offset-requires : tie.Need-offset-requires
 offset-requires c κs = (c .before .before .before .before .before .pre .1, good (c .before) .below)
@@ -49,7 +49,7 @@ pub apply-row-spec : {M : Type 1} → statement M
 apply-row-spec =
     tie.close
     (tie.spec
-    row-good-requires
+    applicable-requires
     returns
     offset-requires
     body-requires
