@@ -22,7 +22,7 @@ badLayout = 201
 abbrev pub badRow : ℕ
 badRow = 207
 
--- rule L4: the number, and the image after it, where the plan is long enough and the layout good
+-- rule L4: the number where the plan is long enough and the layout good
 abbrev pub rowNumber : Shape → List ℕ → ℕ → ℕ
 rowNumber h plan i = cond (applicable h plan i) 0 badRow
 
@@ -39,7 +39,7 @@ applied image r = put image (r .offset) (r .body)
 unfoldable pub appliedImage : List ℕ → List ℕ → ℕ → List ℕ
 appliedImage image plan i = cond (eqb (applyNumber image plan i) 0) (applied image (rowAt plan i)) image
 
--- the same where the plan is long enough and the layout good
+-- the image where the plan is long enough and the layout good
 abbrev pub rowImage : Shape → List ℕ → List ℕ → ℕ → List ℕ
 rowImage h image plan i = cond (applicable h plan i) (applied image (rowAt plan i)) image
 
@@ -63,7 +63,7 @@ module _ (image plan : List ℕ) (i : ℕ) where
         pick true = refl
         pick false = refl
 
--- a good row copied
+-- a row that can be applied, copied
 pub row-copied : (h : Shape) (image plan : List ℕ) (i at : ℕ) (body : List ℕ) → applicable h plan i ≡ true → at ≡ rowOffset plan i → body ≡ rowAt plan i .body
     → put image at body ≡ rowImage h image plan i
 unfolding rowAt

@@ -12,8 +12,8 @@ use Rattle.seq.specs.Truth.{and-left, and-right, and-both, same-truth}
 use Rattle.seq.specs.Search.{any, any-hit, any-at}
 use Rattle.layout.specs.declared.Shape.{Shape}
 use Rattle.layout.specs.Contents.{Laid}
-use Rattle.plan.specs.Fit.{coverable, coversSection}
 use Rattle.layout.specs.Place.{recordBytes, records, base, imageBytes}
+use Rattle.plan.specs.Fit.{coverable, coversSection}
 
 -- n bytes from at on are one of count records of width bytes each, the first of them at start
 unfoldable pub oneOf : ℕ → ℕ → ℕ → ℕ → ℕ → Bool
@@ -115,11 +115,3 @@ coverable-else (suc zero) ne = refl
 coverable-else (suc (suc zero)) ne = refl
 coverable-else (suc (suc (suc zero))) ne = absurd (ne refl)
 coverable-else (suc (suc (suc (suc k)))) ne = refl
-
--- a record is not empty
-pub bytes-some : (h : Shape) → Bounded h → (k : ℕ) → 1 ≤ recordBytes h k
-bytes-some h b zero = omega arith
-bytes-some h b (suc zero) = b .width-least
-bytes-some h b (suc (suc zero)) = omega arith
-bytes-some h b (suc (suc (suc zero))) = omega arith
-bytes-some h b (suc (suc (suc (suc k)))) = omega arith

@@ -10,9 +10,9 @@ use borrow.Author.Tests.{eq-eqb, eqb-true, lt-ltb, ltb-true, le-leb, leb-true}
 use Rattle.seq.specs.Truth.{and-left, and-right, and-both}
 use Rattle.seq.specs.Search.{any, any-hit, any-at}
 use Rattle.layout.specs.declared.Shape.{Shape}
+use Rattle.layout.specs.Contents.{Laid, layoutGood, shapeOf, good-laid}
 use Rattle.layout.specs.Place.{Key, Valid, recordBytes, records, place, imageBytes, inside}
 use Rattle.plan.specs.Form.{Row, planRows, bodyBytes, planBytes, bodyAt, rowOf, rowGroup, rowBlank, rowLength, rowOffset, rowPosition, rowAt, rowPut}
-use Rattle.layout.specs.Contents.{Laid, layoutGood, shapeOf, good-laid}
 use Rattle.plan.specs.Rows.{Formed, Stands, row-stands}
 
 -- rule L5: the ordering groups, counted from 1
@@ -84,14 +84,21 @@ pub covered-ends : (h : Shape) (at n : ℕ) → Covered h at n → at + n ≤ im
 covered-ends h at n c = rw (c .begins, c .whole) (inside h (c .key .section) (c .key .index) (c .valid .in-image) (c .valid .in-section))
 
 -- a record is not empty, and it fits a body
-record-room : (h : Shape) → 32 ≤ h .width → h .width ≤ 48 → (k : ℕ) → (1 ≤ recordBytes h k) × (recordBytes h k ≤ bodyBytes)
-record-room h a b zero = (omega arith, omega arith)
-record-room h a b (suc zero) = (omega arith, omega arith)
-record-room h a b (suc (suc zero)) = (omega arith, omega arith)
-record-room h a b (suc (suc (suc zero))) = (omega arith, omega arith)
-record-room h a b (suc (suc (suc (suc k)))) = (omega arith, omega arith)
+pub record-some : (h : Shape) → 1 ≤ h .width → (k : ℕ) → 1 ≤ recordBytes h k
+record-some h a zero = omega arith
+record-some h a (suc zero) = a
+record-some h a (suc (suc zero)) = omega arith
+record-some h a (suc (suc (suc zero))) = omega arith
+record-some h a (suc (suc (suc (suc k)))) = omega arith
 
--- What holds of a good row.
+record-room : (h : Shape) → h .width ≤ 48 → (k : ℕ) → recordBytes h k ≤ bodyBytes
+record-room h a zero = omega arith
+record-room h a (suc zero) = omega arith
+record-room h a (suc (suc zero)) = omega arith
+record-room h a (suc (suc (suc zero))) = omega arith
+record-room h a (suc (suc (suc (suc k)))) = omega arith
+
+-- What holds of a row that can be applied.
 pub record Applicable (h : Shape) (plan : List ℕ) (i : ℕ) : Type 0 where
   pub below : i < planRows
   pub blank : rowBlank plan i ≡ 0
@@ -116,11 +123,10 @@ unfolding applicable rowFits rowAt
 is-applicable h plan i g =
     rw (lt-ltb _ _ (g .below), eq-eqb _ _ (g .blank), eq-eqb _ _ (g .position), le-leb _ _ (g .first), le-leb _ _ (g .last), one-covers h _ _ (g .covered))
 
--- a good row has its body in the plan and its record in the image
+-- such a row has its body in the plan and its record in the image
 pub applicable-fits : (h : Shape) (s plan : List ℕ) (i : ℕ) → Laid h s → Applicable h plan i → (rowLength plan i ≤ bodyBytes) × (rowOffset plan i + rowLength plan i ≤ length s)
 applicable-fits h s plan i laid g =
-    let room = record-room h (laid .width-least) (laid .width-most) (g .covered .key .section) .1 in
-    (rw (g .covered .whole) room, omega (arith, laid .long, covered-ends h _ _ (g .covered)))
+    (rw (g .covered .whole) (record-room h (laid .width-most) (g .covered .key .section)), omega (arith, laid .long, covered-ends h _ _ (g .covered)))
 
 -- the row that replaces one record, as every operation writes it
 abbrev pub rowFor : Shape → ℕ → Key → List ℕ → Row
@@ -145,7 +151,7 @@ module _ (h : Shape) (group : ℕ) (k : Key) (body : List ℕ) (w : Writes h gro
       and-both (groupGood group) _ (and-both (leb 1 group) _ (le-leb _ _ (w .first)) (le-leb _ _ (w .last)))
       (one-covers h _ _ written-covers)
 
--- a row that stands in its place is good exactly if the image can take it
+-- a row that stands in its place can be applied exactly if the image can take it
 pub stands-applicable : (h : Shape) (plan : List ℕ) (i : ℕ) (r : Row) → i < planRows → Stands plan i r → applicable h plan i ≡ rowFits h r
 unfolding applicable
 stands-applicable h plan i r below stands =
@@ -161,9 +167,10 @@ image-small s good =
 module _ (h : Shape) (s : List ℕ) (laid : Laid h s) (small : imageBytes h ≤ 65536) (group : ℕ) (k : Key) (body : List ℕ) (w : Writes h group k body) where
   pub written-formed : Formed (rowFor h group k body)
   written-formed =
-      let room = record-room h (laid .width-least) (laid .width-most) (k .section) in
+      let some = record-some h (omega (arith, laid .width-least)) (k .section) in
+      let room = record-room h (laid .width-most) (k .section) in
       let ends = inside h (k .section) (k .index) (w .valid .in-image) (w .valid .in-section) in
-      record { offset-small = omega (arith, room .0); body-fits = omega (arith, room .1, w .whole); whole = refl }
+      record { offset-small = omega arith; body-fits = omega (arith, w .whole); whole = refl }
 
   -- put into a plan, it can be applied from there
   pub written-applicable : (plan : List ℕ) (i : ℕ) → planBytes ≤ length plan → i < planRows → applicable h (rowPut plan i (rowFor h group k body)) i ≡ true

@@ -20,7 +20,7 @@ pub fn put_row(plan: &mut [u8], i: usize, group: u8, offset: usize, body: &[u8])
     ensures { λ _. ⌜ now (plan .exit) ≡ rowPut (now (plan .entry)) i (rowOf group offset (now (body .entry))) ⌝ }
 {
     let n = body.len();
-    let at = 72 + 64 * i;
+    let position = 72 + 64 * i;
     let header = [
         group,
         0,
@@ -28,11 +28,11 @@ pub fn put_row(plan: &mut [u8], i: usize, group: u8, offset: usize, body: &[u8])
         (n / 256 % 256) as u8,
         (offset % 256) as u8,
         (offset / 256 % 256) as u8,
-        (at % 256) as u8,
-        (at / 256 % 256) as u8,
+        (position % 256) as u8,
+        (position / 256 % 256) as u8,
     ];
     layout::bytes::copy(plan, 8 * i, &header);
-    layout::bytes::copy(plan, at, body);
+    layout::bytes::copy(plan, position, body);
 }
 
 // The ordering group of row i.

@@ -13,7 +13,7 @@ use borrow.Author.Needs.{needs}
 use Rattle.apply.proofs.apply_row.Statement.{statement}
 use Rattle.apply.proofs.apply_row.Tie as tie
 
--- past the test the row is good, its body is in the plan and its record in the image
+-- past the test the row can be applied, its body is in the plan and its record in the image
 passed : (c : tie.Else1) → applicable (c .before .before .before .before .args .h) (c .before .before .before .before .args .plan .now) (c .before .before .before .before .args .row) ≡ true
 passed c = holds (c .before .applicable .ensures) (c .if1 .left)
 

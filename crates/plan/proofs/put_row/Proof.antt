@@ -8,11 +8,11 @@ use borrow.Author.Needs.{needs}
 use Rattle.plan.proofs.put_row.Statement.{statement}
 use Rattle.plan.proofs.put_row.Tie as tie
 
-mul-at : tie.Need-mul-at
-mul-at c = search needs
+mul-position : tie.Need-mul-position
+mul-position c = search needs
 
-add-at : tie.Need-add-at
-add-at c = search needs
+add-position : tie.Need-add-position
+add-position c = search needs
 
 cast-t10 : tie.Need-cast-t10
 cast-t10 c = search needs
@@ -55,8 +55,8 @@ pub put-row-spec : {M : Type 1} → statement M
 put-row-spec =
     tie.close
     (tie.spec
-    mul-at
-    add-at
+    mul-position
+    add-position
     cast-t10
     cast-t13
     cast-t15

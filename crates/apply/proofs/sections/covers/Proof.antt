@@ -2,8 +2,8 @@
 use mathlib.Core.Bool.{false}
 use Rattle.seq.specs.Search.{any, any-none, any-miss, any-hit}
 use Rattle.layout.specs.Place.{base}
-use Rattle.plan.specs.Fit.{coversSection, covers}
-use Rattle.apply.specs.Find.{section-is, section-next, section-room, bytes-some}
+use Rattle.plan.specs.Fit.{coversSection, covers, record-some}
+use Rattle.apply.specs.Find.{section-is, section-next, section-room}
 use mathlib.Core.Path.{_≡_, sym, _∙_}
 use Prim.Native.Nat.{_≤_, _-_}
 use native.Mathlib.Omega.{arith}
@@ -27,7 +27,7 @@ records-requires : tie.Need-records-requires Inv-loop μ-loop
 records-requires c κs = search needs
 
 one-of-section-requires : tie.Need-one-of-section-requires Inv-loop μ-loop
-one-of-section-requires c κs = rw (c .before .record-bytes .ensures) (bytes-some (c .before .before .before .before .args .h) (c .before .before .before .before .pre) (c .before .before .before .loop .k))
+one-of-section-requires c κs = rw (c .before .record-bytes .ensures) (record-some (c .before .before .before .before .args .h) (c .before .before .before .before .pre .width-least) (c .before .before .before .loop .k))
 
 returns : tie.Need-returns Inv-loop μ-loop
 unfolding covers
