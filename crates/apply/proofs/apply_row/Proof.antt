@@ -1,0 +1,58 @@
+-- `apply::apply_row` meets its contract. Assumes nothing.
+use mathlib.Core.Path.{_≡_, _∙_}
+use mathlib.Core.Bool.{true}
+use native.Mathlib.Omega.{arith}
+use Prim.Native.Nat.{_+_, _≤_}
+use lib.ListN.{length}
+use Rattle.seq.specs.Truth.{fails, holds}
+use Rattle.plan.specs.Form.{bodyBytes, rowLength, rowOffset}
+use Rattle.plan.specs.Fit.{Applicable, applicable, applicable-is, applicable-fits}
+use Rattle.apply.specs.Find.{laid-bounded}
+use Rattle.apply.specs.Apply.{row-copied}
+use borrow.Author.Needs.{needs}
+use Rattle.apply.proofs.apply_row.Statement.{statement}
+use Rattle.apply.proofs.apply_row.Tie as tie
+
+-- past the test the row can be applied, its body is in the plan and its record in the image
+passed : (c : tie.Else1) → applicable (c .before .before .before .before .args .h) (c .before .before .before .before .args .plan .now) (c .before .before .before .before .args .row) ≡ true
+passed c = holds (c .before .applicable .ensures) (c .if1 .left)
+
+good : (c : tie.Else1) → Applicable (c .before .before .before .before .args .h) (c .before .before .before .before .args .plan .now) (c .before .before .before .before .args .row)
+good c = applicable-is _ _ _ (passed c)
+
+fits : (c : tie.Else1) → (rowLength (c .before .before .before .before .args .plan .now) (c .before .before .before .before .args .row) ≤ bodyBytes) × (rowOffset (c .before .before .before .before .args .plan .now) (c .before .before .before .before .args .row) + rowLength (c .before .before .before .before .args .plan .now) (c .before .before .before .before .args .row) ≤ length (c .before .before .before .before .args .image .now))
+fits c = applicable-fits (c .before .before .before .before .args .h) (c .before .before .before .before .args .image .now) _ _ (c .before .before .before .before .pre .0) (good c)
+
+applicable-requires : tie.Need-applicable-requires
+applicable-requires c κs = (laid-bounded _ _ (c .before .before .pre .0), c .before .before .pre .1)
+
+returns : tie.Need-returns
+returns c = let e = fails (c .before .applicable .ensures) (c .if1 .taken) in (rw e, rw e)
+
+offset-requires : tie.Need-offset-requires
+offset-requires c κs = (c .before .before .before .before .before .pre .1, good (c .before) .below)
+
+body-requires : tie.Need-body-requires
+body-requires c κs = (c .before .before .before .before .before .before .pre .1, good (c .before .before) .below, fits (c .before .before) .0)
+
+copy-requires : tie.Need-copy-requires
+copy-requires c κs = omega (arith, fits (c .before .before .before) .1, c .before .offset .ensures .0, c .body .ensures .long)
+
+same-length : tie.Need-same-length
+same-length c = search needs
+
+returns-2 : tie.Need-returns-2
+returns-2 c = let p = passed (c .before .before .before .before .before .before) in
+    (rw p, c .before .before .copy .ensures ∙ row-copied _ _ _ _ _ _ p (c .before .before .before .before .offset .ensures .0) (c .before .before .before .body .ensures .is))
+
+pub apply-row-spec : {M : Type 1} → statement M
+apply-row-spec =
+    tie.close
+    (tie.spec
+    applicable-requires
+    returns
+    offset-requires
+    body-requires
+    copy-requires
+    same-length
+    returns-2)

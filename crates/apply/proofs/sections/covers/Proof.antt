@@ -1,0 +1,72 @@
+-- `apply::sections::covers` meets its contract. Assumes nothing.
+use mathlib.Core.Bool.{false}
+use Rattle.seq.specs.Search.{any, any-none, any-miss, any-hit}
+use Rattle.layout.specs.Place.{base}
+use Rattle.plan.specs.Fit.{coversSection, covers, record-some}
+use Rattle.apply.specs.Find.{section-is, section-next, section-room}
+use mathlib.Core.Path.{_≡_, sym, _∙_}
+use Prim.Native.Nat.{_≤_, _-_}
+use native.Mathlib.Omega.{arith}
+use borrow.Author.Needs.{needs}
+use Rattle.apply.proofs.sections.covers.Statement.{statement}
+use Rattle.apply.proofs.sections.covers.Tie as tie
+
+abbrev Inv-loop : tie.InvT-loop
+Inv-loop h at n start₀ k₀ start k = (k ≤ 5) × (start ≡ base h k) × (any (coversSection h at n) k ≡ false)
+
+abbrev μ-loop : tie.MeasureT-loop
+μ-loop h at n start₀ k₀ start k = 5 - k
+
+loop-holds : tie.Need-loop-holds Inv-loop μ-loop
+loop-holds c = (search needs, search needs, any-none _)
+
+record-bytes-requires : tie.Need-record-bytes-requires Inv-loop μ-loop
+record-bytes-requires c κs = search needs
+
+records-requires : tie.Need-records-requires Inv-loop μ-loop
+records-requires c κs = search needs
+
+one-of-section-requires : tie.Need-one-of-section-requires Inv-loop μ-loop
+one-of-section-requires c κs = rw (c .before .record-bytes .ensures) (record-some (c .before .before .before .before .args .h) (c .before .before .before .before .pre .width-least) (c .before .before .before .loop .k))
+
+returns : tie.Need-returns Inv-loop μ-loop
+unfolding covers
+returns c = sym (any-hit _ _ _ (c .before .before .before .before .loop-test .taken) (sym (section-is (c .before .before .before .before .before .before .args .h) (c .before .before .before .before .before .loop .k) _ _ _ (c .before .before .before .before .before .loop .inv .1) (c .before .before .before .record-bytes .ensures) (c .before .before .records .ensures) _ _) ∙ sym (c .before .one-of-section .ensures) ∙ c .if1 .taken))
+
+mul-start : tie.Need-mul-start Inv-loop μ-loop
+mul-start c = omega (arith, section-room (c .before .before .before .before .before .before .args .h) (c .before .before .before .before .before .loop .k) _ _ _ (c .before .before .before .before .before .loop .inv .1) (c .before .before .before .record-bytes .ensures) (c .before .before .records .ensures) (c .before .before .before .before .before .before .pre) (c .before .before .before .before .loop-test .taken))
+
+add-start : tie.Need-add-start Inv-loop μ-loop
+add-start c = omega (arith, section-room (c .before .before .before .before .before .before .args .h) (c .before .before .before .before .before .loop .k) _ _ _ (c .before .before .before .before .before .loop .inv .1) (c .before .before .before .record-bytes .ensures) (c .before .before .records .ensures) (c .before .before .before .before .before .before .pre) (c .before .before .before .before .loop-test .taken))
+
+add-k : tie.Need-add-k Inv-loop μ-loop
+add-k c = search needs
+
+loop-less : tie.Need-loop-less Inv-loop μ-loop
+loop-less c = search needs
+
+loop-again : tie.Need-loop-again Inv-loop μ-loop
+loop-again c = (search needs, section-next (c .before .before .before .before .before .before .args .h) (c .before .before .before .before .before .loop .k) _ _ _ (c .before .before .before .before .before .loop .inv .1) (c .before .before .before .record-bytes .ensures) (c .before .before .records .ensures), any-miss _ _ (c .before .before .before .before .before .loop .inv .2) (sym (section-is (c .before .before .before .before .before .before .args .h) (c .before .before .before .before .before .loop .k) _ _ _ (c .before .before .before .before .before .loop .inv .1) (c .before .before .before .record-bytes .ensures) (c .before .before .records .ensures) _ _) ∙ sym (c .before .one-of-section .ensures) ∙ c .if1 .left))
+
+returns-2 : tie.Need-returns-2 Inv-loop μ-loop
+unfolding covers
+returns-2 c = let e : c .before .loop .k ≡ 5 = omega arith in
+    sym (rw e at (c .before .loop .inv .2))
+
+pub covers-spec : {M : Type 1} → statement M
+covers-spec =
+    tie.close
+    (tie.spec
+    Inv-loop
+    μ-loop
+    loop-holds
+    record-bytes-requires
+    records-requires
+    one-of-section-requires
+    returns
+    mul-start
+    add-start
+    add-k
+    loop-less
+    loop-again
+    returns-2)

@@ -1,0 +1,4 @@
+pub mod Find
+pub mod Apply
+pub mod Laws
+pub mod Bench

@@ -1,0 +1,5 @@
+pub mod Form
+pub mod Rows
+pub mod Many
+pub mod Fit
+pub mod Bench
