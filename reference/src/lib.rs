@@ -1,4 +1,4 @@
-//! The reference model: checks images, and makes the test vectors that the proved library must answer alike.
+//! The reference model: it does the jobs, and makes the test vectors that the proved library must answer alike.
 
 pub mod bench_tree;
 pub mod builder;
@@ -7,7 +7,9 @@ pub mod chance;
 pub mod check;
 pub mod damage;
 pub mod generate;
+pub mod land;
 pub mod layout;
+pub mod plan;
 pub mod random;
 pub mod samples;
 pub mod variants;

@@ -111,7 +111,7 @@ impl Collection {
 
     fn add(&mut self, class: &'static str, subject: &Subject, image: &[u8]) {
         let answer = check(image);
-        self.writer.case(&subject.bytes, image);
+        self.writer.check(&subject.bytes, image);
         self.count(class, answer, answer.to_string());
     }
 }
@@ -120,10 +120,14 @@ impl Collection {
 mod tests {
     use super::*;
     use crate::check::{Rule, RULES};
-    use crate::vectors::read;
+    use crate::vectors::{read, Case};
 
     fn images(collection: &Collection) -> Vec<Vec<u8>> {
-        read(&collection.writer.data).expect("the format is kept")
+        let image = |case: Case| match case {
+            Case::Check(image) => image,
+            other => panic!("a case of another job: {other:?}"),
+        };
+        read(&collection.writer.data).expect("the format is kept").into_iter().map(image).collect()
     }
 
     #[test]
