@@ -1,6 +1,7 @@
 //! The parts of the vectors: each has a file of cases, and a line of expected answer for each of them.
 
 pub mod check;
+pub mod land;
 
 use crate::vectors::Writer;
 
@@ -10,7 +11,10 @@ pub struct Part {
 }
 
 /// Every part, in the order of the answers; this list alone decides what is written and verified.
-pub const PARTS: &[Part] = &[Part { name: "check", make: check::all }];
+pub const PARTS: &[Part] = &[
+    Part { name: "check", make: check::all }, // an image: its number
+    Part { name: "land", make: land::all },   // an image, a plan, a row: the number and the image after
+];
 
 /// The cases of one class, by the numbers that answer them.
 pub struct Class {

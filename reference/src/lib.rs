@@ -8,6 +8,7 @@ pub mod check;
 pub mod damage;
 pub mod generate;
 pub mod land;
+pub mod landings;
 pub mod layout;
 pub mod plan;
 pub mod random;
