@@ -4,14 +4,18 @@ mod read;
 
 pub use read::read;
 
+use crate::request::Request;
+
 /// Limits of the format, for programs that read it with fixed buffers.
 pub const LONGEST_BASE: usize = 53_448;
 pub const LONGEST_CASE: usize = 131_072;
 pub const MOST_EDITS: usize = 12;
 pub const LONGEST_PLAN: usize = 1024;
+pub const LONGEST_PATH: usize = 600;
 
 const BASE: u8 = 1;
 const CHECK: u8 = 2;
+const WALK: u8 = 3;
 const LAND: u8 = 4;
 
 type Edit = (u32, u8);
@@ -20,7 +24,14 @@ type Edit = (u32, u8);
 #[derive(Clone, Debug, PartialEq, Eq)]
 pub enum Case {
     Check(Vec<u8>),
+    Walk(Walking),
     Land(Landing),
+}
+
+#[derive(Clone, Debug, PartialEq, Eq)]
+pub struct Walking {
+    pub image: Vec<u8>,
+    pub request: Request,
 }
 
 #[derive(Clone, Debug, PartialEq, Eq)]
@@ -59,6 +70,28 @@ impl Writer {
             self.data.extend(bytes);
         }
         self.data.extend(landing.row.to_le_bytes());
+    }
+
+    /// The image of a walk has the length of its base, so that edits tell all of it.
+    pub fn walk(&mut self, home: &[u8], walking: &Walking) {
+        let Walking { image, request } = walking;
+        if self.base != home {
+            self.base(home);
+        }
+        assert_eq!(image.len(), home.len());
+        let edits = edits(home, image).expect("a walk's image is near its tree's");
+        self.data.push(WALK);
+        self.edits(&edits);
+        self.data.extend(request.who.user.to_le_bytes());
+        self.data.extend(request.who.group.to_le_bytes());
+        self.data.extend(request.current.to_le_bytes());
+        self.data.extend([request.old.start, request.new.start]);
+        for path in [&request.old.path, &request.new.path] {
+            assert!(path.len() <= LONGEST_PATH, "a path of {} bytes", path.len());
+            self.data.extend((path.len() as u16).to_le_bytes());
+        }
+        self.data.extend(&request.old.path);
+        self.data.extend(&request.new.path);
     }
 
     /// Begins a case with its image, as edits of the current base, or of `home`, or else with a base of its own.
@@ -116,6 +149,8 @@ fn runs(plan: &[u8]) -> Vec<(usize, &[u8])> {
 #[cfg(test)]
 mod tests {
     use super::*;
+    use crate::permission::Credentials;
+    use crate::request::Operand;
 
     #[test]
     fn checks_are_read_as_they_were_written() {
@@ -154,6 +189,26 @@ mod tests {
             writer.land(&home, landing);
         }
         let cases: Vec<Case> = landings.into_iter().map(Case::Land).collect();
+        assert_eq!(read(&writer.data).expect("the format is kept"), cases);
+        assert_eq!(read(&writer.data[..writer.data.len() - 1]), None);
+    }
+
+    #[test]
+    fn walks_are_read_as_they_were_written() {
+        let home: Vec<u8> = (0..100).collect();
+        let other = vec![7; 90];
+        let mut edited = home.clone();
+        edited[99] = 1;
+        let who = Credentials { user: u32::MAX, group: 5 };
+        let (old, new) = (Operand::new(3, b"a/b"), Operand::new(255, &[0; LONGEST_PATH]));
+        let request = Request { who, current: 258, old, new };
+        let mut writer = Writer::default();
+        let walkings =
+            [&home, &edited, &other, &home].map(|image| Walking { image: image.clone(), request: request.clone() });
+        for walking in &walkings {
+            writer.walk(if walking.image.len() == 90 { &other } else { &home }, walking);
+        }
+        let cases: Vec<Case> = walkings.into_iter().map(Case::Walk).collect();
         assert_eq!(read(&writer.data).expect("the format is kept"), cases);
         assert_eq!(read(&writer.data[..writer.data.len() - 1]), None);
     }

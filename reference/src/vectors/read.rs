@@ -1,6 +1,9 @@
 //! Reads a file of test vectors back, strictly.
 
-use super::{Case, Landing, BASE, CHECK, LAND, LONGEST_BASE, LONGEST_CASE, LONGEST_PLAN, MOST_EDITS};
+use super::{Case, Landing, Walking, BASE, CHECK, LAND, WALK};
+use super::{LONGEST_BASE, LONGEST_CASE, LONGEST_PATH, LONGEST_PLAN, MOST_EDITS};
+use crate::permission::Credentials;
+use crate::request::{Operand, Request};
 
 /// The cases of a file in order; nothing where the file breaks its format.
 pub fn read(data: &[u8]) -> Option<Vec<Case>> {
@@ -14,6 +17,7 @@ pub fn read(data: &[u8]) -> Option<Vec<Case>> {
                 base = reader.take(len)?.to_vec();
             }
             CHECK => cases.push(Case::Check(reader.image(&base)?)),
+            WALK => cases.push(Case::Walk(reader.walking(&base)?)),
             LAND => cases.push(Case::Land(reader.landing(&base)?)),
             _ => return None,
         }
@@ -67,6 +71,19 @@ impl<'a> Reader<'a> {
             *image.get_mut(at)? = self.u8()?;
         }
         (edits <= MOST_EDITS).then_some(())
+    }
+
+    fn walking(&mut self, base: &[u8]) -> Option<Walking> {
+        let mut image = base.to_vec();
+        self.edit(&mut image)?;
+        let who = Credentials { user: self.u32()?, group: self.u32()? };
+        let current = self.u16()?;
+        let starts = [self.u8()?, self.u8()?];
+        let lens = [usize::from(self.u16()?), usize::from(self.u16()?)];
+        let old = Operand::new(starts[0], self.take(lens[0])?);
+        let new = Operand::new(starts[1], self.take(lens[1])?);
+        let short = lens.iter().all(|&len| len <= LONGEST_PATH);
+        short.then_some(Walking { image, request: Request { who, current, old, new } })
     }
 
     fn landing(&mut self, base: &[u8]) -> Option<Landing> {
