@@ -7,7 +7,7 @@ mod rows;
 use crate::check::INCONSISTENT;
 use crate::damage::{spread, Subject};
 use crate::land::{BUFFER_TOO_SHORT, LANDED, NOT_LANDABLE};
-use crate::layout::{ENTRIES, HANDLES, INODES, JOURNAL, SECTIONS, TEXTS};
+use crate::layout::{ENTRIES, INODES, JOURNAL, SECTIONS, TEXTS};
 use crate::plan::{body_position, Row, BODY_LEN, PLAN_LEN, ROWS, ROW_LEN};
 use crate::random::Random;
 use crate::vectors::{Landing, LONGEST_PLAN};
@@ -54,7 +54,11 @@ pub const CLAUSES: &[Clause] = &[
     clause("body positions", "of another row", NOT_LANDABLE, rows::bodies_of_others),
     clause("offsets", "off a record's start", NOT_LANDABLE, rows::offsets_off_records),
     clause("offsets", "outside the bodies", NOT_LANDABLE, rows::offsets_outside),
-    clause("lengths", "not the record's", NOT_LANDABLE, rows::lengths),
+    clause("lengths", "at inodes", NOT_LANDABLE, rows::lengths_at_inodes),
+    clause("lengths", "at entries", NOT_LANDABLE, rows::lengths_at_entries),
+    clause("lengths", "at texts", NOT_LANDABLE, rows::lengths_at_texts),
+    clause("lengths", "at handles", NOT_LANDABLE, rows::lengths_at_handles),
+    clause("lengths", "at the journal record", NOT_LANDABLE, rows::lengths_at_the_journal),
     clause("lengths", "over two records", NOT_LANDABLE, rows::two_records),
     clause("lengths", "section starts", NOT_LANDABLE, rows::section_starts_refused),
     clause("handles", "one or more of them", NOT_LANDABLE, rows::handles),

@@ -40,48 +40,45 @@ fn inode(kind: u8, field: u16) -> Inode {
     Inode { kind, file_system: 0, mode: 0o755, owner: OWNER, group: GROUP, links: 0, field, modified: 1, changed: 2 }
 }
 
-/// Every symlink: the directory that holds it, its name and its text.
+/// Symlinks: the directory that holds each, its name and its text.
+const SYMLINKS: [(u16, &str, &str); 30] = [
+    (ROOT, "h", "x"),
+    (ROOT, "s", "d"),
+    (ROOT, "abs", "/d/e"),
+    (ROOT, "many", "//d///e//"),
+    (E, "up", ".."),
+    (ROOT, "here", "."),
+    (ROOT, "root", "/"),
+    (ROOT, "roots", "///"),
+    (ROOT, "gone", "nowhere"),
+    (ROOT, "tofile", "f"),
+    (ROOT, "tofiles", "f/"),
+    (ROOT, "absfile", "/f"),
+    (ROOT, "toolong", "ccccccccccccccccccccccccc"),
+    (ROOT, "loop", "loop"),
+    (ROOT, "ping", "pong"),
+    (ROOT, "pong", "/ping"),
+    (ROOT, "c8", "c9"),
+    (ROOT, "c9", "d"),
+    (ROOT, "dd", "d/"),
+    (ROOT, "z", "d/"),
+    (ROOT, "climb", "../../../d"),
+    (ROOT, "two", "s/h"),
+    (ROOT, "via", "wide"),
+    (ROOT, "private", "p"),
+    (ROOT, "through", "p/q"),
+    (PRIVATE, "k", "q"),
+    (PRIVATE, "ka", "/d"),
+    (PRIVATE, "ku", ".."),
+    (D, "dots", "e/.."),
+    (D, "tox", "../x/"),
+];
+
+/// All of them, with a chain in which c1 takes nine to follow, and two texts of 32 components.
 fn symlinks() -> Vec<(u16, Vec<u8>, Vec<u8>)> {
-    let told: [(u16, &str, &str); 29] = [
-        (ROOT, "h", "x"),
-        (ROOT, "s", "d"),
-        (ROOT, "abs", "/d/e"),
-        (ROOT, "many", "//d///e//"),
-        (E, "up", ".."),
-        (ROOT, "here", "."),
-        (ROOT, "root", "/"),
-        (ROOT, "roots", "///"),
-        (ROOT, "gone", "nowhere"),
-        (ROOT, "tofile", "f"),
-        (ROOT, "tofiles", "f/"),
-        (ROOT, "absfile", "/f"),
-        (ROOT, "toolong", "ccccccccccccccccccccccccc"),
-        (ROOT, "loop", "loop"),
-        (ROOT, "ping", "pong"),
-        (ROOT, "pong", "/ping"),
-        (ROOT, "c8", "c9"),
-        (ROOT, "c9", "d"),
-        (ROOT, "dd", "d/"),
-        (ROOT, "z", "d/"),
-        (ROOT, "climb", "../../../d"),
-        (ROOT, "two", "s/h"),
-        (ROOT, "private", "p"),
-        (ROOT, "through", "p/q"),
-        (PRIVATE, "k", "q"),
-        (PRIVATE, "ka", "/d"),
-        (PRIVATE, "ku", ".."),
-        (D, "dots", "e/.."),
-        (D, "tox", "../x/"),
-    ];
-    let owned = |name: &str, text: &str| (name.as_bytes().to_vec(), text.as_bytes().to_vec());
-    let mut symlinks: Vec<_> = told
-        .into_iter()
-        .map(|(directory, name, text)| {
-            let (name, text) = owned(name, text);
-            (directory, name, text)
-        })
-        .collect();
-    symlinks.extend((1..8).map(|i| (ROOT, format!("c{i}").into_bytes(), format!("c{}", i + 1).into_bytes())));
+    let told = SYMLINKS.map(|(directory, name, text)| (directory, name.into(), text.into()));
+    let mut symlinks = told.to_vec();
+    symlinks.extend((1..8).map(|i| (ROOT, format!("c{i}").into(), format!("c{}", i + 1).into())));
     symlinks.push((ROOT, b"wide".to_vec(), [b"./".repeat(31), b"d".to_vec()].concat()));
     symlinks.push((ROOT, b"w".to_vec(), [b"./".repeat(31), b".".to_vec()].concat()));
     symlinks

@@ -25,7 +25,7 @@ fn bare(entries: usize, texts: usize, handles: usize) -> Tree {
 
 /// The trees, each with the number of cases that a clause makes of it.
 fn trees() -> Vec<(Tree, usize)> {
-    let mut trees = vec![(bench_tree(), 20), (full_bench_tree(), 4), (workshop(), 20), (many_names(), 6)];
+    let mut trees = vec![(bench_tree(), 28), (full_bench_tree(), 4), (workshop(), 28), (many_names(), 6)];
     let counts = [(0, 0, 0), (3, 0, 0), (0, 2, 0), (0, 0, 5), (2, 0, 4), (2, 1, 0)];
     trees.extend(counts.map(|(entries, texts, handles)| (bare(entries, texts, handles), 5)));
     trees.extend((0..SMALL_TREES).map(|seed| (generate(small_aim(&mut Random::new(100 + seed)), seed), 4)));

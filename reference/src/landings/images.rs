@@ -1,9 +1,10 @@
 //! Landings on damaged images: the layout alone is looked at.
 
-use super::*;
-use crate::damage::{Breaks, Clause, JOURNAL_CLAUSES, LAYOUT_CLAUSES, RECORD_CLAUSES};
-use crate::layout::Layout;
-use crate::vectors::edits;
+use super::{any_number, bad, good, Draft, Landings};
+use crate::damage::{Breaks, Clause, Subject, JOURNAL_CLAUSES, LAYOUT_CLAUSES, RECORD_CLAUSES};
+use crate::layout::{Layout, JOURNAL, SECTIONS};
+use crate::random::Random;
+use crate::vectors::{edits, Landing};
 
 /// Some images of each clause, those that a case can tell as edits.
 fn damaged<'a>(

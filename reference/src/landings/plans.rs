@@ -1,8 +1,10 @@
 //! Plans of other lengths, and bytes in them that no row is about.
 
-use super::*;
-use crate::damage::LAYOUT_CLAUSES;
-use crate::vectors::edits;
+use super::{any_number, any_record, bad, good, some_records, Draft, Landings, Place};
+use crate::damage::{Subject, LAYOUT_CLAUSES};
+use crate::plan::{body_position, BODY_LEN, ROWS, ROW_LEN};
+use crate::random::Random;
+use crate::vectors::{edits, Landing, LONGEST_PLAN};
 
 /// The bodies of records of 32 bytes have as many bytes more.
 pub fn dirty_past_the_length(subject: &Subject, random: &mut Random) -> Landings {
@@ -72,13 +74,13 @@ pub fn short_with_a_broken_layout(subject: &Subject, random: &mut Random) -> Lan
     landings
 }
 
-/// Nine rows of small random parts under any bodies.
+/// A good plan with a byte or two of some row changed, and maybe the next or the last row asked for.
 pub fn random(subject: &Subject, random: &mut Random) -> Landings {
     let any = |_| {
         let mut landing = good(subject, random).on(&subject.bytes);
-        let at = random.below(PLAN_LEN / 8) * 8 % 80;
+        let at = random.below(ROWS) * ROW_LEN;
         landing.plan[at] = random.byte() % 6;
-        landing.plan[at + random.below(8)] ^= 1 << random.below(8);
+        landing.plan[at + random.below(ROW_LEN)] ^= 1 << random.below(8);
         landing.row = landing.row.wrapping_add([0, 0, 0, 0, 1, u64::MAX][random.below(6)]);
         landing
     };

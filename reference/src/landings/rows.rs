@@ -1,6 +1,12 @@
 //! Rows: where they land, and each of their parts wrong.
 
-use super::*;
+use super::{all_records, any_number, any_record, for_records, good, on_other_places, section_records, some_records};
+use super::{Draft, Landings, Place, WRITABLE};
+use crate::damage::Subject;
+use crate::layout::{ENTRIES, HANDLES, INODES, JOURNAL, SECTIONS, TEXTS};
+use crate::plan::{body_position, BODY_LEN, PLAN_LEN, ROWS, ROW_LEN};
+use crate::random::Random;
+use crate::vectors::{Landing, LONGEST_PLAN};
 
 /// Every row number and every group on some records of every section.
 pub fn landable(subject: &Subject, random: &mut Random) -> Landings {
@@ -35,10 +41,9 @@ pub fn one_of_many(subject: &Subject, random: &mut Random) -> Landings {
         plan
     });
     let plans: Vec<Vec<u8>> = plans.take(3).collect();
-    let landings = (0..ROWS).flat_map(|number| plans.iter().map(move |plan| (number, plan)));
-    landings
-        .map(|(number, plan)| Landing { image: subject.bytes.clone(), plan: plan.clone(), row: number as u64 })
-        .collect()
+    let image = || subject.bytes.clone();
+    let rows = (0..ROWS as u64).flat_map(|row| plans.iter().map(move |plan| (row, plan)));
+    rows.map(|(row, plan)| Landing { image: image(), plan: plan.clone(), row }).collect()
 }
 
 /// Rows of every record length at the start of every section: where a section is empty, the next one's record is there.
@@ -83,11 +88,9 @@ pub fn numbers_that_wrap(subject: &Subject, random: &mut Random) -> Landings {
 /// The bytes of the first body read as rows, with their bodies past the plan's end.
 pub fn numbers_inside_bodies(subject: &Subject, random: &mut Random) -> Landings {
     let last = ROWS + (LONGEST_PLAN - PLAN_LEN) / BODY_LEN - 1;
-    let records = some_records(subject).into_iter();
-    records
-        .enumerate()
-        .map(|(i, place)| Draft::new(ROWS + i % (last - ROWS + 1), place, random).on(&subject.bytes))
-        .collect()
+    let numbers = (ROWS..=last).cycle();
+    let rows = numbers.zip(some_records(subject));
+    rows.map(|(number, place)| Draft::new(number, place, random).on(&subject.bytes)).collect()
 }
 
 pub fn groups(subject: &Subject, random: &mut Random) -> Landings {
@@ -139,38 +142,44 @@ pub fn offsets_off_records(subject: &Subject, random: &mut Random) -> Landings {
 /// In the table of contents, just past the end, and so far that 16 bits could wrap.
 pub fn offsets_outside(subject: &Subject, random: &mut Random) -> Landings {
     let end = subject.bytes.len() as i64;
-    let offsets = [
-        0,
-        1,
-        8,
-        9,
-        16,
-        24,
-        32,
-        39,
-        end - 31,
-        end - 8,
-        end - 1,
-        end,
-        end + 1,
-        end + 32,
-        end + 64,
-        65_472,
-        65_503,
-        65_504,
-        65_505,
-        65_528,
-        65_535,
-    ];
-    let places = offsets.into_iter().flat_map(|offset| [8, 32, 40, 64].map(|len| (offset, len)));
+    let contents = [0, 1, 8, 9, 16, 24, 32, 39];
+    let past = [-31, -8, -1, 0, 1, 32, 64].map(|step| end + step);
+    let far = [65_472, 65_503, 65_504, 65_505, 65_528, 65_535];
+    let offsets = contents.into_iter().chain(past).chain(far);
+    let places = offsets.flat_map(|offset| [8, 32, 40, 64].map(|len| (offset, len)));
     let wrapped = some_records(subject).into_iter().map(|(offset, len)| ((offset as i64) ^ 32_768, len));
     on_other_places(subject, random, places.chain(wrapped).collect())
 }
 
-pub fn lengths(subject: &Subject, random: &mut Random) -> Landings {
+/// Every length but the right one, each at some record of the section.
+fn lengths_in(subject: &Subject, random: &mut Random, section: usize) -> Landings {
     let lens = [0, 1, 8, 16, 31, 32, 33, 48, 63, 64, 65, 96, 128, 256, 288, 320, 8_192, 32_800, 65_535];
-    let places = some_records(subject).into_iter();
-    on_other_places(subject, random, places.flat_map(|(offset, _)| lens.map(|len| (offset as i64, len))).collect())
+    let records: Vec<Place> = section_records(subject, section).collect();
+    if records.is_empty() {
+        return vec![];
+    }
+    let places = lens.map(|len| (random.pick(&records).0 as i64, len)).to_vec();
+    on_other_places(subject, random, places)
+}
+
+pub fn lengths_at_inodes(subject: &Subject, random: &mut Random) -> Landings {
+    lengths_in(subject, random, INODES)
+}
+
+pub fn lengths_at_entries(subject: &Subject, random: &mut Random) -> Landings {
+    lengths_in(subject, random, ENTRIES)
+}
+
+pub fn lengths_at_texts(subject: &Subject, random: &mut Random) -> Landings {
+    lengths_in(subject, random, TEXTS)
+}
+
+pub fn lengths_at_handles(subject: &Subject, random: &mut Random) -> Landings {
+    lengths_in(subject, random, HANDLES)
+}
+
+pub fn lengths_at_the_journal(subject: &Subject, random: &mut Random) -> Landings {
+    lengths_in(subject, random, JOURNAL)
 }
 
 /// Over two or more neighbours of a section, and over the last and first records of two sections.

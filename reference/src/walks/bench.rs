@@ -2,8 +2,9 @@
 
 use super::{from_current, request, Told, WalkCase, WalkCases};
 use crate::bench_tree::{bench_tree, full_bench_tree};
+use crate::builder::Tree;
 use crate::permission::Credentials;
-use crate::request::Operand;
+use crate::request::{Operand, Request};
 
 const CLASS: &str = "bench tree";
 
@@ -31,27 +32,24 @@ const LINES: [Line; 15] = [
 /// Lines of the table that name a handle.
 const AT_HANDLES: [(u8, u8, [u16; 2]); 2] = [(0, 0, [1, 1]), (9, 9, [0, 0])];
 
-fn caller(id: u32) -> Credentials {
-    Credentials { user: id, group: id }
+fn case(tree: &Tree, id: u32, old: Operand, new: &str, number: u8, steps: [u16; 2]) -> WalkCase {
+    let who = Credentials { user: id, group: id };
+    let request = Request { who, ..request(old, from_current(new.as_bytes())) };
+    WalkCase { class: CLASS, tree: tree.clone(), request, told: Some(Told { number, steps }) }
 }
 
+/// Every line for the owner, for somebody else and for the superuser.
 pub fn cases() -> WalkCases {
     let mut cases = vec![];
     for tree in [bench_tree(), full_bench_tree()] {
         for id in [100, 200, 0] {
             for (old, new, number, steps) in LINES {
-                let request = request(from_current(old.as_bytes()), from_current(new.as_bytes()));
-                cases.push((tree.clone(), id, request, Told { number, steps }));
+                cases.push(case(&tree, id, from_current(old.as_bytes()), new, number, steps));
             }
             for (handle, number, steps) in AT_HANDLES {
-                let request = request(Operand::new(handle, b"g"), from_current(b"/g"));
-                cases.push((tree.clone(), id, request, Told { number, steps }));
+                cases.push(case(&tree, id, Operand::new(handle, b"g"), "/g", number, steps));
             }
         }
     }
-    let case = |(tree, id, mut request, told): (_, _, crate::request::Request, _)| {
-        request.who = caller(id);
-        WalkCase { class: CLASS, tree, request, told: Some(told) }
-    };
-    cases.into_iter().map(case).collect()
+    cases
 }

@@ -2,7 +2,10 @@
 
 use super::{from_current, request, Told, WalkCase, WalkCases};
 use crate::errno::{EACCES, EBADF, EBUSY, EINVAL, ELOOP, ENAMETOOLONG, ENOENT, ENOTDIR};
-use crate::maze::*;
+use crate::maze::{
+    maze, CLOSED, D, E, GROUP, HANDLES, LONGEST_NAME, ON_D, ON_FILE, ON_PRIVATE, ON_ROOT, PQ, PRIVATE, ROOT, SEARCH_D,
+    SEARCH_FILE, SEARCH_PRIVATE, SEARCH_ROOT, SEARCH_SYMLINK, X,
+};
 use crate::permission::Credentials;
 use crate::random::Random;
 use crate::request::{Operand, CURRENT};
@@ -227,6 +230,9 @@ fn joined_lengths() -> Table {
     table.all(WALKED, 34, &[&wide(190, "f"), &wide(191, "f")]);
     table.all(ENOTDIR, 34, &[&wide(190, "f/")]);
     table.all(ENAMETOOLONG, 1, &[&wide(192, "f"), &wide(193, "f"), &wide(250, "f"), &wide(191, "f/")]);
+    let via = |slashes: usize| joined(&[("via", 1), ("/", slashes), ("f", 1)]);
+    table.all(WALKED, 35, &[&via(190), &via(191)]);
+    table.all(ENAMETOOLONG, 2, &[&via(192), &via(248)]);
     let behind = |slashes: usize| joined(&[("wide/e", 1), ("/", slashes)]);
     table.all(WALKED, 34, &[&behind(189), &behind(190)]);
     table.all(ENAMETOOLONG, 1, &[&behind(191), &behind(249)]);
