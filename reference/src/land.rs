@@ -46,7 +46,7 @@ fn is_one_record(layout: &Layout, place: &Range<usize>) -> bool {
     LANDABLE.iter().any(|&section| {
         let records = layout.section(section);
         let len = SECTIONS[section].record_len;
-        place.len() == len && records.contains(&place.start) && (place.start - records.start) % len == 0
+        place.len() == len && records.contains(&place.start) && (place.start - records.start).is_multiple_of(len)
     })
 }
 

@@ -1,5 +1,6 @@
 //! All cases of the walk: which trees, and how many requests of each kind on them.
 
+use crate::bench_tree::{bench_tree, full_bench_tree};
 use crate::builder::Tree;
 use crate::cases::Collection;
 use crate::check::{check, CONSISTENT};
@@ -22,21 +23,23 @@ const NONE: u16 = 65_535;
 pub fn all() -> Collection {
     let mut collection = Collection::default();
     let random = &mut Random::new(5);
-    let (bench, full_bench): (WalkCases, WalkCases) =
-        bench::cases().into_iter().partition(|case| case.tree.entries[7].is_free());
-    collection.add_walks(bench);
-    collection.add_walks(full_bench);
+    for tree in [bench_tree(), full_bench_tree()] {
+        collection.add_on(&tree, bench::cases(&tree));
+    }
     collection.add_maze(random);
     for (tree, count) in [(near_names(), 32), (many_names(), 8)] {
-        let slots: Vec<usize> = (0..tree.entries.len()).filter(|&slot| !tree.entries[slot].is_free()).collect();
-        collection.add_walks(lookups::cases(&tree, &slots[slots.len().saturating_sub(count)..]));
+        let slots = used_slots(&tree);
+        collection.add_on(&tree, lookups::cases(&tree, &slots[slots.len() - count..]));
     }
     for (tree, count) in furnished_trees(random) {
-        let slots = (0..tree.entries.len()).filter(|&slot| !tree.entries[slot].is_free()).collect();
-        collection.add_on(&tree, lookups::cases(&tree, &spread(slots)));
+        collection.add_on(&tree, lookups::cases(&tree, &spread(used_slots(&tree))));
         collection.add_on(&tree, wander::cases(&tree, count, random));
     }
     collection
+}
+
+fn used_slots(tree: &Tree) -> Vec<usize> {
+    (0..tree.entries.len()).filter(|&slot| !tree.entries[slot].is_free()).collect()
 }
 
 /// Trees to wander through, small to full size, each with a number of requests.
@@ -59,12 +62,6 @@ impl Collection {
         self.add_on(&tree, wander::cases(&tree, 360, random));
     }
 
-    /// Cases that all have the first one's tree.
-    fn add_walks(&mut self, cases: WalkCases) {
-        let home = cases[0].tree.clone();
-        self.add_on(&home, cases);
-    }
-
     /// Cases on variants of one tree.
     fn add_on(&mut self, home: &Tree, cases: WalkCases) {
         let home = home.encode();
@@ -72,15 +69,10 @@ impl Collection {
             let walking = Walking { image: case.tree.encode(), request: case.request };
             assert_eq!(check(&walking.image), CONSISTENT, "{}: the tree is not consistent", case.class);
             let walks = walks_of(&walking);
-            let (number, steps) = (walks.number, walks.steps);
-            assert_eq!(
-                Told { number, steps },
-                case.told.unwrap_or(Told { number, steps }),
-                "{}: {walking:?}",
-                case.class
-            );
+            let answer = Told { number: walks.number, steps: walks.steps };
+            assert_eq!(answer, case.told.unwrap_or(answer), "{}: {:?}", case.class, walking.request);
             self.writer.walk(&home, &walking);
-            self.count(case.class, number, line(&walks));
+            self.count(case.class, walks.number, line(&walks));
         }
     }
 }

@@ -1,7 +1,6 @@
-//! The bench tree with the paths that the rules' own examples have.
+//! The bench trees with the paths that the rules' own examples have.
 
 use super::{from_current, request, Told, WalkCase, WalkCases};
-use crate::bench_tree::{bench_tree, full_bench_tree};
 use crate::builder::Tree;
 use crate::permission::Credentials;
 use crate::request::{Operand, Request};
@@ -39,16 +38,14 @@ fn case(tree: &Tree, id: u32, old: Operand, new: &str, number: u8, steps: [u16; 
 }
 
 /// Every line for the owner, for somebody else and for the superuser.
-pub fn cases() -> WalkCases {
+pub fn cases(tree: &Tree) -> WalkCases {
     let mut cases = vec![];
-    for tree in [bench_tree(), full_bench_tree()] {
-        for id in [100, 200, 0] {
-            for (old, new, number, steps) in LINES {
-                cases.push(case(&tree, id, from_current(old.as_bytes()), new, number, steps));
-            }
-            for (handle, number, steps) in AT_HANDLES {
-                cases.push(case(&tree, id, Operand::new(handle, b"g"), "/g", number, steps));
-            }
+    for id in [100, 200, 0] {
+        for (old, new, number, steps) in LINES {
+            cases.push(case(tree, id, from_current(old.as_bytes()), new, number, steps));
+        }
+        for (handle, number, steps) in AT_HANDLES {
+            cases.push(case(tree, id, Operand::new(handle, b"g"), "/g", number, steps));
         }
     }
     cases
