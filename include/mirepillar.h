@@ -31,6 +31,20 @@ static inline uint8_t mp_number(uint64_t result)
  */
 uint64_t mp_check(const uint8_t *image, size_t image_len);
 
+/*
+ * Lands one row of a plan: copies its body onto the image. The rows are numbered from 0, and any
+ * number may be asked for. The plan is only read. The result has a number alone:
+ *
+ *     0  the row has landed, and no other byte of the image has changed;
+ *   205  the plan has fewer than 648 bytes;
+ *   201  the layout of the image is bad; its records are not looked at in any case;
+ *   207  the row is not landable: no plan has a row of that number, a part of it is out of its form,
+ *        or it does not cover exactly one inode, entry, symlink text or journal record.
+ *
+ * The first of these that applies is given. After any but 0 the image is as it was.
+ */
+uint64_t mp_land(uint8_t *image, size_t image_len, const uint8_t *plan, size_t plan_len, uint64_t row);
+
 #ifdef __cplusplus
 }
 #endif

@@ -106,6 +106,11 @@ impl Tree {
         self.inodes.get(usize::from(inode)).map_or(FREE, |inode| inode.kind)
     }
 
+    /// Every directory, root first.
+    pub fn directories(&self) -> Vec<u16> {
+        (0..self.inodes.len() as u16).filter(|&number| self.kind(number) == DIRECTORY).collect()
+    }
+
     /// Makes the first free slot an entry; false where none is free.
     pub fn add(&mut self, entry: Entry) -> bool {
         match self.entries.iter_mut().find(|slot| slot.is_free()) {

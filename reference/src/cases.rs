@@ -1,181 +1,89 @@
-//! All cases of the check: which trees, which changes of them, and how many.
+//! The parts of the vectors: each has a file of cases, and a line of expected answer for each of them.
 
-use crate::bench_tree::{bench_tree, full_bench_tree};
-use crate::builder::Tree;
-use crate::chance;
-use crate::check::{broken_rules, check, CONSISTENT};
-use crate::damage::{Breaks, Clause, Subject, JOURNAL_CLAUSES, LAYOUT_CLAUSES, RECORD_CLAUSES};
-use crate::generate::{generate, small_aim, DEEP, DEEPEST, FULL, SPARSE};
-use crate::random::Random;
-use crate::samples::samples;
-use crate::variants::VARIANT_CLAUSES;
-use crate::vectors::{edits, Writer};
+pub mod check;
+pub mod land;
+pub mod walk;
 
-/// How many cases each tree of a kind gives.
-#[derive(Clone, Copy)]
-struct Quota {
-    per_clause: usize,
-    /// Whether a case may be stored as a whole image, where it has too many edits.
-    whole: bool,
-    flips: usize,
-    shuffles: usize,
+use crate::vectors::Writer;
+
+pub struct Part {
+    pub name: &'static str,
+    pub make: fn() -> Collection,
 }
 
-const BENCH: Quota = Quota { per_clause: 10, whole: true, flips: 250, shuffles: 150 };
-const WORKSHOP: Quota = Quota { per_clause: 120, whole: true, flips: 400, shuffles: 250 };
-const SAMPLE: Quota = Quota { per_clause: 4, whole: true, flips: 60, shuffles: 40 };
-const SMALL: Quota = Quota { per_clause: 1, whole: false, flips: 30, shuffles: 30 };
-const LARGE: Quota = Quota { per_clause: 2, whole: false, flips: 20, shuffles: 10 };
+/// Every part, in the order of the answers; this list alone decides what is written and verified.
+pub const PARTS: &[Part] = &[
+    Part { name: "check", make: check::all }, // an image: its number
+    Part { name: "land", make: land::all },   // an image, a plan, a row: the number and the image after
+    Part { name: "walk", make: walk::all },   // an image, a request: where both walks end
+];
 
-const SMALL_TREES: u64 = 16;
-
-/// The cases of one class, counted by their answers.
+/// The cases of one class, by the numbers that answer them.
 pub struct Class {
     pub name: &'static str,
-    pub answers: Vec<u8>,
+    pub numbers: Vec<u8>,
 }
 
-/// The two files' contents, and what stands in them.
+/// The cases of one part: its file, and what stands in it.
 #[derive(Default)]
 pub struct Collection {
     pub writer: Writer,
-    pub answers: Vec<u8>,
+    pub lines: Vec<String>,
     pub classes: Vec<Class>,
 }
 
-/// The trees that cases are made from, with their class.
-fn trees() -> Vec<(&'static str, Tree, Quota)> {
-    let mut trees = vec![("bench trees", bench_tree(), BENCH), ("bench trees", full_bench_tree(), SMALL)];
-    trees.extend(samples().into_iter().map(|(name, tree)| {
-        let quota = match name {
-            "workshop" => WORKSHOP,
-            "vacant" => LARGE,
-            _ => SAMPLE,
-        };
-        ("samples", tree, quota)
-    }));
-    trees.extend((0..SMALL_TREES).map(|seed| {
-        let aim = small_aim(&mut Random::new(seed));
-        ("generated trees", generate(aim, seed), SMALL)
-    }));
-    trees.extend((0..).zip([FULL, SPARSE, DEEPEST, DEEP]).map(|(seed, aim)| {
-        let tree = generate(aim, seed);
-        ("generated trees", tree, LARGE)
-    }));
-    trees
-}
-
-/// Makes every case. It panics where a case is not answered as its clause says.
-pub fn all() -> Collection {
-    let mut collection = Collection::default();
-    for (seed, (class, tree, quota)) in (0..).zip(trees()) {
-        collection.add_tree(class, &Subject::new(tree), quota, &mut Random::new(seed));
-    }
-    collection
-}
-
 impl Collection {
-    fn add_tree(&mut self, class: &'static str, subject: &Subject, quota: Quota, random: &mut Random) {
-        self.add(class, subject, &subject.bytes);
-        assert_eq!(self.answers.last(), Some(&CONSISTENT), "a tree of {class} is not consistent");
-        let tables = [
-            ("consistent variants", VARIANT_CLAUSES),
-            ("broken layout", LAYOUT_CLAUSES),
-            ("broken records", RECORD_CLAUSES),
-            ("journal record", JOURNAL_CLAUSES),
-        ];
-        for (class, clauses) in tables {
-            for clause in clauses {
-                self.add_clause(class, subject, clause, quota, random);
-            }
-        }
-        for _ in 0..quota.flips {
-            self.add("random bytes", subject, &chance::flip(subject, random));
-        }
-        for _ in 0..quota.shuffles {
-            let image = chance::shuffle(subject, random);
-            if edits(&subject.bytes, &image).is_some_and(|edits| !edits.is_empty()) {
-                self.add("random entries", subject, &image);
-            }
-        }
-    }
-
-    /// Some of the images of a clause, each asserted to be answered as the clause says.
-    fn add_clause(
-        &mut self,
-        class: &'static str,
-        subject: &Subject,
-        clause: &Clause,
-        quota: Quota,
-        random: &mut Random,
-    ) {
-        let mut images = (clause.images)(subject);
-        images.retain(|image| quota.whole || edits(&subject.bytes, image).is_some());
-        random.shuffle(&mut images);
-        for image in images.iter().take(quota.per_clause) {
-            assert_eq!(check(image), clause.breaks.answer(), "{class}: {}", clause.name);
-            if let Breaks::Rule(rule) = clause.breaks {
-                let broken = broken_rules(image).expect("damaged records leave the layout as it is");
-                assert!(broken.contains(&rule), "{class}: {} breaks {broken:?}", clause.name);
-            }
-            self.add(class, subject, image);
-        }
-    }
-
-    fn add(&mut self, class: &'static str, subject: &Subject, image: &[u8]) {
-        let answer = check(image);
-        self.writer.case(&subject.bytes, image);
-        self.answers.push(answer);
+    /// Counts a case that is already written; its line begins with the number.
+    pub fn count(&mut self, class: &'static str, number: u8, line: String) {
+        self.lines.push(line);
         match self.classes.iter_mut().find(|known| known.name == class) {
-            Some(known) => known.answers.push(answer),
-            None => self.classes.push(Class { name: class, answers: vec![answer] }),
+            Some(known) => known.numbers.push(number),
+            None => self.classes.push(Class { name: class, numbers: vec![number] }),
         }
     }
 
-    /// The file of expected answers: one decimal number a line.
+    /// The expected answers: a line for each case.
     pub fn expected(&self) -> String {
-        self.answers.iter().map(|answer| format!("{answer}\n")).collect()
+        self.lines.iter().map(|line| format!("{line}\n")).collect()
+    }
+
+    /// The classes as rows of a table: cases, then how many have each number that occurs at all.
+    pub fn table(&self) -> Vec<String> {
+        let all: Vec<u8> = self.classes.iter().flat_map(|class| class.numbers.iter().copied()).collect();
+        let mut columns = all.clone();
+        columns.sort_unstable();
+        columns.dedup();
+        let row = |name: &str, numbers: &[u8]| {
+            let count = |wanted: &u8| numbers.iter().filter(|&number| number == wanted).count();
+            let counts: String = columns.iter().map(|column| format!(" {} |", count(column))).collect();
+            format!("| {name} | {} |{counts}", numbers.len())
+        };
+        let heads: String = columns.iter().map(|column| format!(" {column} |")).collect();
+        let mut table = vec![format!("| class | cases |{heads}")];
+        table.extend(self.classes.iter().map(|class| row(class.name, &class.numbers)));
+        table.push(row("all", &all));
+        table
     }
 }
 
 #[cfg(test)]
 mod tests {
     use super::*;
-    use crate::check::{Rule, RULES};
-    use crate::vectors::read;
-
-    fn images(collection: &Collection) -> Vec<Vec<u8>> {
-        read(&collection.writer.data).expect("the format is kept")
-    }
-
-    #[test]
-    fn the_stored_images_have_the_stored_answers() {
-        let collection = all();
-        assert!((4_000..=8_000).contains(&collection.answers.len()));
-        assert!(collection.writer.data.len() <= 3_000_000);
-        let answers: Vec<u8> = images(&collection).iter().map(|image| check(image)).collect();
-        assert_eq!(answers, collection.answers);
-    }
-
-    /// A root that is no directory always breaks another rule too, since its link count cannot be right.
-    #[test]
-    fn every_other_rule_is_broken_alone() {
-        let broken = images(&all()).into_iter().filter_map(|image| broken_rules(&image));
-        let alone: Vec<Rule> = broken.filter(|broken| broken.len() == 1).map(|broken| broken[0]).collect();
-        for (rule, _) in RULES.iter().filter(|(rule, _)| *rule != Rule::RootDirectory) {
-            assert!(alone.contains(rule), "{rule:?} is never broken alone");
-        }
-    }
 
     #[test]
     fn the_document_counts_every_class() {
         let document = include_str!("../../docs/VECTORS.md");
-        let collection = all();
-        let whole = Class { name: "all", answers: collection.answers };
-        for Class { name, answers } in collection.classes.iter().chain([&whole]) {
-            let count = |wanted: u8| answers.iter().filter(|&&answer| answer == wanted).count();
-            let row = format!("| {name} | {} | {} | {} | {} |", answers.len(), count(0), count(201), count(203));
-            assert!(document.lines().any(|line| line == row), "docs/VECTORS.md lacks the row {row}");
+        for part in PARTS {
+            for row in (part.make)().table() {
+                assert!(document.lines().any(|line| line == row), "{}: docs/VECTORS.md lacks the row {row}", part.name);
+            }
+        }
+    }
+
+    #[test]
+    fn every_file_stays_small() {
+        for part in PARTS {
+            assert!((part.make)().writer.data.len() < 1_000_000, "{}", part.name);
         }
     }
 }

@@ -98,6 +98,10 @@ fn u16_at(bytes: &[u8], at: usize) -> u16 {
     u16::from_le_bytes([bytes[at], bytes[at + 1]])
 }
 
+fn u32_at(bytes: &[u8], at: usize) -> u32 {
+    u32::from(u16_at(bytes, at)) | u32::from(u16_at(bytes, at + 2)) << 16
+}
+
 /// The bytes of an image with a right layout; its records may hold anything.
 pub struct Image<'a> {
     inodes: &'a [u8],
@@ -154,6 +158,10 @@ impl<'a> Image<'a> {
         record(self.texts, TEXTS, number).map(Text)
     }
 
+    pub fn handle(&self, number: u8) -> Option<Handle<'a>> {
+        record(self.handles, HANDLES, number.into()).map(Handle)
+    }
+
     pub fn is_directory(&self, number: u16) -> bool {
         self.inode(number).is_some_and(|inode| inode.kind() == DIRECTORY)
     }
@@ -178,6 +186,14 @@ impl Inode<'_> {
 
     pub fn mode(self) -> u16 {
         u16_at(self.0, 2)
+    }
+
+    pub fn owner(self) -> u32 {
+        u32_at(self.0, 4)
+    }
+
+    pub fn group(self) -> u32 {
+        u32_at(self.0, 8)
     }
 
     pub fn links(self) -> u16 {

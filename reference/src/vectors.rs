@@ -1,14 +1,50 @@
-//! The file of test vectors: base images, and cases told as edits of the base before them.
+//! The files of test vectors: base images, and cases told as edits of the base before them.
+
+mod read;
+
+pub use read::read;
+
+use crate::request::Request;
 
 /// Limits of the format, for programs that read it with fixed buffers.
 pub const LONGEST_BASE: usize = 53_448;
 pub const LONGEST_CASE: usize = 131_072;
 pub const MOST_EDITS: usize = 12;
+pub const LONGEST_PLAN: usize = 1024;
+pub const LONGEST_PATH: usize = 600;
 
 const BASE: u8 = 1;
-const CASE: u8 = 2;
+const CHECK: u8 = 2;
+const WALK: u8 = 3;
+const LAND: u8 = 4;
 
 type Edit = (u32, u8);
+
+/// What one case gives to its job.
+#[derive(Clone, Debug, PartialEq, Eq)]
+pub enum Case {
+    Check(Vec<u8>),
+    Walk(Walking),
+    Land(Landing),
+}
+
+#[derive(Clone, Debug, PartialEq, Eq)]
+pub struct Walking {
+    pub image: Vec<u8>,
+    pub request: Request,
+}
+
+#[derive(Clone, Debug, PartialEq, Eq)]
+pub struct Landing {
+    pub image: Vec<u8>,
+    pub plan: Vec<u8>,
+    pub row: u64,
+}
+
+/// A number that tells images, or names, apart: no byte and no length goes unseen.
+pub fn checksum(bytes: &[u8]) -> u64 {
+    bytes.iter().fold(0, |sum, &byte| (sum * 31 + u64::from(byte) + 1) % 4_294_967_291)
+}
 
 /// The file's bytes as far as they are written, with the base that the next case may build on.
 #[derive(Default)]
@@ -18,8 +54,48 @@ pub struct Writer {
 }
 
 impl Writer {
-    /// Adds a case, as edits of the current base, or of `home`, or else with a base of its own.
-    pub fn case(&mut self, home: &[u8], image: &[u8]) {
+    pub fn check(&mut self, home: &[u8], image: &[u8]) {
+        self.image(CHECK, home, image);
+    }
+
+    pub fn land(&mut self, home: &[u8], landing: &Landing) {
+        assert!(landing.plan.len() <= LONGEST_PLAN, "a plan of {} bytes", landing.plan.len());
+        self.image(LAND, home, &landing.image);
+        let runs = runs(&landing.plan);
+        self.data.extend((landing.plan.len() as u16).to_le_bytes());
+        self.data.push(runs.len() as u8);
+        for (at, bytes) in runs {
+            self.data.extend((at as u16).to_le_bytes());
+            self.data.push(bytes.len() as u8);
+            self.data.extend(bytes);
+        }
+        self.data.extend(landing.row.to_le_bytes());
+    }
+
+    /// The image of a walk has the length of its base, so that edits tell all of it.
+    pub fn walk(&mut self, home: &[u8], walking: &Walking) {
+        let Walking { image, request } = walking;
+        if self.base != home {
+            self.base(home);
+        }
+        assert_eq!(image.len(), home.len());
+        let edits = edits(home, image).expect("a walk's image is near its tree's");
+        self.data.push(WALK);
+        self.edits(&edits);
+        self.data.extend(request.who.user.to_le_bytes());
+        self.data.extend(request.who.group.to_le_bytes());
+        self.data.extend(request.current.to_le_bytes());
+        self.data.extend([request.old.start, request.new.start]);
+        for path in [&request.old.path, &request.new.path] {
+            assert!(path.len() <= LONGEST_PATH, "a path of {} bytes", path.len());
+            self.data.extend((path.len() as u16).to_le_bytes());
+        }
+        self.data.extend(&request.old.path);
+        self.data.extend(&request.new.path);
+    }
+
+    /// Begins a case with its image, as edits of the current base, or of `home`, or else with a base of its own.
+    fn image(&mut self, tag: u8, home: &[u8], image: &[u8]) {
         assert!(image.len() <= LONGEST_CASE, "a case of {} bytes", image.len());
         let edits = edits(&self.base, image).or_else(|| {
             let base = if edits(home, image).is_some() { home } else { image };
@@ -27,13 +103,9 @@ impl Writer {
             edits(&self.base, image)
         });
         let edits = edits.expect("an image over the base's limit ends in zero bytes");
-        self.data.push(CASE);
+        self.data.push(tag);
         self.data.extend((image.len() as u32).to_le_bytes());
-        self.data.push(edits.len() as u8);
-        for (at, value) in edits {
-            self.data.extend(at.to_le_bytes());
-            self.data.push(value);
-        }
+        self.edits(&edits);
     }
 
     fn base(&mut self, image: &[u8]) {
@@ -41,6 +113,14 @@ impl Writer {
         self.data.extend((image.len() as u32).to_le_bytes());
         self.data.extend(image);
         self.base = image.to_vec();
+    }
+
+    fn edits(&mut self, edits: &[Edit]) {
+        self.data.push(edits.len() as u8);
+        for (at, value) in edits {
+            self.data.extend(at.to_le_bytes());
+            self.data.push(*value);
+        }
     }
 }
 
@@ -52,47 +132,28 @@ pub fn edits(base: &[u8], image: &[u8]) -> Option<Vec<Edit>> {
     (edits.len() <= MOST_EDITS).then_some(edits)
 }
 
-/// The images of a file's cases in order; nothing where the file breaks its format.
-pub fn read(data: &[u8]) -> Option<Vec<Vec<u8>>> {
-    let mut rest = data;
-    let mut base = vec![];
-    let mut images = vec![];
-    while let [tag, l0, l1, l2, l3, after @ ..] = rest {
-        let len = u32::from_le_bytes([*l0, *l1, *l2, *l3]) as usize;
-        rest = match *tag {
-            BASE if len <= LONGEST_BASE => {
-                base = after.get(..len)?.to_vec();
-                &after[len..]
-            }
-            CASE if len <= LONGEST_CASE => {
-                let (image, after) = read_case(&base, len, after)?;
-                images.push(image);
-                after
-            }
-            _ => return None,
-        };
+/// The stretches of a plan that are not zero. A few zeros cost less than a run of their own.
+fn runs(plan: &[u8]) -> Vec<(usize, &[u8])> {
+    let mut runs = vec![];
+    let mut at = 0;
+    while let Some(zeros) = plan[at..].iter().position(|&byte| byte != 0) {
+        let start = at + zeros;
+        let within = &plan[start..plan.len().min(start + 255)];
+        let end = within.windows(4).position(|next| next == [0; 4]).unwrap_or(within.len());
+        runs.push((start, &within[..end]));
+        at = start + end;
     }
-    rest.is_empty().then_some(images)
-}
-
-fn read_case<'a>(base: &[u8], len: usize, rest: &'a [u8]) -> Option<(Vec<u8>, &'a [u8])> {
-    let (&count, rest) = rest.split_first()?;
-    let edits = rest.get(..usize::from(count) * 5)?;
-    let mut image = base.to_vec();
-    image.resize(len, 0);
-    for edit in edits.chunks_exact(5) {
-        let at = u32::from_le_bytes([edit[0], edit[1], edit[2], edit[3]]);
-        *image.get_mut(at as usize)? = edit[4];
-    }
-    (usize::from(count) <= MOST_EDITS).then(|| (image, &rest[edits.len()..]))
+    runs
 }
 
 #[cfg(test)]
 mod tests {
     use super::*;
+    use crate::permission::Credentials;
+    use crate::request::Operand;
 
     #[test]
-    fn cases_are_read_as_they_were_written() {
+    fn checks_are_read_as_they_were_written() {
         let home: Vec<u8> = (0..100).collect();
         let mut edited = home.clone();
         edited[3] = 200;
@@ -107,9 +168,56 @@ mod tests {
         ];
         let mut writer = Writer::default();
         for image in &images {
-            writer.case(&home, image);
+            writer.check(&home, image);
         }
-        assert_eq!(read(&writer.data).expect("the format is kept"), images);
+        let cases: Vec<Case> = images.into_iter().map(Case::Check).collect();
+        assert_eq!(read(&writer.data).expect("the format is kept"), cases);
         assert_eq!(read(&writer.data[..writer.data.len() - 1]), None);
+    }
+
+    #[test]
+    fn landings_are_read_as_they_were_written() {
+        let home: Vec<u8> = (0..100).collect();
+        let mut sparse = vec![0; 648];
+        for at in [0, 3, 5, 9, 300, 304, 309, 647] {
+            sparse[at] = at as u8 + 1;
+        }
+        let plans = [vec![], vec![1], vec![0; 648], sparse, (0..1024).map(|at| at as u8).collect(), vec![9; 1024]];
+        let mut writer = Writer::default();
+        let landings = plans.map(|plan| Landing { image: home.clone(), plan, row: u64::MAX - 1 });
+        for landing in &landings {
+            writer.land(&home, landing);
+        }
+        let cases: Vec<Case> = landings.into_iter().map(Case::Land).collect();
+        assert_eq!(read(&writer.data).expect("the format is kept"), cases);
+        assert_eq!(read(&writer.data[..writer.data.len() - 1]), None);
+    }
+
+    #[test]
+    fn walks_are_read_as_they_were_written() {
+        let home: Vec<u8> = (0..100).collect();
+        let other = vec![7; 90];
+        let mut edited = home.clone();
+        edited[99] = 1;
+        let who = Credentials { user: u32::MAX, group: 5 };
+        let (old, new) = (Operand::new(3, b"a/b"), Operand::new(255, &[0; LONGEST_PATH]));
+        let request = Request { who, current: 258, old, new };
+        let mut writer = Writer::default();
+        let walkings =
+            [&home, &edited, &other, &home].map(|image| Walking { image: image.clone(), request: request.clone() });
+        for walking in &walkings {
+            writer.walk(if walking.image.len() == 90 { &other } else { &home }, walking);
+        }
+        let cases: Vec<Case> = walkings.into_iter().map(Case::Walk).collect();
+        assert_eq!(read(&writer.data).expect("the format is kept"), cases);
+        assert_eq!(read(&writer.data[..writer.data.len() - 1]), None);
+    }
+
+    #[test]
+    fn the_checksum_sees_order_and_length() {
+        assert_eq!(checksum(b""), 0);
+        assert_eq!(checksum(&[0]), 1);
+        assert_eq!(checksum(&[0, 1]), 33);
+        assert_eq!(checksum(&[255; 7]), 256 * (31u64.pow(7) - 1) / 30 % 4_294_967_291);
     }
 }

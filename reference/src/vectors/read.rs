@@ -1,0 +1,99 @@
+//! Reads a file of test vectors back, strictly.
+
+use super::{Case, Landing, Walking, BASE, CHECK, LAND, WALK};
+use super::{LONGEST_BASE, LONGEST_CASE, LONGEST_PATH, LONGEST_PLAN, MOST_EDITS};
+use crate::permission::Credentials;
+use crate::request::{Operand, Request};
+
+/// The cases of a file in order; nothing where the file breaks its format.
+pub fn read(data: &[u8]) -> Option<Vec<Case>> {
+    let mut reader = Reader { rest: data };
+    let mut base = vec![];
+    let mut cases = vec![];
+    while !reader.rest.is_empty() {
+        match reader.u8()? {
+            BASE => {
+                let len = reader.u32_up_to(LONGEST_BASE)?;
+                base = reader.take(len)?.to_vec();
+            }
+            CHECK => cases.push(Case::Check(reader.image(&base)?)),
+            WALK => cases.push(Case::Walk(reader.walking(&base)?)),
+            LAND => cases.push(Case::Land(reader.landing(&base)?)),
+            _ => return None,
+        }
+    }
+    Some(cases)
+}
+
+struct Reader<'a> {
+    rest: &'a [u8],
+}
+
+impl<'a> Reader<'a> {
+    fn take(&mut self, len: usize) -> Option<&'a [u8]> {
+        let (taken, rest) = self.rest.split_at_checked(len)?;
+        self.rest = rest;
+        Some(taken)
+    }
+
+    fn u8(&mut self) -> Option<u8> {
+        Some(self.take(1)?[0])
+    }
+
+    fn u16(&mut self) -> Option<u16> {
+        Some(u16::from_le_bytes(self.take(2)?.try_into().ok()?))
+    }
+
+    fn u32(&mut self) -> Option<u32> {
+        Some(u32::from_le_bytes(self.take(4)?.try_into().ok()?))
+    }
+
+    fn u64(&mut self) -> Option<u64> {
+        Some(u64::from_le_bytes(self.take(8)?.try_into().ok()?))
+    }
+
+    fn u32_up_to(&mut self, limit: usize) -> Option<usize> {
+        usize::try_from(self.u32()?).ok().filter(|&value| value <= limit)
+    }
+
+    /// The base cut or extended, then edited.
+    fn image(&mut self, base: &[u8]) -> Option<Vec<u8>> {
+        let mut image = base.to_vec();
+        image.resize(self.u32_up_to(LONGEST_CASE)?, 0);
+        self.edit(&mut image)?;
+        Some(image)
+    }
+
+    fn edit(&mut self, image: &mut [u8]) -> Option<()> {
+        let edits = usize::from(self.u8()?);
+        for _ in 0..edits {
+            let at = self.u32()? as usize;
+            *image.get_mut(at)? = self.u8()?;
+        }
+        (edits <= MOST_EDITS).then_some(())
+    }
+
+    fn walking(&mut self, base: &[u8]) -> Option<Walking> {
+        let mut image = base.to_vec();
+        self.edit(&mut image)?;
+        let who = Credentials { user: self.u32()?, group: self.u32()? };
+        let current = self.u16()?;
+        let starts = [self.u8()?, self.u8()?];
+        let lens = [usize::from(self.u16()?), usize::from(self.u16()?)];
+        let old = Operand::new(starts[0], self.take(lens[0])?);
+        let new = Operand::new(starts[1], self.take(lens[1])?);
+        let short = lens.iter().all(|&len| len <= LONGEST_PATH);
+        short.then_some(Walking { image, request: Request { who, current, old, new } })
+    }
+
+    fn landing(&mut self, base: &[u8]) -> Option<Landing> {
+        let image = self.image(base)?;
+        let mut plan = vec![0; usize::from(self.u16()?)];
+        for _ in 0..self.u8()? {
+            let (at, len) = (usize::from(self.u16()?), usize::from(self.u8()?));
+            plan.get_mut(at..at + len)?.copy_from_slice(self.take(len)?);
+        }
+        let row = self.u64()?;
+        (plan.len() <= LONGEST_PLAN).then_some(Landing { image, plan, row })
+    }
+}

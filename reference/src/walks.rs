@@ -1,0 +1,40 @@
+//! Walk cases: requests on consistent trees, most of them with the number and the counts that they must get.
+
+pub mod bench;
+pub mod lookups;
+pub mod permissions;
+pub mod probes;
+pub mod requests;
+pub mod wander;
+
+use crate::builder::Tree;
+use crate::maze::{GROUP, OWNER};
+use crate::permission::Credentials;
+use crate::request::{Operand, Request, CURRENT};
+
+/// The number and both counts, as the table that made the case tells them.
+#[derive(Clone, Copy, Debug, PartialEq, Eq)]
+pub struct Told {
+    pub number: u8,
+    pub steps: [u16; 2],
+}
+
+/// A request on a tree, which may be a variant of the one that its base image shows.
+pub struct WalkCase {
+    pub class: &'static str,
+    pub tree: Tree,
+    pub request: Request,
+    /// Nothing where the model's answer stands.
+    pub told: Option<Told>,
+}
+
+pub type WalkCases = Vec<WalkCase>;
+
+/// The maze's owner, in root.
+fn request(old: Operand, new: Operand) -> Request {
+    Request { who: Credentials { user: OWNER, group: GROUP }, current: 0, old, new }
+}
+
+fn from_current(path: &[u8]) -> Operand {
+    Operand::new(CURRENT, path)
+}

@@ -1,0 +1,213 @@
+/*
+ * Runs the stored cases through the library's functions. docs/VECTORS.md tells the files' formats.
+ *
+ * Each buffer lies in a heap block of exactly its length, so that a memory checker sees any byte
+ * touched past its end.
+ */
+#include "mirepillar.h"
+
+#include <stdio.h>
+#include <stdlib.h>
+#include <string.h>
+
+enum { TAG_BASE = 1, TAG_CHECK = 2, TAG_LAND = 4 };
+enum { LONGEST_BASE = 53448, LONGEST_CASE = 131072, MOST_EDITS = 12, LONGEST_PLAN = 1024 };
+enum { MOST_TOLD = 10 };
+
+/* A file's bytes, and the part of them that is not yet read. */
+struct input {
+    const char *path;
+    uint8_t *bytes;
+    const uint8_t *at;
+    size_t left;
+};
+
+/* A heap block with as many bytes as a buffer has: none where it is empty. */
+struct buffer {
+    uint8_t *bytes;
+    size_t len;
+};
+
+static uint8_t base[LONGEST_BASE];
+static size_t base_len;
+
+static void fail(const char *path, const char *sentence)
+{
+    fprintf(stderr, "vectors: %s: %s\n", path, sentence);
+    exit(2);
+}
+
+static struct input open_input(const char *path)
+{
+    FILE *file = fopen(path, "rb");
+    if (file == NULL || fseek(file, 0, SEEK_END) != 0)
+        fail(path, "the file cannot be opened");
+    long len = ftell(file);
+    uint8_t *bytes = len > 0 ? malloc((size_t)len) : NULL;
+    rewind(file);
+    if (bytes == NULL || fread(bytes, 1, (size_t)len, file) != (size_t)len)
+        fail(path, "the file is empty or cannot be read");
+    fclose(file);
+    struct input input = {path, bytes, bytes, (size_t)len};
+    return input;
+}
+
+static const uint8_t *take(struct input *input, size_t len)
+{
+    if (input->left < len)
+        fail(input->path, "the file ends inside an item");
+    const uint8_t *bytes = input->at;
+    input->at += len;
+    input->left -= len;
+    return bytes;
+}
+
+static uint64_t take_number(struct input *input, unsigned len)
+{
+    const uint8_t *bytes = take(input, len);
+    uint64_t value = 0;
+    for (unsigned i = len; i > 0; i--)
+        value = value << 8 | bytes[i - 1];
+    return value;
+}
+
+static size_t take_up_to(struct input *input, unsigned len, size_t limit)
+{
+    uint64_t value = take_number(input, len);
+    if (value > limit)
+        fail(input->path, "a length or a position is over its limit");
+    return (size_t)value;
+}
+
+/* A block with the first bytes of another and zeros after them. */
+static struct buffer block(size_t len, const uint8_t *from, size_t from_len)
+{
+    struct buffer buffer = {len > 0 ? calloc(len, 1) : NULL, len};
+    size_t kept = len < from_len ? len : from_len;
+    if (len > 0 && buffer.bytes == NULL)
+        fail("calloc", "no memory for a buffer");
+    if (kept > 0)
+        memcpy(buffer.bytes, from, kept);
+    return buffer;
+}
+
+static void read_base(struct input *input)
+{
+    base_len = take_up_to(input, 4, LONGEST_BASE);
+    memcpy(base, take(input, base_len), base_len);
+}
+
+/* The image of a case, made from the base. */
+static struct buffer read_image(struct input *input)
+{
+    struct buffer image = block(take_up_to(input, 4, LONGEST_CASE), base, base_len);
+    size_t edits = take_up_to(input, 1, image.len > 0 ? MOST_EDITS : 0);
+    for (size_t i = 0; i < edits; i++) {
+        size_t position = take_up_to(input, 4, image.len - 1);
+        image.bytes[position] = *take(input, 1);
+    }
+    return image;
+}
+
+static struct buffer read_plan(struct input *input)
+{
+    struct buffer plan = block(take_up_to(input, 2, LONGEST_PLAN), NULL, 0);
+    size_t runs = take_up_to(input, 1, plan.len > 0 ? 255 : 0);
+    for (size_t i = 0; i < runs; i++) {
+        size_t position = take_up_to(input, 2, plan.len - 1);
+        size_t len = take_up_to(input, 1, plan.len - position);
+        memcpy(plan.bytes + position, take(input, len), len);
+    }
+    return plan;
+}
+
+static uint64_t read_answer(struct input *input, uint8_t end)
+{
+    uint64_t answer = 0;
+    uint8_t character;
+    while ((character = *take(input, 1)) != end) {
+        if (character < '0' || character > '9')
+            fail(input->path, "a line is not made of decimal numbers");
+        answer = answer * 10 + (character - '0');
+    }
+    return answer;
+}
+
+static uint64_t checksum(struct buffer buffer)
+{
+    uint64_t sum = 0;
+    for (size_t i = 0; i < buffer.len; i++)
+        sum = (sum * 31 + buffer.bytes[i] + 1) % 4294967291u;
+    return sum;
+}
+
+/* Whether a value is the expected one; the first few that are not are told. */
+static int same(const char *what, unsigned long count, uint64_t value, uint64_t expected)
+{
+    static unsigned told;
+    if (value != expected && told++ < MOST_TOLD)
+        fprintf(stderr, "vectors: case %lu: %s is %llu, expected %llu\n", count, what,
+                (unsigned long long)value, (unsigned long long)expected);
+    return value == expected;
+}
+
+static int check_case(struct input *cases, struct input *answers, unsigned long count)
+{
+    struct buffer image = read_image(cases);
+    uint64_t before = checksum(image);
+    uint64_t result = mp_check(image.bytes, image.len);
+    if (checksum(image) != before)
+        fail("mp_check", "an image was changed");
+    free(image.bytes);
+    /* The whole result is compared, since these jobs leave all but the number 0. */
+    return same("the result of mp_check", count, result, read_answer(answers, '\n'));
+}
+
+static int land_case(struct input *cases, struct input *answers, unsigned long count)
+{
+    struct buffer image = read_image(cases);
+    struct buffer plan = read_plan(cases);
+    uint64_t before = checksum(plan);
+    uint64_t result = mp_land(image.bytes, image.len, plan.bytes, plan.len, take_number(cases, 8));
+    if (checksum(plan) != before)
+        fail("mp_land", "a plan was changed");
+    int same_result = same("the result of mp_land", count, result, read_answer(answers, ' '));
+    int same_image = same("the image's checksum after mp_land", count, checksum(image), read_answer(answers, '\n'));
+    free(plan.bytes);
+    free(image.bytes);
+    return same_result && same_image;
+}
+
+/* Runs one file of cases, and gives the number of differences. */
+static unsigned long run(const char *path, struct input *answers)
+{
+    struct input cases = open_input(path);
+    unsigned long count = 0, differences = 0;
+    while (cases.left > 0) {
+        uint8_t tag = *take(&cases, 1);
+        if (tag == TAG_BASE)
+            read_base(&cases);
+        else if (tag == TAG_CHECK)
+            differences += !check_case(&cases, answers, ++count);
+        else if (tag == TAG_LAND)
+            differences += !land_case(&cases, answers, ++count);
+        else
+            fail(path, "an item has an unknown tag");
+    }
+    printf("%s: %lu cases, %lu differences\n", path, count, differences);
+    free(cases.bytes);
+    return differences;
+}
+
+/* The files of cases in the order of their answers; answers of further parts may follow. */
+int main(int argc, char **argv)
+{
+    if (argc < 3)
+        fail("usage", "vectors ANSWERS CASES...");
+    struct input answers = open_input(argv[1]);
+    unsigned long differences = 0;
+    for (int i = 2; i < argc; i++)
+        differences += run(argv[i], &answers);
+    free(answers.bytes);
+    return differences > 0;
+}
