@@ -1,0 +1,57 @@
+use mathlib.Core.Path.{_≡_, sym, _∙_}
+use Prim.Native.Nat.{_≤_, _<_, _-_, _+_, _*_}
+use native.Mathlib.Omega.{arith}
+use borrow.Author.Needs.{needs}
+use Rattle.walk.proofs.find.find.Statement.{statement}
+use Rattle.walk.proofs.find.find.Tie as tie
+use Rattle.walk.proofs.find.find.Reads as reads
+use Rattle.walk.proofs.find.find.Lts as lts
+use Rattle.walk.proofs.find.is_named.Reads as is-named-reads
+
+abbrev Inv-loop : tie.InvT-loop
+Inv-loop s h d name n j₀ j = ?
+
+abbrev μ-loop : tie.MeasureT-loop
+μ-loop s h d name n j₀ j = ?
+
+-- src/find.rt:30:5
+loop-holds : tie.Need-loop-holds Inv-loop μ-loop
+loop-holds c = search needs
+
+-- src/find.rt:31:12
+is-named-requires : tie.Need-is-named-requires Inv-loop μ-loop
+is-named-requires c κs = search needs
+
+-- src/find.rt:32:13
+returns : tie.Need-returns Inv-loop μ-loop
+returns c = search needs
+
+-- src/find.rt:34:9
+add-j : tie.Need-add-j Inv-loop μ-loop
+add-j c = search needs
+
+-- src/find.rt:30:5
+loop-less : tie.Need-loop-less Inv-loop μ-loop
+loop-less c = search needs
+
+-- src/find.rt:30:5
+loop-again : tie.Need-loop-again Inv-loop μ-loop
+loop-again c = search needs
+
+-- src/find.rt:24:1
+returns-2 : tie.Need-returns-2 Inv-loop μ-loop
+returns-2 c = search needs
+
+pub find-spec : {M : Type 1} → statement M
+find-spec =
+    tie.close
+    (tie.spec
+    Inv-loop
+    μ-loop
+    loop-holds
+    is-named-requires
+    returns
+    add-j
+    loop-less
+    loop-again
+    returns-2)

@@ -1,0 +1,20 @@
+use borrow.Author.Needs.{needs}
+use Rattle.walk.proofs.path.is_absolute.Statement.{statement}
+use Rattle.walk.proofs.path.is_absolute.Tie as tie
+use Rattle.walk.proofs.path.is_absolute.Reads as reads
+use Rattle.walk.proofs.path.is_absolute.Lts as lts
+
+-- src/path.rt:48:9
+returns : tie.Need-returns
+returns c = ?
+
+-- src/path.rt:50:5
+shared-slice-read-result : tie.Need-shared-slice-read-result
+shared-slice-read-result c = search needs
+
+-- src/path.rt:44:1
+returns-2 : tie.Need-returns-2
+returns-2 c = search needs
+
+pub is-absolute-spec : {M : Type 1} → statement M
+is-absolute-spec = tie.close (tie.spec returns shared-slice-read-result returns-2)

@@ -1,0 +1,31 @@
+use borrow.Author.Needs.{needs}
+use Rattle.walk.proofs.path.splice.Statement.{statement}
+use Rattle.walk.proofs.path.splice.Tie as tie
+use Rattle.walk.proofs.path.splice.Reads as reads
+use Rattle.walk.proofs.path.splice.Lts as lts
+use Rattle.layout.proofs.bytes.copy.Reads as copy-reads
+
+-- src/path.rt:71:25
+slice-aggregate-copy : tie.Need-slice-aggregate-copy
+slice-aggregate-copy c = search needs
+
+-- src/path.rt:71:5
+copy-requires : tie.Need-copy-requires
+copy-requires c κs = search needs
+
+-- src/path.rt:72:25
+slice-aggregate-copy-2 : tie.Need-slice-aggregate-copy-2
+slice-aggregate-copy-2 c = search needs
+
+-- src/path.rt:72:5
+copy-requires-2 : tie.Need-copy-requires-2
+copy-requires-2 c κs = search needs
+
+-- src/path.rt:66:1
+returns : tie.Need-returns
+returns c = ?
+
+pub splice-spec : {M : Type 1} → statement M
+splice-spec =
+    tie.close
+    (tie.spec slice-aggregate-copy copy-requires slice-aggregate-copy-2 copy-requires-2 returns)

@@ -1,0 +1,79 @@
+use borrow.Author.Needs.{needs}
+use Rattle.walk.proofs.permission.allows.Statement.{statement}
+use Rattle.walk.proofs.permission.allows.Tie as tie
+use Rattle.walk.proofs.permission.allows.Reads as reads
+use Rattle.walk.proofs.permission.allows.Lts as lts
+use Rattle.layout.proofs.inode.group.Reads as group-reads
+use Rattle.layout.proofs.inode.mode.Reads as mode-reads
+use Rattle.layout.proofs.inode.owner.Reads as owner-reads
+use Rattle.layout.proofs.records.inode.Reads as inode-reads
+
+-- src/permission.rt:16:9
+returns : tie.Need-returns
+returns c = ?
+
+-- src/permission.rt:18:9
+inode-requires : tie.Need-inode-requires
+inode-requires c κs = search needs
+
+-- src/permission.rt:19:9
+mode-requires : tie.Need-mode-requires
+mode-requires c κs = search needs
+
+-- src/permission.rt:20:20
+owner-requires : tie.Need-owner-requires
+owner-requires c κs = search needs
+
+-- src/permission.rt:21:24
+mul-result : tie.Need-mul-result
+mul-result c = search needs
+
+-- src/permission.rt:21:16
+div-result : tie.Need-div-result
+div-result c = search needs
+
+-- src/permission.rt:21:9
+returns-2 : tie.Need-returns-2
+returns-2 c = ?
+
+-- src/permission.rt:23:21
+group-requires : tie.Need-group-requires
+group-requires c κs = search needs
+
+-- src/permission.rt:24:24
+mul-result-2 : tie.Need-mul-result-2
+mul-result-2 c = search needs
+
+-- src/permission.rt:24:16
+div-result-2 : tie.Need-div-result-2
+div-result-2 c = search needs
+
+-- src/permission.rt:24:9
+returns-3 : tie.Need-returns-3
+returns-3 c = ?
+
+-- src/permission.rt:26:5
+div-result-3 : tie.Need-div-result-3
+div-result-3 c = search needs
+
+-- src/permission.rt:11:1
+returns-4 : tie.Need-returns-4
+returns-4 c = ?
+
+pub allows-spec : {M : Type 1} → statement M
+allows-spec =
+    tie.close
+    (tie.spec
+    returns
+    inode-requires
+    mode-requires
+    owner-requires
+    mul-result
+    div-result
+    returns-2
+    group-requires
+    mul-result-2
+    div-result-2
+    returns-3
+    div-result-3
+    returns-4)

@@ -1,0 +1,52 @@
+use borrow.Author.Needs.{needs}
+use Rattle.walk.proofs.state.follow.Statement.{statement}
+use Rattle.walk.proofs.state.follow.Tie as tie
+use Rattle.walk.proofs.state.follow.Reads as reads
+use Rattle.walk.proofs.state.follow.Lts as lts
+use Rattle.walk.proofs.state.join.Reads as join-reads
+use Rattle.walk.proofs.state.refuse.Reads as refuse-reads
+
+-- src/state.rt:134:9
+refuse-requires : tie.Need-refuse-requires
+refuse-requires c κs = search needs
+
+-- src/state.rt:134:9
+returns : tie.Need-returns
+returns c = ?
+
+-- src/state.rt:136:29
+sub-len : tie.Need-sub-len
+sub-len c = search needs
+
+-- src/state.rt:136:15
+add-len : tie.Need-add-len
+add-len c = search needs
+
+-- src/state.rt:138:9
+refuse-requires-2 : tie.Need-refuse-requires-2
+refuse-requires-2 c κs = search needs
+
+-- src/state.rt:138:9
+returns-2 : tie.Need-returns-2
+returns-2 c = ?
+
+-- src/state.rt:140:5
+join-requires : tie.Need-join-requires
+join-requires c κs = search needs
+
+-- src/state.rt:129:1
+returns-3 : tie.Need-returns-3
+returns-3 c = ?
+
+pub follow-spec : {M : Type 1} → statement M
+follow-spec =
+    tie.close
+    (tie.spec
+    refuse-requires
+    returns
+    sub-len
+    add-len
+    refuse-requires-2
+    returns-2
+    join-requires
+    returns-3)

@@ -1,0 +1,6 @@
+// Path resolution: what the paths of a request name.
+pub mod find;
+pub mod path;
+pub mod permission;
+pub mod request;
+pub mod state;
