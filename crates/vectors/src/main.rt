@@ -1,0 +1,68 @@
+// Prints the library's answers to the stored cases. docs/VECTORS.md has the form of the files.
+use libc::STDERR_FILENO;
+use reader::Tag;
+
+mod check;
+mod image;
+mod reader;
+
+// So many items are too many. Nothing says that a file ends, so a count of its items ends the loop.
+const TOO_MANY: usize = 1000000;
+
+const BASE: u8 = 1;
+
+const CHECK_CASE: u8 = 2;
+
+// Reads the rest of an item, and answers it where it is a case.
+fn item(fd: i32, tag: u8, base: &mut [u8], image: &mut [u8]) -> bool {
+    if tag == BASE {
+        return image::read_base(fd, base);
+    }
+    if tag == CHECK_CASE {
+        return check::case(fd, base, image);
+    }
+    reader::complain(b"an item has an unknown tag");
+    false
+}
+
+// Answers the cases of a file; false where something is wrong with it.
+fn all(fd: i32, base: &mut [u8], image: &mut [u8]) -> bool {
+    let mut left: usize = TOO_MANY;
+    while 0 < left {
+        let found = reader::next(fd);
+        match found {
+            Tag::End => return true,
+            Tag::Failed => return false,
+            Tag::Item(tag) => {
+                if !item(fd, tag, base, image) {
+                    return false;
+                }
+            }
+        }
+        left -= 1;
+    }
+    reader::complain(b"the file has too many items");
+    false
+}
+
+// Answers the cases of the file of that name.
+fn run(path: &[u8]) {
+    let fd = os::open_read(path);
+    if fd < 0 {
+        io::write_all(STDERR_FILENO, b"vectors: cannot open ");
+        os::fail(path);
+        return;
+    }
+    let mut base = image::base_buffer();
+    let mut image = image::buffer();
+    if !all(fd, &mut base, &mut image) {
+        io::write_all(STDERR_FILENO, b"vectors: stopped in the file ");
+        io::write_all(STDERR_FILENO, path);
+        io::write_all(STDERR_FILENO, b"\n");
+    }
+    libc::close(fd);
+}
+
+fn main() {
+    run(b"check");
+}
