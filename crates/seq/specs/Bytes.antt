@@ -1,14 +1,14 @@
 -- Ranges of bytes in a list: a part read, a part written over, and what stays. Assumes nothing.
-use mathlib.Core.Path.{_≡_, refl, _∙_}
+use mathlib.Core.Path.{_≡_, refl, sym, _∙_}
 use mathlib.Core.Logic.{_⊎_, ⊎-elim}
 use mathlib.Core.Bool.{Bool, _&&_, not}
 use mathlib.Core.List.{List, [], _∷_, _++_}
 use Prim.Native.Nat.{ℕ, zero, suc, _+_, _-_, _<_, _≤_}
-use native.Mathlib.Nat.{add-zero, add-sub-cancel-left, not-suc-le-zero, le-of-suc-le-suc, lt-irrefl}
+use native.Mathlib.Nat.{add-zero, zero-add, add-sub-cancel-left, not-suc-le-zero, le-of-suc-le-suc, lt-irrefl}
 use native.Mathlib.Numerals.{add-one}
 use native.Mathlib.Omega.{arith}
 use lib.Dec.{eqb}
-use lib.ListN.{length, getD, take, drop, set, length-set, length-take, length-drop}
+use lib.ListN.{length, getD, take, drop, set, length-set, length-take, length-drop, replicate, length-replicate, getD-replicate}
 use lib.Seq.{sets, sets-eq, length-sets, getD-set-same, getD-set-other, take-suc, length-take-le, ext-getD, getD-take, getD-drop}
 use Rattle.seq.specs.Search.{all}
 
@@ -116,3 +116,15 @@ put-part-other xs at ys i n h =
 pub put-eq : (xs : List ℕ) (at : ℕ) (ys : List ℕ) → at + length ys ≤ length xs → put xs at ys ≡ take at xs ++ ys ++ drop (at + length ys) xs
 unfolding put
 put-eq xs at ys h = sets-eq ys xs at h
+
+drop-zeros : (n m : ℕ) → drop {A = ℕ} n (replicate m 0) ≡ replicate (m - n) 0
+drop-zeros n m =
+    ext-getD 0 _ _ (simp (length-drop, length-replicate)) (λ k b.
+    let l : k < m - n = omega (arith, length-drop n (replicate {A = ℕ} m 0), length-replicate {A = ℕ} m 0) in
+    simp getD-drop (getD-replicate m (n + k) 0 0 (omega arith) ∙ sym (getD-replicate (m - n) k 0 0 l)))
+
+-- bytes put over zeros from the front
+pub put-zeros : (n : ℕ) (ys : List ℕ) → length ys ≤ n → put (replicate n 0) 0 ys ≡ ys ++ replicate (n - length ys) 0
+put-zeros n ys h =
+    let r : 0 + length ys ≤ length (replicate {A = ℕ} n 0) = rw length-replicate (omega arith) in
+    put-eq (replicate n 0) 0 ys r ∙ rw (zero-add, drop-zeros)

@@ -146,6 +146,27 @@ module _ (p : ℕ → Bool) where
   first-none zero none = refl
   first-none (suc n) none = rw (any-front n none, any-last n none)
 
+  -- where some number passes, the first that does is below n
+  pub first-below : (n : ℕ) → any p n ≡ true → first p n < n
+  unfolding first any
+  first-below zero some = absurd (false≢true some)
+  first-below (suc n) some = go (λ e. first-below n e) (any p n) (p n) refl some
+    where
+      go : (any p n ≡ true → first p n < n) → (a b : Bool) → any p n ≡ a → (a || b) ≡ true → cond a (first p n) (cond b n (suc n)) < suc n
+      go r true b e h = let l = r e in omega arith
+      go r false true e h = omega arith
+      go r false false e h = absurd (false≢true h)
+
+  pub first-le : (n : ℕ) → first p n ≤ n
+  unfolding first
+  first-le zero = omega arith
+  first-le (suc n) = go (any p n) (p n) (first-le n)
+    where
+      go : (a b : Bool) → first p n ≤ n → cond a (first p n) (cond b n (suc n)) ≤ suc n
+      go true b h = omega arith
+      go false true h = omega arith
+      go false false h = omega arith
+
 -- tests that agree below n give the same search
 module _ (p q : ℕ → Bool) where
   pub all-same : (n : ℕ) → ((k : ℕ) → k < n → p k ≡ q k) → all p n ≡ all q n

@@ -5,3 +5,4 @@ pub mod Lookup
 pub mod Step
 pub mod Walk
 pub mod State
+pub mod Splice

@@ -21,7 +21,7 @@ module _ (v : View) (who : Credentials) where
   -- as many components as there are, up to a number of them that is never reached (see Bound)
   unfoldable pub walkFrom : ℕ → Position → End
   walkFrom zero w = refused (record { number = 40; steps = w .steps })
-  walkFrom (suc n) w = elim (step w) [ goes u ↦ walkFrom n u | ends e ↦ e ]
+  walkFrom (suc n) w = elim (step v who w) [ goes u ↦ walkFrom n u | ends e ↦ e ]
 
   -- a path that no walk begins on
   abbrev pub halt : ℕ → End

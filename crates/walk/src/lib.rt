@@ -4,3 +4,4 @@ pub mod path;
 pub mod permission;
 pub mod request;
 pub mod state;
+pub mod step;

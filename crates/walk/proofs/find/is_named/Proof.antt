@@ -1,3 +1,10 @@
+use mathlib.Core.Path.{sym, _∙_, ap}
+use native.Mathlib.Omega.{arith}
+use borrow.Author.Tests.{eq-eqb, ne-eqb, lt-ltb, le-ltb, le-leb, lt-leb}
+use Rattle.layout.specs.Record.{field-of}
+use Rattle.layout.specs.View.{viewOf}
+use Rattle.layout.specs.Fields.{entryNameLength, entryParent, entryName}
+use Rattle.walk.specs.Lookup.{isNamed}
 use borrow.Author.Needs.{needs}
 use Rattle.walk.proofs.find.is_named.Statement.{statement}
 use Rattle.walk.proofs.find.is_named.Tie as tie
@@ -19,7 +26,8 @@ name-length-requires c κs = search needs
 
 -- src/find.rt:15:9
 returns : tie.Need-returns
-returns c = ?
+unfolding isNamed viewOf
+returns c = simp (eq-eqb _ _ (sym (field-of entryNameLength (c .before .before .entry .ensures) (c .before .name-length .ensures .0)) ∙ c .if1 .taken))
 
 -- src/find.rt:17:8
 parent-requires : tie.Need-parent-requires
@@ -27,11 +35,14 @@ parent-requires c κs = search needs
 
 -- src/find.rt:18:9
 returns-2 : tie.Need-returns-2
-returns-2 c = ?
+unfolding isNamed viewOf
+returns-2 c = simp (ne-eqb _ _ (λ e. c .before .before .if1 .left (field-of entryNameLength (c .before .before .before .before .entry .ensures) (c .before .before .before .name-length .ensures .0) ∙ e)), ne-eqb _ _ (λ e. c .if2 .taken (field-of entryParent (c .before .before .before .before .entry .ensures) (c .before .parent .ensures .0) ∙ e)))
 
 -- src/find.rt:20:25
 name-requires : tie.Need-name-requires
-name-requires c κs = ?
+unfolding viewOf
+name-requires c κs = let n = ap entryNameLength (c .before .before .before .before .entry .ensures .is) in
+    omega (arith, c .before .before .before .before .before .before .before .pre .0 .names (c .before .before .before .before .before .before .before .args .j) (c .before .before .before .before .before .before .before .pre .1), c .before .before .before .before .entry .ensures .long, c .before .before .before .before .before .before .before .pre .0 .laid .width-least)
 
 -- src/find.rt:20:5
 same-requires : tie.Need-same-requires
@@ -39,7 +50,9 @@ same-requires c κs = search needs
 
 -- src/find.rt:9:1
 returns-3 : tie.Need-returns-3
-returns-3 c = ?
+unfolding isNamed viewOf
+returns-3 c = let n = c .before .name .ensures ∙ ap entryName (c .before .before .before .before .before .before .entry .ensures .is) in
+    simp (ne-eqb _ _ (λ e. c .before .before .before .before .if1 .left (field-of entryNameLength (c .before .before .before .before .before .before .entry .ensures) (c .before .before .before .before .before .name-length .ensures .0) ∙ e)), eq-eqb _ _ (sym (field-of entryParent (c .before .before .before .before .before .before .entry .ensures) (c .before .before .before .parent .ensures .0)) ∙ c .before .before .if2 .left), c .same .ensures, n)
 
 pub is-named-spec : {M : Type 1} → statement M
 is-named-spec =

@@ -1,3 +1,6 @@
+use mathlib.Core.Path.{_≡_}
+use native.Mathlib.Omega.{arith}
+use lib.ListN.{getD, List·getD-eq-default}
 use borrow.Author.Needs.{needs}
 use Rattle.walk.proofs.path.is_absolute.Statement.{statement}
 use Rattle.walk.proofs.path.is_absolute.Tie as tie
@@ -6,7 +9,8 @@ use Rattle.walk.proofs.path.is_absolute.Lts as lts
 
 -- src/path.rt:48:9
 returns : tie.Need-returns
-returns c = ?
+returns c = let e : getD (c .before .args .p .now) 0 0 ≡ 0 = List·getD-eq-default (c .before .args .p .now) 0 (omega arith) in
+    simp e
 
 -- src/path.rt:50:5
 shared-slice-read-result : tie.Need-shared-slice-read-result

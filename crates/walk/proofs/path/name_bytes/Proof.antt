@@ -1,3 +1,8 @@
+use mathlib.Core.Bool.{true, false, not}
+use borrow.Author.Tests.{eq-eqb, ne-eqb, lt-ltb, le-ltb, le-leb, lt-leb}
+use lib.ListN.{length, getD}
+use Rattle.seq.specs.Search.{any, any-none, any-miss, first-hit, first-none}
+use Rattle.walk.specs.Path.{isSlash, nameBytes}
 use mathlib.Core.Path.{_≡_, sym, _∙_}
 use Prim.Native.Nat.{_≤_, _<_, _-_, _+_, _*_}
 use native.Mathlib.Omega.{arith}
@@ -8,14 +13,14 @@ use Rattle.walk.proofs.path.name_bytes.Reads as reads
 use Rattle.walk.proofs.path.name_bytes.Lts as lts
 
 abbrev Inv-loop : tie.InvT-loop
-Inv-loop p k₀ k = ?
+Inv-loop p k₀ k = (k ≤ length p) × (any (λ i. isSlash (getD p i 0)) k ≡ false)
 
 abbrev μ-loop : tie.MeasureT-loop
-μ-loop p k₀ k = ?
+μ-loop p k₀ k = length p - k
 
 -- src/path.rt:28:5
 loop-holds : tie.Need-loop-holds Inv-loop μ-loop
-loop-holds c = search needs
+loop-holds c = (search needs, any-none _)
 
 -- src/path.rt:29:12
 shared-slice-read-if1 : tie.Need-shared-slice-read-if1 Inv-loop μ-loop
@@ -23,7 +28,8 @@ shared-slice-read-if1 c = search needs
 
 -- src/path.rt:30:13
 returns : tie.Need-returns Inv-loop μ-loop
-returns c = search needs
+unfolding nameBytes
+returns c = (sym (first-hit _ _ _ (c .before .before .loop-test .taken) (c .before .before .before .loop .inv .1) (eq-eqb _ _ (c .if1 .taken))), search needs)
 
 -- src/path.rt:32:9
 add-k : tie.Need-add-k Inv-loop μ-loop
@@ -35,11 +41,13 @@ loop-less c = search needs
 
 -- src/path.rt:28:5
 loop-again : tie.Need-loop-again Inv-loop μ-loop
-loop-again c = search needs
+loop-again c = (search needs, any-miss _ _ (c .before .before .before .loop .inv .1) (ne-eqb _ _ (c .if1 .left)))
 
 -- src/path.rt:24:1
 returns-2 : tie.Need-returns-2 Inv-loop μ-loop
-returns-2 c = search needs
+unfolding nameBytes
+returns-2 c = let e : c .before .loop .k ≡ length (c .before .before .args .p .now) = omega arith in
+    (e ∙ sym (first-none _ _ (rw e at (c .before .loop .inv .1))), search needs)
 
 pub name-bytes-spec : {M : Type 1} → statement M
 name-bytes-spec =

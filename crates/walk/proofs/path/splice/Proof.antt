@@ -1,3 +1,12 @@
+use mathlib.Core.Path.{ap, _∙_}
+use lib.ListN.{length}
+use Rattle.walk.specs.State.{filled}
+use mathlib.Core.Path.{_≡_, ap, _∙_}
+use Prim.Native.Nat.{ℕ}
+use native.Mathlib.Omega.{arith}
+use lib.ListN.{length, replicate, length-replicate}
+use Rattle.seq.specs.Bytes.{put}
+use Rattle.walk.specs.Splice.{twice}
 use borrow.Author.Needs.{needs}
 use Rattle.walk.proofs.path.splice.Statement.{statement}
 use Rattle.walk.proofs.path.splice.Tie as tie
@@ -23,7 +32,9 @@ copy-requires-2 c κs = search needs
 
 -- src/path.rt:66:1
 returns : tie.Need-returns
-returns c = ?
+unfolding filled
+returns c =     c .before .copy2 .ensures ∙ ap (λ l. put l (length (c .before .before .before .before .before .before .before .before .args .text .now)) (c .before .before .before .before .before .before .before .before .args .rest .now)) (c .before .before .before .before .copy .ensures)
+    ∙ twice (c .before .before .before .before .before .before .before .before .args .text .now) (c .before .before .before .before .before .before .before .before .args .rest .now) 256 (omega (arith, c .before .before .before .before .before .before .before .before .pre))
 
 pub splice-spec : {M : Type 1} → statement M
 splice-spec =

@@ -1,3 +1,4 @@
+use mathlib.Core.Path.{sym, _∙_, ap}
 use borrow.Author.Needs.{needs}
 use Rattle.walk.proofs.path.start.Statement.{statement}
 use Rattle.walk.proofs.path.start.Tie as tie
@@ -11,11 +12,11 @@ is-absolute-requires c κs = search needs
 
 -- src/path.rt:82:9
 returns : tie.Need-returns
-returns c = ?
+returns c = simp (sym (c .before .is-absolute .ensures) ∙ c .if1 .taken)
 
 -- src/path.rt:78:1
 returns-2 : tie.Need-returns-2
-returns-2 c = ?
+returns-2 c = simp (sym (c .before .is-absolute .ensures) ∙ c .if1 .left)
 
 pub start-spec : {M : Type 1} → statement M
 start-spec = tie.close (tie.spec is-absolute-requires returns returns-2)

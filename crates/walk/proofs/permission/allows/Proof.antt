@@ -1,3 +1,9 @@
+use mathlib.Core.Path.{sym, _∙_, ap}
+use borrow.Author.Tests.{eq-eqb, ne-eqb, lt-ltb, le-ltb, le-leb, lt-leb}
+use Rattle.layout.specs.Record.{field-of}
+use Rattle.layout.specs.View.{viewOf}
+use Rattle.layout.specs.Fields.{inodeMode, inodeOwner, inodeGroup}
+use Rattle.walk.specs.Permission.{allows}
 use borrow.Author.Needs.{needs}
 use Rattle.walk.proofs.permission.allows.Statement.{statement}
 use Rattle.walk.proofs.permission.allows.Tie as tie
@@ -10,7 +16,8 @@ use Rattle.layout.proofs.records.inode.Reads as inode-reads
 
 -- src/permission.rt:16:9
 returns : tie.Need-returns
-returns c = ?
+unfolding allows viewOf
+returns c = simp (eq-eqb _ _ (c .if1 .taken))
 
 -- src/permission.rt:18:9
 inode-requires : tie.Need-inode-requires
@@ -34,7 +41,10 @@ div-result c = search needs
 
 -- src/permission.rt:21:9
 returns-2 : tie.Need-returns-2
-returns-2 c = ?
+unfolding allows viewOf
+returns-2 c = let m = field-of inodeMode (c .before .before .before .before .inode .ensures) (c .before .before .before .mode .ensures .0) in
+    let o = field-of inodeOwner (c .before .before .before .before .inode .ensures) (c .before .before .owner .ensures) in
+    simp (ne-eqb _ _ (c .before .before .before .before .before .if1 .left), eq-eqb _ _ (c .if2 .taken ∙ o), m)
 
 -- src/permission.rt:23:21
 group-requires : tie.Need-group-requires
@@ -50,7 +60,11 @@ div-result-2 c = search needs
 
 -- src/permission.rt:24:9
 returns-3 : tie.Need-returns-3
-returns-3 c = ?
+unfolding allows viewOf
+returns-3 c = let m = field-of inodeMode (c .before .before .before .before .before .before .before .inode .ensures) (c .before .before .before .before .before .before .mode .ensures .0) in
+    let o = field-of inodeOwner (c .before .before .before .before .before .before .before .inode .ensures) (c .before .before .before .before .before .owner .ensures) in
+    let g = field-of inodeGroup (c .before .before .before .before .before .before .before .inode .ensures) (c .before .before .group .ensures) in
+    simp (ne-eqb _ _ (c .before .before .before .before .before .before .before .before .if1 .left), ne-eqb _ _ (λ e. c .before .before .before .if2 .left (e ∙ sym o)), eq-eqb _ _ (c .if3 .taken ∙ g), m)
 
 -- src/permission.rt:26:5
 div-result-3 : tie.Need-div-result-3
@@ -58,7 +72,11 @@ div-result-3 c = search needs
 
 -- src/permission.rt:11:1
 returns-4 : tie.Need-returns-4
-returns-4 c = ?
+unfolding allows viewOf
+returns-4 c = let m = field-of inodeMode (c .before .before .before .before .before .before .before .inode .ensures) (c .before .before .before .before .before .before .mode .ensures .0) in
+    let o = field-of inodeOwner (c .before .before .before .before .before .before .before .inode .ensures) (c .before .before .before .before .before .owner .ensures) in
+    let g = field-of inodeGroup (c .before .before .before .before .before .before .before .inode .ensures) (c .before .before .group .ensures) in
+    simp (ne-eqb _ _ (c .before .before .before .before .before .before .before .before .if1 .left), ne-eqb _ _ (λ e. c .before .before .before .if2 .left (e ∙ sym o)), ne-eqb _ _ (λ e. c .if3 .left (e ∙ sym g)), m)
 
 pub allows-spec : {M : Type 1} → statement M
 allows-spec =

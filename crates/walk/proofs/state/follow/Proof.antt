@@ -1,3 +1,5 @@
+use borrow.Author.Tests.{eq-eqb, ne-eqb, lt-ltb, le-ltb, le-leb, lt-leb}
+use Rattle.walk.specs.Splice.{rest-length}
 use borrow.Author.Needs.{needs}
 use Rattle.walk.proofs.state.follow.Statement.{statement}
 use Rattle.walk.proofs.state.follow.Tie as tie
@@ -12,7 +14,7 @@ refuse-requires c κs = search needs
 
 -- src/state.rt:134:9
 returns : tie.Need-returns
-returns c = ?
+returns c = rw (le-leb _ _ (c .before .if1 .taken)) (c .refuse .ensures)
 
 -- src/state.rt:136:29
 sub-len : tie.Need-sub-len
@@ -28,7 +30,8 @@ refuse-requires-2 c κs = search needs
 
 -- src/state.rt:138:9
 returns-2 : tie.Need-returns-2
-returns-2 c = ?
+returns-2 c = let l = rest-length (c .before .before .before .before .before .before .args .w) (c .before .before .before .before .before .before .args .e) (c .before .before .before .before .before .before .pre .0) (search needs) in
+    rw (lt-leb _ _ (c .before .before .before .if1 .left), lt-ltb _ _ (rw (← l) at (c .before .if2 .taken))) (c .refuse2 .ensures)
 
 -- src/state.rt:140:5
 join-requires : tie.Need-join-requires
@@ -36,7 +39,8 @@ join-requires c κs = search needs
 
 -- src/state.rt:129:1
 returns-3 : tie.Need-returns-3
-returns-3 c = ?
+returns-3 c = let l = rest-length (c .before .before .before .before .before .before .args .w) (c .before .before .before .before .before .before .args .e) (c .before .before .before .before .before .before .pre .0) (search needs) in
+    rw (lt-leb _ _ (c .before .before .before .if1 .left), le-ltb _ _ (rw (← l) at (c .before .if2 .left))) (c .join .ensures)
 
 pub follow-spec : {M : Type 1} → statement M
 follow-spec =

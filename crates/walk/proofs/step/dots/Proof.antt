@@ -1,0 +1,96 @@
+use borrow.Author.Needs.{needs}
+use Rattle.walk.proofs.step.dots.Statement.{statement}
+use Rattle.walk.proofs.step.dots.Tie as tie
+use Rattle.walk.proofs.step.dots.Reads as reads
+use Rattle.walk.proofs.step.dots.Lts as lts
+use Rattle.layout.proofs.inode.field.Reads as field-reads
+use Rattle.layout.proofs.records.inode.Reads as inode-reads
+use Rattle.walk.proofs.path.is_bare.Reads as is-bare-reads
+use Rattle.walk.proofs.path.is_dot.Reads as is-dot-reads
+use Rattle.walk.proofs.state.advance.Reads as advance-reads
+use Rattle.walk.proofs.state.refuse.Reads as refuse-reads
+
+-- src/step.rt:101:22
+sub-is-bare : tie.Need-sub-is-bare
+sub-is-bare c = search needs
+
+-- src/step.rt:101:22
+part-is-bare-start : tie.Need-part-is-bare-start
+part-is-bare-start c = search needs
+
+-- src/step.rt:101:22
+part-is-bare-end : tie.Need-part-is-bare-end
+part-is-bare-end c = ?
+
+-- src/step.rt:101:8
+is-bare-requires : tie.Need-is-bare-requires
+is-bare-requires c κs = search needs
+
+-- src/step.rt:102:9
+refuse-requires : tie.Need-refuse-requires
+refuse-requires c κs = search needs
+
+-- src/step.rt:102:9
+returns : tie.Need-returns
+returns c = ?
+
+-- src/step.rt:105:21
+sub-is-dot : tie.Need-sub-is-dot
+sub-is-dot c = search needs
+
+-- src/step.rt:105:21
+part-is-dot-start : tie.Need-part-is-dot-start
+part-is-dot-start c = search needs
+
+-- src/step.rt:105:21
+part-is-dot-end : tie.Need-part-is-dot-end
+part-is-dot-end c = ?
+
+-- src/step.rt:105:8
+is-dot-requires : tie.Need-is-dot-requires
+is-dot-requires c κs = search needs
+
+-- src/step.rt:106:9
+advance-requires : tie.Need-advance-requires
+advance-requires c κs = ?
+
+-- src/step.rt:106:9
+returns-2 : tie.Need-returns-2
+returns-2 c = ?
+
+-- src/step.rt:108:9
+inode-requires : tie.Need-inode-requires
+inode-requires c κs = search needs
+
+-- src/step.rt:109:26
+field-requires : tie.Need-field-requires
+field-requires c κs = search needs
+
+-- src/step.rt:109:5
+advance-requires-2 : tie.Need-advance-requires-2
+advance-requires-2 c κs = ?
+
+-- src/step.rt:95:1
+returns-3 : tie.Need-returns-3
+returns-3 c = ?
+
+pub dots-spec : {M : Type 1} → statement M
+dots-spec =
+    tie.close
+    (tie.spec
+    sub-is-bare
+    part-is-bare-start
+    part-is-bare-end
+    is-bare-requires
+    refuse-requires
+    returns
+    sub-is-dot
+    part-is-dot-start
+    part-is-dot-end
+    is-dot-requires
+    advance-requires
+    returns-2
+    inode-requires
+    field-requires
+    advance-requires-2
+    returns-3)
