@@ -5,3 +5,5 @@ pub mod Lookup
 pub mod Step
 pub mod Walk
 pub mod State
+pub mod PathLaws
+pub mod Bound
