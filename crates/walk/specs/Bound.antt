@@ -1,14 +1,14 @@
 -- How far a walk goes (rule 68), and that its end owes nothing to the fuel it is defined with. Assumes nothing.
-use mathlib.Core.Path.{_≡_, refl, sym, ap, _∙_, subst}
+use mathlib.Core.Path.{_≡_, refl, subst}
 use mathlib.Core.Logic.{_⊎_, inl, inr, ⊎-elim}
 use mathlib.Core.Bool.{Bool, true, false, not, _&&_, _||_}
 use mathlib.Core.List.{List}
 use Prim.Native.Nat.{ℕ, zero, suc, _+_, _*_, _-_, _/_, _≤_, _<_, zero-le}
-use native.Mathlib.Nat.{le-refl, le-trans, zero-add}
+use native.Mathlib.Nat.{le-trans, zero-add}
 use native.Mathlib.Omega.{arith}
 use lib.Dec.{ltb, leb}
 use lib.ListN.{length, length-append}
-use borrow.Author.Tests.{ltb-false, leb-false}
+use borrow.Author.Tests.{ltb-false, leb-false, le-ltb}
 use Rattle.layout.specs.View.{View, isDirectory, isKind}
 use Rattle.walk.specs.declared.request.Credentials.{Credentials}
 use Rattle.walk.specs.Permission.{searchBit, allows}
@@ -24,7 +24,8 @@ pub record Goes (w u : Position) : Type 0 where
   pub more : bare (u .rest) ≡ false
   pub counted : u .steps ≡ w .steps + 1
   pub asked : u .waived ≡ false
-  pub way : ((u .links ≡ w .links) × (u .rest ≡ behind (w .rest))) ⊎ ((u .links ≡ w .links + 1) × (w .links < linkLimit) × (length (u .rest) ≤ pathLimit))
+  pub way : ((u .links ≡ w .links) × (u .rest ≡ behind (w .rest)))
+      ⊎ ((u .links ≡ w .links + 1) × (w .links < linkLimit) × (length (u .rest) ≤ pathLimit))
 
 -- what holds after a step: the component counts where the walk ends, too
 abbrev pub After : Position → Step → Type 0
@@ -33,7 +34,8 @@ After w (ends e) = stepsOf e ≡ w .steps + 1
 
 -- each test of a step, whichever way it falls
 module _ (v : View) (w : Position) (rest : List ℕ) (is : rest ≡ behind (w .rest)) where
-  after-joined : (b : Bool) (text : List ℕ) → ltb pathLimit (length text + length rest) ≡ b → bare rest ≡ false → w .links < linkLimit → After w (joined b w text rest)
+  after-joined : (b : Bool) (text : List ℕ) → ltb pathLimit (length text + length rest) ≡ b → bare rest ≡ false → w .links < linkLimit
+      → After w (joined b w text rest)
   after-joined true text e more few = refl
   after-joined false text e more few =
       record { more = bare-append text rest more; counted = refl; asked = refl; way = inr (refl, few, rw length-append (ltb-false _ _ e)) }
@@ -82,6 +84,7 @@ module _ (v : View) (who : Credentials) where
       permit : (b : Bool) → After w (permitted v who b w)
       permit true = after-fitting v w (behind (w .rest)) refl (ltb (v .room) (length (component (w .rest)))) (component (w .rest))
       permit false = refl
+
       place : (b : Bool) → After w (placed v who b w)
       place true = permit (w .waived || allows v who (w .directory) searchBit)
       place false = refl
@@ -98,26 +101,32 @@ pub budget-more : (w : Position) → bare (w .rest) ≡ false → 0 < budget w
 unfolding budget
 budget-more w more = let l = skip-more (w .rest) more in omega arith
 
--- the numbers of it, over any limit
+-- the arithmetic of it, over any number of symlinks; of the longest path it is computed that it has 128 components at most
 spend-component : (limit links a b : ℕ) → a + 2 ≤ b → 128 * (limit - links) + (a + 1) / 2 < 128 * (limit - links) + (b + 1) / 2
 spend-component limit links a b l = omega arith
 
-spend-symlink : (limit links a b : ℕ) → links < limit → a ≤ 255 → 0 < b → 128 * (limit - (links + 1)) + (a + 1) / 2 < 128 * (limit - links) + (b + 1) / 2
+spend-symlink : (limit links a b : ℕ) → links < limit → a ≤ pathLimit → 0 < b
+    → 128 * (limit - (links + 1)) + (a + 1) / 2 < 128 * (limit - links) + (b + 1) / 2
 spend-symlink limit links a b few short some = omega arith
 
-spend-most : (limit links a : ℕ) → a ≤ 255 → 128 * (limit - links) + (a + 1) / 2 ≤ 128 * (limit + 1)
+spend-most : (limit links a : ℕ) → a ≤ pathLimit → 128 * (limit - links) + (a + 1) / 2 ≤ 128 * (limit + 1)
 spend-most limit links a short = omega arith
 
-pub budget-falls : (w u : Position) → bare (w .rest) ≡ false → Goes w u → budget u < budget w
+falls-behind : (w u : Position) → bare (w .rest) ≡ false → bare (u .rest) ≡ false → u .links ≡ w .links → u .rest ≡ behind (w .rest)
+    → budget u < budget w
 unfolding budget
-budget-falls w u more g = ⊎-elim (λ on. component-read (on .0) (on .1)) (λ on. symlink-read (on .0) (on .1) (on .2)) (g .way)
-  where
-    component-read : u .links ≡ w .links → u .rest ≡ behind (w .rest) → 128 * (linkLimit - u .links) + (length (skip (u .rest)) + 1) / 2 < 128 * (linkLimit - w .links) + (length (skip (w .rest)) + 1) / 2
-    component-read e r =
-        rw e (spend-component linkLimit (w .links) _ _ (rw r (behind-short (w .rest) more (rw r at (g .more)))))
-    symlink-read : u .links ≡ w .links + 1 → w .links < linkLimit → length (u .rest) ≤ pathLimit → 128 * (linkLimit - u .links) + (length (skip (u .rest)) + 1) / 2 < 128 * (linkLimit - w .links) + (length (skip (w .rest)) + 1) / 2
-    symlink-read e few short =
-        rw e (spend-symlink linkLimit (w .links) _ _ few (le-trans (skip-le (u .rest)) short) (skip-more (w .rest) more))
+falls-behind w u more left e r =
+    rw e (spend-component linkLimit (w .links) _ _ (rw r (behind-short (w .rest) more (rw r at left))))
+
+falls-symlink : (w u : Position) → bare (w .rest) ≡ false → u .links ≡ w .links + 1 → w .links < linkLimit → length (u .rest) ≤ pathLimit
+    → budget u < budget w
+unfolding budget
+falls-symlink w u more e few short =
+    rw e (spend-symlink linkLimit (w .links) _ _ few (le-trans (skip-le (u .rest)) short) (skip-more (w .rest) more))
+
+pub budget-falls : (w u : Position) → bare (w .rest) ≡ false → Goes w u → budget u < budget w
+budget-falls w u more g =
+    ⊎-elim (λ on. falls-behind w u more (g .more) (on .0) (on .1)) (λ on. falls-symlink w u more (on .0) (on .1) (on .2)) (g .way)
 
 -- A position that a walk may stand at: a component is left, the limits are kept, and what was spent and what can be is no more than the
 -- bound. It holds where a walk begins and from step to step.
@@ -183,7 +192,8 @@ module _ (v : View) (who : Credentials) where
       let b = budget-falls w u more g in
       rw (s, walkFrom) (led n l (g .more) (omega arith))
 
-  pub same-end : (n m : ℕ) (w : Position) → bare (w .rest) ≡ false → budget w ≤ n → budget w ≤ m → walkFrom v who n w ≡ walkFrom v who m w
+  pub same-end : (n m : ℕ) (w : Position) → bare (w .rest) ≡ false → budget w ≤ n → budget w ≤ m
+      → walkFrom v who n w ≡ walkFrom v who m w
   same-end n m w more enough also = led n (leads m w more also) more enough
 
   -- the components counted: one at least, and no more than the budget
@@ -209,13 +219,59 @@ module _ (v : View) (who : Credentials) where
       led stepLimit (next s (leads stepLimit u (q .more) (ready-budget u q))) (r .more) (ready-budget w r)
 
 -- where the walk of a path begins
-abbrev pub startOf : View → ℕ → ℕ → List ℕ → Position
-startOf v current start path =
+abbrev pub startOf : View → Credentials → ℕ → ℕ → List ℕ → Position
+startOf v who current start path =
     record { rest = path; directory = startDirectory v who current start path; links = 0; steps = 0; waived = startWaived v who start path }
 
 -- a path that a walk begins on: none of rules 53 to 56 refuses it
-pub record Begins (v : View) (start : ℕ) (path : List ℕ) : Type 0 where
+pub record Begins (v : View) (who : Credentials) (start : ℕ) (path : List ℕ) : Type 0 where
   pub some : empty path ≡ false
   pub short : length path ≤ pathLimit
-  pub reached : startClosed v start path ≡ false
+  pub reached : startClosed v who start path ≡ false
   pub more : bare path ≡ false
+
+module _ (v : View) (who : Credentials) (current start : ℕ) (path : List ℕ) where
+  pub ready-start : bare path ≡ false → length path ≤ pathLimit → Ready (startOf v who current start path)
+  ready-start more short = ready-new (startOf v who current start path) more short refl refl
+
+  pub walk-begins : Begins v who start path → walk v who current start path ≡ walkFrom v who stepLimit (startOf v who current start path)
+  unfolding walk
+  walk-begins b = rw (b .some, le-ltb pathLimit (length path) (b .short), b .reached, b .more)
+
+  -- the end of a walk is what its steps lead to, whatever the fuel from the bound on; the clause for no fuel is never what it ends by
+  pub walk-leads : Begins v who start path → Leads v who (startOf v who current start path) (walk v who current start path)
+  walk-leads b =
+      let r = ready-start (b .more) (b .short) in
+      rw (walk-begins b) (leads v who stepLimit (startOf v who current start path) (r .more) (ready-budget _ r))
+
+  pub walk-fuel : Begins v who start path → (n : ℕ) → stepLimit ≤ n
+      → walkFrom v who n (startOf v who current start path) ≡ walk v who current start path
+  walk-fuel b n enough =
+      let r = ready-start (b .more) (b .short) in
+      led v who n (walk-leads b) (r .more) (le-trans (ready-budget _ r) enough)
+
+  -- rule 68: a walk that begins counts, and the bound holds for every path
+  pub walk-counts : Begins v who start path → 0 < stepsOf (walk v who current start path)
+  walk-counts b = counts v who (walk-leads b)
+
+  pub walk-bound : stepsOf (walk v who current start path) ≤ stepLimit
+  unfolding walk
+  walk-bound = by-blank (empty path)
+    where
+      by-unnamed : (b : Bool) → bare path ≡ b → length path ≤ pathLimit → stepsOf (unnamed v who b current start path) ≤ stepLimit
+      by-unnamed true e short = zero-le
+      by-unnamed false e short =
+          let r = ready-start e short in
+          le-trans (spends v who (leads v who stepLimit (startOf v who current start path) e (ready-budget _ r)) e) (r .within)
+
+      by-closed : (b : Bool) → length path ≤ pathLimit → stepsOf (closed v who b current start path) ≤ stepLimit
+      by-closed true short = zero-le
+      by-closed false short = by-unnamed (bare path) refl short
+
+      by-long : (b : Bool) → ltb pathLimit (length path) ≡ b → stepsOf (long v who b current start path) ≤ stepLimit
+      by-long true e = zero-le
+      by-long false e = by-closed (startClosed v who start path) (ltb-false _ _ e)
+
+      by-blank : (b : Bool) → stepsOf (blank v who b current start path) ≤ stepLimit
+      by-blank true = zero-le
+      by-blank false = by-long (ltb pathLimit (length path)) refl

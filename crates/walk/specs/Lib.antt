@@ -7,3 +7,4 @@ pub mod Walk
 pub mod State
 pub mod PathLaws
 pub mod Bound
+pub mod Bench

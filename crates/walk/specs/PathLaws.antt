@@ -1,32 +1,34 @@
 -- Laws of the first slash and of what is left of a path: a component read makes the rest shorter. Assumes nothing.
-use mathlib.Core.Path.{_≡_, refl, sym, _∙_}
+use mathlib.Core.Path.{_≡_, refl}
 use mathlib.Core.Logic.{_⊎_, inl, inr, ⊎-elim}
-use mathlib.Core.Bool.{Bool, true, false, not, cond}
+use mathlib.Core.Bool.{Bool, true, false, not}
 use mathlib.Core.List.{List, _++_}
-use Prim.Native.Nat.{ℕ, zero, suc, _+_, _-_, _≤_, _<_, zero-le}
+use Prim.Native.Nat.{ℕ, zero, suc, _+_, _≤_, _<_}
 use native.Mathlib.Nat.{eq-or-lt-of-le, eq-zero-or-pos, lt-of-not-le, le-of-suc-le-suc, le-refl, add-zero}
 use native.Mathlib.Omega.{arith}
-use lib.ListN.{length, getD, drop, length-append, length-drop}
+use lib.ListN.{length, getD, length-append, length-drop}
 use lib.Seq.{getD-drop, getD-append-add}
 use borrow.Author.Tests.{eqb-false, ne-eqb, not-true}
 use Rattle.seq.specs.Truth.{not-both}
-use Rattle.seq.specs.Search.{any, first, any-none, any-hit, any-miss, any-not}
-use Rattle.walk.specs.Path.{isSlash, slashes, nameBytes, skip, component, behind, bare}
+use Rattle.seq.specs.Search.{any, first, any-hit, any-not}
+use Rattle.walk.specs.Path.{isSlash, slashes, nameBytes, skip, behind, bare}
 
--- Of a search for the first: none passes, or it is one that passes and none below it does.
 module _ (p : ℕ → Bool) where
-  first-cases : (n : ℕ) → ((any p n ≡ false) × (first p n ≡ n)) ⊎ ((first p n < n) × (any p (first p n) ≡ false) × (p (first p n) ≡ true))
+  -- of a search for the first: none passes, or it is one that passes and none below it does
+  abbrev First : ℕ → Type 0
+  First n = ((any p n ≡ false) × (first p n ≡ n)) ⊎ ((first p n < n) × (any p (first p n) ≡ false) × (p (first p n) ≡ true))
+
+  first-cases : (n : ℕ) → First n
   unfolding any first
   first-cases zero = inl (refl, refl)
-  first-cases (suc n) = ⊎-elim (λ none. here (p n) refl none) (λ hit. below hit) (first-cases n)
+  first-cases (suc n) = ⊎-elim (λ none. here (p n) refl (none .0)) (λ hit. below (hit .0) (hit .1) (hit .2)) (first-cases n)
     where
-      here : (b : Bool) → p n ≡ b → (any p n ≡ false) × (first p n ≡ n)
-          → ((any p (suc n) ≡ false) × (first p (suc n) ≡ suc n)) ⊎ ((first p (suc n) < suc n) × (any p (first p (suc n)) ≡ false) × (p (first p (suc n)) ≡ true))
-      here true e none = inr (rw (none .0, e) (le-refl (suc n)), rw (none .0, e) (none .0), rw (none .0, e) e)
-      here false e none = inl (rw (none .0, e), rw (none .0, e))
-      below : (first p n < n) × (any p (first p n) ≡ false) × (p (first p n) ≡ true)
-          → ((any p (suc n) ≡ false) × (first p (suc n) ≡ suc n)) ⊎ ((first p (suc n) < suc n) × (any p (first p (suc n)) ≡ false) × (p (first p (suc n)) ≡ true))
-      below (l, none, e) =
+      here : (b : Bool) → p n ≡ b → any p n ≡ false → First (suc n)
+      here true e none = inr (rw (none, e) (le-refl (suc n)), rw (none, e) none, rw (none, e) e)
+      here false e none = inl (rw (none, e), rw (none, e))
+
+      below : first p n < n → any p (first p n) ≡ false → p (first p n) ≡ true → First (suc n)
+      below l none e =
           let some : any p n ≡ true = any-hit p n (first p n) l e in
           inr (rw some (omega arith), rw some none, rw some e)
 
@@ -80,6 +82,7 @@ name-more p more = ⊎-elim (λ e. absurd (not-both _ (starts e) ends)) (λ l. l
   where
     ends : isSlash (getD (skip p) 0 0) ≡ false
     ends = rw (getD-drop, add-zero) (slashes-end p (more-slashes p more))
+
     starts : nameBytes (skip p) ≡ 0 → isSlash (getD (skip p) 0 0) ≡ true
     starts e = rw e at (name-end (skip p) (rw e (skip-more p more)))
 
@@ -89,10 +92,13 @@ behind-slash p more = ⊎-elim (λ e. absurd (not-both _ starts (ends e))) (λ l
   where
     left : slashes (behind p) < length (behind p)
     left = more-slashes (behind p) more
+
     inside : nameBytes (skip p) < length (skip p)
     inside = omega (arith, left, length-drop (nameBytes (skip p)) (skip p))
+
     starts : isSlash (getD (behind p) 0 0) ≡ true
     starts = rw (getD-drop, add-zero) (name-end (skip p) inside)
+
     ends : slashes (behind p) ≡ 0 → isSlash (getD (behind p) 0 0) ≡ false
     ends e = rw e at (slashes-end (behind p) left)
 
@@ -110,7 +116,9 @@ bare-append text rest more = slashes-more (text ++ rest) (omega (arith, upto, in
   where
     left : slashes rest < length rest
     left = more-slashes rest more
+
     inside : length text + slashes rest < length (text ++ rest)
     inside = rw length-append (omega (arith, left))
+
     upto : slashes (text ++ rest) ≤ length text + slashes rest
     upto = slashes-upto (text ++ rest) (length text + slashes rest) inside (rw getD-append-add (slashes-end rest left))
