@@ -3,3 +3,4 @@ pub mod Contents
 pub mod Record
 pub mod Fields
 pub mod View
+pub mod Bench

@@ -4,7 +4,7 @@ use mathlib.Core.Bool.{Bool, true, _&&_, not}
 use mathlib.Core.List.{List}
 use Prim.Native.Nat.{ℕ, _-_, _≤_, _<_}
 use lib.Dec.{eqb, ltb}
-use borrow.Author.Tests.{ltb-true}
+use borrow.Author.Tests.{ltb-true, lt-ltb, eq-eqb, ne-eqb}
 use Rattle.seq.specs.Truth.{and-left}
 use Rattle.layout.specs.declared.Shape.{Shape}
 use Rattle.layout.specs.Contents.{Laid}
@@ -118,6 +118,15 @@ isKind-below h s i k e = ltb-true _ _ (and-left (ltb i (h .inodes)) _ e)
 pub isUsed-below : (h : Shape) (s : List ℕ) (i : ℕ) → isUsed (viewOf h s) i ≡ true → i < h .inodes
 unfolding viewOf
 isUsed-below h s i e = ltb-true _ _ (and-left (ltb i (h .inodes)) _ e)
+
+-- and one below it is of the type that its record says
+pub is-kind : (h : Shape) (s : List ℕ) (i k : ℕ) → i < h .inodes → viewOf h s .kind i ≡ k → isKind (viewOf h s) i k ≡ true
+unfolding viewOf
+is-kind h s i k l e = rw (lt-ltb _ _ l, eq-eqb _ _ e)
+
+pub is-other : (h : Shape) (s : List ℕ) (i k : ℕ) → i < h .inodes → (viewOf h s .kind i ≡ k → ⊥) → isKind (viewOf h s) i k ≡ false
+unfolding viewOf
+is-other h s i k l n = rw (lt-ltb _ _ l, ne-eqb _ _ n)
 
 -- Every number in a record leads somewhere: what a reader that follows them relies on. A consistent image is readable.
 pub record Readable (h : Shape) (s : List ℕ) : Type 0 where

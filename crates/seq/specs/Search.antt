@@ -1,12 +1,12 @@
 -- Searches over the numbers below a bound: `any`, `all`, `first`, `count`, with the law for one turn of a loop that counts up. Assumes nothing.
 use mathlib.Core.Path.{_≡_, refl, sym, ap₂}
 use mathlib.Core.Bool.{Bool, true, false, _&&_, _||_, cond, or-true, and-false, false≢true}
-use mathlib.Core.Logic.{⊎-elim}
+use mathlib.Core.Logic.{_⊎_, inl, inr, ⊎-elim}
 use Prim.Native.Nat.{ℕ, zero, suc, _+_, _<_, _≤_}
-use native.Mathlib.Nat.{eq-or-lt-of-le, not-suc-le-zero, le-of-suc-le-suc, le-refl}
+use native.Mathlib.Nat.{eq-or-lt-of-le, not-suc-le-zero, le-of-suc-le-suc, le-refl, lt-of-not-le}
 use native.Mathlib.Numerals.{add-one}
 use native.Mathlib.Omega.{arith}
-use Rattle.seq.specs.Truth.{and-left, and-right, and-both}
+use Rattle.seq.specs.Truth.{and-left, and-right, and-both, not-both}
 
 -- some number below n passes
 unfoldable pub any : (ℕ → Bool) → ℕ → Bool
@@ -146,26 +146,36 @@ module _ (p : ℕ → Bool) where
   first-none zero none = refl
   first-none (suc n) none = rw (any-front n none, any-last n none)
 
-  -- where some number passes, the first that does is below n
-  pub first-below : (n : ℕ) → any p n ≡ true → first p n < n
-  unfolding first any
-  first-below zero some = absurd (false≢true some)
-  first-below (suc n) some = go (λ e. first-below n e) (any p n) (p n) refl some
+  -- of a search for the first: none passes, or it is one that passes and none below it does
+  abbrev First : ℕ → Type 0
+  First n = ((any p n ≡ false) × (first p n ≡ n)) ⊎ ((first p n < n) × (any p (first p n) ≡ false) × (p (first p n) ≡ true))
+
+  first-cases : (n : ℕ) → First n
+  unfolding any first
+  first-cases zero = inl (refl, refl)
+  first-cases (suc n) = ⊎-elim (λ none. here (p n) refl (none .0)) (λ hit. below (hit .0) (hit .1) (hit .2)) (first-cases n)
     where
-      go : (any p n ≡ true → first p n < n) → (a b : Bool) → any p n ≡ a → (a || b) ≡ true → cond a (first p n) (cond b n (suc n)) < suc n
-      go r true b e h = let l = r e in omega arith
-      go r false true e h = omega arith
-      go r false false e h = absurd (false≢true h)
+      here : (b : Bool) → p n ≡ b → any p n ≡ false → First (suc n)
+      here true e none = inr (rw (none, e) (le-refl (suc n)), rw (none, e) none, rw (none, e) e)
+      here false e none = inl (rw (none, e), rw (none, e))
+
+      below : first p n < n → any p (first p n) ≡ false → p (first p n) ≡ true → First (suc n)
+      below l none e =
+          let some : any p n ≡ true = any-hit p n (first p n) l e in
+          inr (rw some (omega arith), rw some none, rw some e)
 
   pub first-le : (n : ℕ) → first p n ≤ n
-  unfolding first
-  first-le zero = omega arith
-  first-le (suc n) = go (any p n) (p n) (first-le n)
-    where
-      go : (a b : Bool) → first p n ≤ n → cond a (first p n) (cond b n (suc n)) ≤ suc n
-      go true b h = omega arith
-      go false true h = omega arith
-      go false false h = omega arith
+  first-le n = ⊎-elim (λ none. let e = none .1 in omega arith) (λ hit. let l = hit .0 in omega arith) (first-cases n)
+
+  pub first-passes : (n : ℕ) → first p n < n → p (first p n) ≡ true
+  first-passes n l = ⊎-elim (λ none. let e = none .1 in absurd (omega arith)) (λ hit. hit .2) (first-cases n)
+
+  -- it comes no later than any that passes
+  pub first-upto : (n k : ℕ) → k < n → p k ≡ true → first p n ≤ k
+  first-upto n k l here =
+      ⊎-elim (λ none. absurd (not-both (p k) here (any-not p n (none .0) k l)))
+      (λ hit. le-of-suc-le-suc (lt-of-not-le (λ low. not-both (p k) here (any-not p (first p n) (hit .1) k low))))
+      (first-cases n)
 
 -- tests that agree below n give the same search
 module _ (p q : ℕ → Bool) where

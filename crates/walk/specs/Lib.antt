@@ -4,5 +4,9 @@ pub mod Permission
 pub mod Lookup
 pub mod Step
 pub mod Walk
+pub mod PathLaws
+pub mod Bound
+pub mod Bench
 pub mod State
 pub mod Splice
+pub mod Turns

@@ -15,32 +15,10 @@ use Rattle.seq.specs.Bytes.{part, part-length, put, put-join, put-zeros}
 use Rattle.walk.specs.declared.state.Walk.{Walk}
 use Rattle.walk.specs.declared.state.Ending.the-variants.{Going}
 use Rattle.walk.specs.declared.state.Turn.{Turn}
-use Rattle.walk.specs.Path.{isSlash, slashes, bare, absolute}
+use Rattle.walk.specs.Path.{bare, absolute}
+use Rattle.walk.specs.PathLaws.{bare-append}
 use Rattle.walk.specs.Step.{spliced}
 use Rattle.walk.specs.State.{filled, restFrom, positionOf, Fit, Turned, Ahead}
-
--- a byte of a path that is no slash
-abbrev nameAt : List ℕ → ℕ → Bool
-nameAt p k = not (isSlash (getD p k 0))
-
--- a path with a component has a byte that is no slash, and the other way round
-pub some-name : (p : List ℕ) → bare p ≡ false → any (nameAt p) (length p) ≡ true
-unfolding slashes
-some-name p h = go (any (nameAt p) (length p)) refl
-  where
-    go : (b : Bool) → any (nameAt p) (length p) ≡ b → b ≡ true
-    go true e = refl
-    go false e = absurd (eqb-false _ _ h (first-none (nameAt p) (length p) e))
-
-pub name-some : (p : List ℕ) → any (nameAt p) (length p) ≡ true → bare p ≡ false
-unfolding slashes
-name-some p h = ne-eqb (slashes p) (length p) (λ e. let l = first-below (nameAt p) (length p) h in omega arith)
-
--- bytes ahead of a path with a component leave it one
-pub bare-append : (a p : List ℕ) → bare p ≡ false → bare (a ++ p) ≡ false
-bare-append a p h =
-    let (k, l, e) = any-at (nameAt p) (length p) (some-name p h) in
-    name-some (a ++ p) (any-hit (nameAt (a ++ p)) (length (a ++ p)) (length a + k) (rw length-append (omega arith)) (rw getD-append-add e))
 
 -- the working path holds what was put into it
 pub filled-part : (p : List ℕ) (n : ℕ) → n ≡ length p → part (filled p) 0 (n - 0) ≡ p
