@@ -10,7 +10,6 @@ use Rattle.layout.specs.Contents.{shapeOf}
 use Rattle.layout.specs.Record.{recordAt}
 use Rattle.layout.specs.View.{View, viewOf}
 use Rattle.layout.specs.Bench.{bench}
-use Rattle.walk.specs.declared.request.Credentials.{Credentials}
 use Rattle.walk.specs.Permission.{allows}
 use Rattle.walk.specs.Path.{slashes, nameBytes}
 use Rattle.walk.specs.Lookup.{isNamed, lookup}

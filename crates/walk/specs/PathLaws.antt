@@ -1,16 +1,16 @@
 -- Laws of the first slash and of what is left of a path: a component read makes the rest shorter. Assumes nothing.
-use mathlib.Core.Path.{_≡_, refl}
-use mathlib.Core.Logic.{_⊎_, inl, inr, ⊎-elim}
-use mathlib.Core.Bool.{Bool, true, false, not}
+use mathlib.Core.Path.{_≡_}
+use mathlib.Core.Logic.{⊎-elim}
+use mathlib.Core.Bool.{true, false, not}
 use mathlib.Core.List.{List, _++_}
-use Prim.Native.Nat.{ℕ, zero, suc, _+_, _≤_, _<_}
-use native.Mathlib.Nat.{eq-or-lt-of-le, eq-zero-or-pos, lt-of-not-le, le-of-suc-le-suc, le-refl, add-zero}
+use Prim.Native.Nat.{ℕ, _+_, _≤_, _<_}
+use native.Mathlib.Nat.{eq-or-lt-of-le, eq-zero-or-pos, add-zero}
 use native.Mathlib.Omega.{arith}
 use lib.ListN.{length, getD, length-append, length-drop}
 use lib.Seq.{getD-drop, getD-append-add}
 use borrow.Author.Tests.{eqb-false, ne-eqb, not-true}
 use Rattle.seq.specs.Truth.{not-both}
-use Rattle.seq.specs.Search.{any, first, any-hit, any-not, first-le, first-passes, first-upto}
+use Rattle.seq.specs.Search.{first-le, first-passes, first-upto}
 use Rattle.walk.specs.Path.{isSlash, slashes, nameBytes, skip, behind, bare}
 
 -- a byte that is no slash ends the slashes

@@ -1,5 +1,5 @@
 -- Permission: the class that a caller falls in, and its bits (rule 50). Assumes nothing.
-use mathlib.Core.Bool.{Bool, true, false, _||_, cond}
+use mathlib.Core.Bool.{Bool, _||_, cond}
 use Prim.Native.Nat.{ℕ, _*_, _/_, _%_}
 use lib.Dec.{eqb}
 use Rattle.layout.specs.View.{View}

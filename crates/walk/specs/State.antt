@@ -1,12 +1,11 @@
 -- The code's state of a walk as a position of the definition: the unread rest is a part of the working path. Assumes nothing.
-use mathlib.Core.Path.{_≡_, refl, sym, ap, _∙_}
-use mathlib.Core.Bool.{Bool, true, false}
-use mathlib.Core.List.{List, [], _∷_, _++_}
+use mathlib.Core.Path.{_≡_}
+use mathlib.Core.Bool.{false}
+use mathlib.Core.List.{List, _++_}
 use Prim.Native.Nat.{ℕ, _+_, _-_, _≤_, _<_}
 use lib.ListN.{length, replicate}
 use Rattle.seq.specs.Bytes.{part}
 use Rattle.walk.specs.declared.state.Walk.{Walk}
-use Rattle.walk.specs.declared.state.Refusal as Declared
 use Rattle.walk.specs.declared.state.Ending.{Ending}
 use Rattle.walk.specs.declared.state.Ending.the-variants.{Going, Existing, Missing, Refused}
 use Rattle.walk.specs.declared.state.Turn.{Turn}
@@ -38,6 +37,7 @@ stepOf r = endingOf (r .walk) (r .ending)
 pub record Fit (w : Walk) : Type 0 where
   pub within : w .at ≤ w .len
   pub short : w .len ≤ 255
+  pub whole : length (w .path) ≡ 256
   pub more : bare (restFrom w (w .at)) ≡ false
 
 -- what is known of a state that goes on: it can be read, and one more component counts
@@ -56,4 +56,5 @@ pub record Turned (r : Turn) (x : Step) (n : ℕ) : Type 0 where
 pub record Ahead (w : Walk) (e : ℕ) : Type 0 where
   pub within : e ≤ w .len
   pub short : w .len ≤ 255
+  pub whole : length (w .path) ≡ 256
   pub few : w .steps < 65535

@@ -1,8 +1,8 @@
 -- The walk of a path, component by component: what is asked of each, symlinks spliced in (rules 57 to 67). Assumes nothing.
 use mathlib.Core.Bool.{Bool, true, false, _&&_, _||_, not, cond}
-use mathlib.Core.List.{List, [], _∷_, _++_}
+use mathlib.Core.List.{List, _++_}
 use Prim.Native.Nat.{ℕ, _+_}
-use lib.Dec.{eqb, ltb, leb}
+use lib.Dec.{ltb, leb}
 use lib.ListN.{length}
 use Rattle.layout.specs.View.{View, isDirectory, isKind}
 use Rattle.walk.specs.declared.request.Credentials.{Credentials}

@@ -1,10 +1,10 @@
 -- The ways out of each decision about a component: from the answer of the part that decides to that of the whole. Assumes nothing.
-use mathlib.Core.Path.{_≡_, refl, sym, ap, _∙_}
-use mathlib.Core.Bool.{Bool, true, false, _&&_, _||_, not, cond}
+use mathlib.Core.Path.{_≡_, sym, ap, _∙_}
+use mathlib.Core.Bool.{Bool, true, false, _&&_, _||_, not}
 use mathlib.Core.List.{List}
 use Prim.Native.Nat.{ℕ, _+_, _-_, _≤_, _<_}
 use native.Mathlib.Omega.{arith}
-use lib.Dec.{eqb, ltb, leb}
+use lib.Dec.{ltb, leb}
 use lib.ListN.{length, take, drop}
 use borrow.Author.Tests.{lt-ltb, le-ltb}
 use Rattle.seq.specs.Bytes.{part, part-take, part-drop}
@@ -14,8 +14,16 @@ use Rattle.walk.specs.declared.state.Turn.{Turn}
 use Rattle.walk.specs.Permission.{searchBit, allows}
 use Rattle.walk.specs.Path.{slashes, nameBytes, skip, component, behind, empty, bare, isDot, isDotDot}
 use Rattle.walk.specs.Lookup.{lookup}
-use Rattle.walk.specs.Step.{linkLimit, Position, existing, missing, ends, refuse, move, followed, miss, entered, arrived, hit, sought, dotted, named, fitting, step}
+use Rattle.walk.specs.Step.{linkLimit, Position, existing, missing, ends, refuse, move, followed, miss, entered, arrived, hit, sought, dotted, fitting, step}
 use Rattle.walk.specs.State.{Turned}
+
+module _ (r : Turn) (w : Position) (n : ℕ) where
+  pub misses-last : (name rest : List ℕ) (slash : Bool) → bare rest ≡ true → slash ≡ not (empty rest)
+      → Turned r (ends (missing (w .directory) name slash (w .steps + 1))) n → Turned r (miss (bare rest) w name rest) n
+  misses-last name rest slash b e turned = rw (b, ← e) turned
+
+  pub misses-more : (name rest : List ℕ) → bare rest ≡ false → Turned r (refuse 2 w) n → Turned r (miss (bare rest) w name rest) n
+  misses-more name rest b turned = rw b turned
 
 module _ (v : View) (r : Turn) (w : Position) (n : ℕ) where
   pub enters-link : (rest text : List ℕ) (t : ℕ) → isKind v t 3 ≡ true → text ≡ v .text (v .field t)
@@ -27,11 +35,11 @@ module _ (v : View) (r : Turn) (w : Position) (n : ℕ) where
 
   pub arrives-plain : (rest : List ℕ) (j t : ℕ) → t ≡ v .target j → empty rest ≡ true → Turned r (ends (existing (w .directory) j t false (w .steps + 1))) n
       → Turned r (arrived v (not (empty rest) && not (isDirectory v t)) w rest j) n
-  arrives-plain rest j t e z turned = rw (z, ← e) turned
+  arrives-plain rest j t e z turned = rw (z, z, ← e) turned
 
   pub arrives-directory : (rest : List ℕ) (j t : ℕ) → t ≡ v .target j → empty rest ≡ false → isDirectory v t ≡ true
       → Turned r (ends (existing (w .directory) j t true (w .steps + 1))) n → Turned r (arrived v (not (empty rest) && not (isDirectory v t)) w rest j) n
-  arrives-directory rest j t e z d turned = rw (z, d, ← e) turned
+  arrives-directory rest j t e z d turned = rw (z, d, z, ← e) turned
 
   pub arrives-other : (rest : List ℕ) (j t : ℕ) → empty rest ≡ false → isDirectory v t ≡ false → Turned r (refuse 20 w) n
       → Turned r (arrived v (not (empty rest) && not (isDirectory v t)) w rest j) n
@@ -44,13 +52,6 @@ module _ (v : View) (r : Turn) (w : Position) (n : ℕ) where
   pub hits-more : (rest : List ℕ) (j t : ℕ) → t ≡ v .target j → bare rest ≡ false → Turned r (entered v (isKind v t 3) w rest t) n
       → Turned r (hit v (bare rest) w rest j) n
   hits-more rest j t e b turned = rw (b, ← e) turned
-
-  pub misses-last : (name rest : List ℕ) (slash : Bool) → bare rest ≡ true → slash ≡ not (empty rest)
-      → Turned r (ends (missing (w .directory) name slash (w .steps + 1))) n → Turned r (miss (bare rest) w name rest) n
-  misses-last name rest slash b e turned = rw (b, ← e) turned
-
-  pub misses-more : (name rest : List ℕ) → bare rest ≡ false → Turned r (refuse 2 w) n → Turned r (miss (bare rest) w name rest) n
-  misses-more name rest b turned = rw b turned
 
   pub seeks-hit : (name rest : List ℕ) (j l m : ℕ) → j ≡ l → j < m → Turned r (hit v (bare rest) w rest j) n → Turned r (sought v (ltb l m) w name rest l) n
   seeks-hit name rest j l m e below turned = rw (← e, lt-ltb _ _ below) turned

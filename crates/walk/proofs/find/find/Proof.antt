@@ -1,16 +1,14 @@
-use mathlib.Core.Bool.{true, false, not}
+-- `walk::find::find` meets its contract. Assumes nothing.
+use mathlib.Core.Path.{_≡_, sym, _∙_}
+use mathlib.Core.Bool.{false}
+use Prim.Native.Nat.{_≤_, _-_}
+use native.Mathlib.Omega.{arith}
+use borrow.Author.Needs.{needs}
 use Rattle.seq.specs.Search.{any, any-none, any-miss, first-hit, first-none}
 use Rattle.layout.specs.View.{viewOf}
 use Rattle.walk.specs.Lookup.{isNamed, lookup}
-use mathlib.Core.Path.{_≡_, sym, _∙_}
-use Prim.Native.Nat.{_≤_, _<_, _-_, _+_, _*_}
-use native.Mathlib.Omega.{arith}
-use borrow.Author.Needs.{needs}
 use Rattle.walk.proofs.find.find.Statement.{statement}
 use Rattle.walk.proofs.find.find.Tie as tie
-use Rattle.walk.proofs.find.find.Reads as reads
-use Rattle.walk.proofs.find.find.Lts as lts
-use Rattle.walk.proofs.find.is_named.Reads as is-named-reads
 
 abbrev Inv-loop : tie.InvT-loop
 Inv-loop s h d name n j₀ j = (j ≤ n) × (any (isNamed (viewOf h s) d name) j ≡ false)
@@ -18,32 +16,25 @@ Inv-loop s h d name n j₀ j = (j ≤ n) × (any (isNamed (viewOf h s) d name) j
 abbrev μ-loop : tie.MeasureT-loop
 μ-loop s h d name n j₀ j = n - j
 
--- src/find.rt:30:5
 loop-holds : tie.Need-loop-holds Inv-loop μ-loop
 loop-holds c = (search needs, any-none _)
 
--- src/find.rt:31:12
 is-named-requires : tie.Need-is-named-requires Inv-loop μ-loop
 is-named-requires c κs = search needs
 
--- src/find.rt:32:13
 returns : tie.Need-returns Inv-loop μ-loop
 unfolding lookup viewOf
 returns c = (sym (first-hit _ _ _ (c .before .before .loop-test .taken) (c .before .before .before .loop .inv .1) (sym (c .before .is-named .ensures) ∙ c .if1 .taken)), search needs)
 
--- src/find.rt:34:9
 add-j : tie.Need-add-j Inv-loop μ-loop
 add-j c = search needs
 
--- src/find.rt:30:5
 loop-less : tie.Need-loop-less Inv-loop μ-loop
 loop-less c = search needs
 
--- src/find.rt:30:5
 loop-again : tie.Need-loop-again Inv-loop μ-loop
 loop-again c = (search needs, any-miss _ _ (c .before .before .before .loop .inv .1) (sym (c .before .is-named .ensures) ∙ c .if1 .left))
 
--- src/find.rt:24:1
 returns-2 : tie.Need-returns-2 Inv-loop μ-loop
 unfolding lookup viewOf
 returns-2 c = let e : c .before .loop .j ≡ c .before .before .before .before .args .h .entries = omega arith in

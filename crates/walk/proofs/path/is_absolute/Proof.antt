@@ -1,22 +1,18 @@
+-- `walk::path::is_absolute` meets its contract. Assumes nothing.
 use mathlib.Core.Path.{_≡_}
 use native.Mathlib.Omega.{arith}
 use lib.ListN.{getD, List·getD-eq-default}
 use borrow.Author.Needs.{needs}
 use Rattle.walk.proofs.path.is_absolute.Statement.{statement}
 use Rattle.walk.proofs.path.is_absolute.Tie as tie
-use Rattle.walk.proofs.path.is_absolute.Reads as reads
-use Rattle.walk.proofs.path.is_absolute.Lts as lts
 
--- src/path.rt:48:9
 returns : tie.Need-returns
 returns c = let e : getD (c .before .args .p .now) 0 0 ≡ 0 = List·getD-eq-default (c .before .args .p .now) 0 (omega arith) in
     simp e
 
--- src/path.rt:50:5
 shared-slice-read-result : tie.Need-shared-slice-read-result
 shared-slice-read-result c = search needs
 
--- src/path.rt:44:1
 returns-2 : tie.Need-returns-2
 returns-2 c = search needs
 

@@ -1,16 +1,15 @@
-use mathlib.Core.Bool.{true, false, not}
-use borrow.Author.Tests.{eq-eqb, ne-eqb, lt-ltb, le-ltb, le-leb, lt-leb}
+-- `walk::path::name_bytes` meets its contract. Assumes nothing.
+use mathlib.Core.Path.{_≡_, sym, _∙_}
+use mathlib.Core.Bool.{false}
+use Prim.Native.Nat.{_≤_, _-_}
+use native.Mathlib.Omega.{arith}
 use lib.ListN.{length, getD}
+use borrow.Author.Needs.{needs}
+use borrow.Author.Tests.{eq-eqb, ne-eqb}
 use Rattle.seq.specs.Search.{any, any-none, any-miss, first-hit, first-none}
 use Rattle.walk.specs.Path.{isSlash, nameBytes}
-use mathlib.Core.Path.{_≡_, sym, _∙_}
-use Prim.Native.Nat.{_≤_, _<_, _-_, _+_, _*_}
-use native.Mathlib.Omega.{arith}
-use borrow.Author.Needs.{needs}
 use Rattle.walk.proofs.path.name_bytes.Statement.{statement}
 use Rattle.walk.proofs.path.name_bytes.Tie as tie
-use Rattle.walk.proofs.path.name_bytes.Reads as reads
-use Rattle.walk.proofs.path.name_bytes.Lts as lts
 
 abbrev Inv-loop : tie.InvT-loop
 Inv-loop p k₀ k = (k ≤ length p) × (any (λ i. isSlash (getD p i 0)) k ≡ false)
@@ -18,32 +17,25 @@ Inv-loop p k₀ k = (k ≤ length p) × (any (λ i. isSlash (getD p i 0)) k ≡ 
 abbrev μ-loop : tie.MeasureT-loop
 μ-loop p k₀ k = length p - k
 
--- src/path.rt:28:5
 loop-holds : tie.Need-loop-holds Inv-loop μ-loop
 loop-holds c = (search needs, any-none _)
 
--- src/path.rt:29:12
 shared-slice-read-if1 : tie.Need-shared-slice-read-if1 Inv-loop μ-loop
 shared-slice-read-if1 c = search needs
 
--- src/path.rt:30:13
 returns : tie.Need-returns Inv-loop μ-loop
 unfolding nameBytes
 returns c = (sym (first-hit _ _ _ (c .before .before .loop-test .taken) (c .before .before .before .loop .inv .1) (eq-eqb _ _ (c .if1 .taken))), search needs)
 
--- src/path.rt:32:9
 add-k : tie.Need-add-k Inv-loop μ-loop
 add-k c = search needs
 
--- src/path.rt:28:5
 loop-less : tie.Need-loop-less Inv-loop μ-loop
 loop-less c = search needs
 
--- src/path.rt:28:5
 loop-again : tie.Need-loop-again Inv-loop μ-loop
 loop-again c = (search needs, any-miss _ _ (c .before .before .before .loop .inv .1) (ne-eqb _ _ (c .if1 .left)))
 
--- src/path.rt:24:1
 returns-2 : tie.Need-returns-2 Inv-loop μ-loop
 unfolding nameBytes
 returns-2 c = let e : c .before .loop .k ≡ length (c .before .before .args .p .now) = omega arith in

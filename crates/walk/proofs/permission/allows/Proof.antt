@@ -1,64 +1,48 @@
-use mathlib.Core.Path.{sym, _∙_, ap}
-use borrow.Author.Tests.{eq-eqb, ne-eqb, lt-ltb, le-ltb, le-leb, lt-leb}
+-- `walk::permission::allows` meets its contract. Assumes nothing.
+use mathlib.Core.Path.{sym, _∙_}
+use borrow.Author.Needs.{needs}
+use borrow.Author.Tests.{eq-eqb, ne-eqb}
+use Rattle.layout.specs.Fields.{inodeMode, inodeOwner, inodeGroup}
 use Rattle.layout.specs.Record.{field-of}
 use Rattle.layout.specs.View.{viewOf}
-use Rattle.layout.specs.Fields.{inodeMode, inodeOwner, inodeGroup}
 use Rattle.walk.specs.Permission.{allows}
-use borrow.Author.Needs.{needs}
 use Rattle.walk.proofs.permission.allows.Statement.{statement}
 use Rattle.walk.proofs.permission.allows.Tie as tie
-use Rattle.walk.proofs.permission.allows.Reads as reads
-use Rattle.walk.proofs.permission.allows.Lts as lts
-use Rattle.layout.proofs.inode.group.Reads as group-reads
-use Rattle.layout.proofs.inode.mode.Reads as mode-reads
-use Rattle.layout.proofs.inode.owner.Reads as owner-reads
-use Rattle.layout.proofs.records.inode.Reads as inode-reads
 
--- src/permission.rt:16:9
 returns : tie.Need-returns
 unfolding allows viewOf
 returns c = simp (eq-eqb _ _ (c .if1 .taken))
 
--- src/permission.rt:18:9
 inode-requires : tie.Need-inode-requires
 inode-requires c κs = search needs
 
--- src/permission.rt:19:9
 mode-requires : tie.Need-mode-requires
 mode-requires c κs = search needs
 
--- src/permission.rt:20:20
 owner-requires : tie.Need-owner-requires
 owner-requires c κs = search needs
 
--- src/permission.rt:21:24
 mul-result : tie.Need-mul-result
 mul-result c = search needs
 
--- src/permission.rt:21:16
 div-result : tie.Need-div-result
 div-result c = search needs
 
--- src/permission.rt:21:9
 returns-2 : tie.Need-returns-2
 unfolding allows viewOf
 returns-2 c = let m = field-of inodeMode (c .before .before .before .before .inode .ensures) (c .before .before .before .mode .ensures .0) in
     let o = field-of inodeOwner (c .before .before .before .before .inode .ensures) (c .before .before .owner .ensures) in
     simp (ne-eqb _ _ (c .before .before .before .before .before .if1 .left), eq-eqb _ _ (c .if2 .taken ∙ o), m)
 
--- src/permission.rt:23:21
 group-requires : tie.Need-group-requires
 group-requires c κs = search needs
 
--- src/permission.rt:24:24
 mul-result-2 : tie.Need-mul-result-2
 mul-result-2 c = search needs
 
--- src/permission.rt:24:16
 div-result-2 : tie.Need-div-result-2
 div-result-2 c = search needs
 
--- src/permission.rt:24:9
 returns-3 : tie.Need-returns-3
 unfolding allows viewOf
 returns-3 c = let m = field-of inodeMode (c .before .before .before .before .before .before .before .inode .ensures) (c .before .before .before .before .before .before .mode .ensures .0) in
@@ -66,11 +50,9 @@ returns-3 c = let m = field-of inodeMode (c .before .before .before .before .bef
     let g = field-of inodeGroup (c .before .before .before .before .before .before .before .inode .ensures) (c .before .before .group .ensures) in
     simp (ne-eqb _ _ (c .before .before .before .before .before .before .before .before .if1 .left), ne-eqb _ _ (λ e. c .before .before .before .if2 .left (e ∙ sym o)), eq-eqb _ _ (c .if3 .taken ∙ g), m)
 
--- src/permission.rt:26:5
 div-result-3 : tie.Need-div-result-3
 div-result-3 c = search needs
 
--- src/permission.rt:11:1
 returns-4 : tie.Need-returns-4
 unfolding allows viewOf
 returns-4 c = let m = field-of inodeMode (c .before .before .before .before .before .before .before .inode .ensures) (c .before .before .before .before .before .before .mode .ensures .0) in

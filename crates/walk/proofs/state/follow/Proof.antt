@@ -30,7 +30,7 @@ refuse-requires-2 c κs = search needs
 
 -- src/state.rt:138:9
 returns-2 : tie.Need-returns-2
-returns-2 c = let l = rest-length (c .before .before .before .before .before .before .args .w) (c .before .before .before .before .before .before .args .e) (c .before .before .before .before .before .before .pre .0) (search needs) in
+returns-2 c =     let l = rest-length (c .before .before .before .before .before .before .args .w) (c .before .before .before .before .before .before .args .e) (c .before .before .before .before .before .before .pre .0) in
     rw (lt-leb _ _ (c .before .before .before .if1 .left), lt-ltb _ _ (rw (← l) at (c .before .if2 .taken))) (c .refuse2 .ensures)
 
 -- src/state.rt:140:5
@@ -39,7 +39,7 @@ join-requires c κs = search needs
 
 -- src/state.rt:129:1
 returns-3 : tie.Need-returns-3
-returns-3 c = let l = rest-length (c .before .before .before .before .before .before .args .w) (c .before .before .before .before .before .before .args .e) (c .before .before .before .before .before .before .pre .0) (search needs) in
+returns-3 c =     let l = rest-length (c .before .before .before .before .before .before .args .w) (c .before .before .before .before .before .before .args .e) (c .before .before .before .before .before .before .pre .0) in
     rw (lt-leb _ _ (c .before .before .before .if1 .left), le-ltb _ _ (rw (← l) at (c .before .if2 .left))) (c .join .ensures)
 
 pub follow-spec : {M : Type 1} → statement M

@@ -21,8 +21,7 @@ part-splice-start c = search needs
 
 -- src/state.rt:111:42
 part-splice-end : tie.Need-part-splice-end
-part-splice-end c = let m : length (c .before .before .before .args .w .path) ≡ 256 = search needs in
-    omega (arith, c .before .before .before .pre .0 .within, c .before .before .before .pre .0 .short)
+part-splice-end c =     omega (arith, c .before .before .before .pre .0 .within, c .before .before .before .pre .0 .short, c .before .before .before .pre .0 .whole)
 
 -- src/state.rt:111:9
 splice-requires : tie.Need-splice-requires
@@ -43,8 +42,7 @@ add-t15 c = search needs
 -- src/state.rt:105:1
 returns : tie.Need-returns
 unfolding part
-returns c = let m : length (c .before .before .before .before .before .before .before .before .args .w .path) ≡ 256 = search needs in
-    joins (c .before .before .before .before .before .before .before .before .args .w) (c .before .before .before .before .before .before .before .before .args .text .now) _ (c .before .before .before .before .before .before .before .before .args .e) _ _ (c .before .before .before .before .before .before .before .before .pre .0) (c .before .before .before .before .before .before .before .before .pre .1) (c .before .before .before .before .before .before .before .before .pre .2) (c .before .before .before .before .before .before .before .before .pre .3) m (c .before .before .before .splice .ensures) (c .before .before .start .ensures)
+returns c =     joins (c .before .before .before .before .before .before .before .before .args .w) (c .before .before .before .before .before .before .before .before .args .text .now) _ (c .before .before .before .before .before .before .before .before .args .e) _ _ (c .before .before .before .before .before .before .before .before .pre .0) (c .before .before .before .before .before .before .before .before .pre .1) (c .before .before .before .before .before .before .before .before .pre .2) (c .before .before .before .before .before .before .before .before .pre .3) (c .before .before .before .splice .ensures) (c .before .before .start .ensures)
 
 pub join-spec : {M : Type 1} → statement M
 join-spec =

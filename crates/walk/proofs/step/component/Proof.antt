@@ -1,3 +1,11 @@
+use mathlib.Core.Path.{_≡_, sym, _∙_, ap}
+use native.Mathlib.Omega.{arith}
+use Prim.Native.Nat.{_-_}
+use lib.ListN.{length}
+use Rattle.seq.specs.Bytes.{part, part-length}
+use Rattle.layout.specs.View.{viewOf, nameRoom}
+use Rattle.walk.specs.State.{positionOf, restFrom}
+use Rattle.walk.specs.Turns.{fits-not, fits-dots, fits-name}
 use borrow.Author.Needs.{needs}
 use Rattle.walk.proofs.step.component.Statement.{statement}
 use Rattle.walk.proofs.step.component.Tie as tie
@@ -23,7 +31,8 @@ refuse-requires c κs = search needs
 
 -- src/step.rt:118:9
 returns : tie.Need-returns
-returns c = ?
+returns c =     let l = part-length (c .before .before .before .before .args .w .path) (c .before .before .before .before .args .a) (c .before .before .before .before .args .e - c .before .before .before .before .args .a) (omega (arith, c .before .before .before .before .pre .1 .within, c .before .before .before .before .pre .1 .short, c .before .before .before .before .pre .1 .whole)) in
+    fits-not (viewOf (c .before .before .before .before .args .h) (c .before .before .before .before .args .s .now)) _ (positionOf (c .before .before .before .before .args .w)) _ (part (c .before .before .before .before .args .w .path) (c .before .before .before .before .args .a) (c .before .before .before .before .args .e - c .before .before .before .before .args .a)) (restFrom (c .before .before .before .before .args .w) (c .before .before .before .before .args .e)) (nameRoom (c .before .before .before .before .args .h)) (rw (← l) at (c .before .if1 .taken)) (c .refuse .ensures)
 
 -- src/step.rt:121:21
 sub-is-dot : tie.Need-sub-is-dot
@@ -35,7 +44,7 @@ part-is-dot-start c = search needs
 
 -- src/step.rt:121:21
 part-is-dot-end : tie.Need-part-is-dot-end
-part-is-dot-end c = ?
+part-is-dot-end c =     omega (arith, c .before .before .before .before .before .pre .1 .within, c .before .before .before .before .before .pre .1 .short, c .before .before .before .before .before .pre .1 .whole)
 
 -- src/step.rt:121:8
 is-dot-requires : tie.Need-is-dot-requires
@@ -47,7 +56,10 @@ dots-requires c κs = search needs
 
 -- src/step.rt:122:9
 returns-2 : tie.Need-returns-2
-returns-2 c = ?
+unfolding part
+returns-2 c =     let l = part-length (c .before .before .before .before .before .before .before .before .before .args .w .path) (c .before .before .before .before .before .before .before .before .before .args .a) (c .before .before .before .before .before .before .before .before .before .args .e - c .before .before .before .before .before .before .before .before .before .args .a) (omega (arith, c .before .before .before .before .before .before .before .before .before .pre .1 .within, c .before .before .before .before .before .before .before .before .before .pre .1 .short, c .before .before .before .before .before .before .before .before .before .pre .1 .whole)) in
+    let d = sym (c .before .before .is-dot .ensures) ∙ c .before .if2 .taken in
+    fits-dots (viewOf (c .before .before .before .before .before .before .before .before .before .args .h) (c .before .before .before .before .before .before .before .before .before .args .s .now)) _ (positionOf (c .before .before .before .before .before .before .before .before .before .args .w)) _ (part (c .before .before .before .before .before .before .before .before .before .args .w .path) (c .before .before .before .before .before .before .before .before .before .args .a) (c .before .before .before .before .before .before .before .before .before .args .e - c .before .before .before .before .before .before .before .before .before .args .a)) (restFrom (c .before .before .before .before .before .before .before .before .before .args .w) (c .before .before .before .before .before .before .before .before .before .args .e)) (nameRoom (c .before .before .before .before .before .before .before .before .before .args .h)) (rw (← l) at (c .before .before .before .before .before .before .if1 .left)) (rw d) (c .dots .ensures)
 
 -- src/step.rt:124:25
 sub-is-dot-dot : tie.Need-sub-is-dot-dot
@@ -59,7 +71,7 @@ part-is-dot-dot-start c = search needs
 
 -- src/step.rt:124:25
 part-is-dot-dot-end : tie.Need-part-is-dot-dot-end
-part-is-dot-dot-end c = ?
+part-is-dot-dot-end c =     omega (arith, c .before .before .before .before .before .before .before .before .before .pre .1 .within, c .before .before .before .before .before .before .before .before .before .pre .1 .short, c .before .before .before .before .before .before .before .before .before .pre .1 .whole)
 
 -- src/step.rt:124:8
 is-dot-dot-requires : tie.Need-is-dot-dot-requires
@@ -71,7 +83,11 @@ dots-requires-2 c κs = search needs
 
 -- src/step.rt:125:9
 returns-3 : tie.Need-returns-3
-returns-3 c = ?
+unfolding part
+returns-3 c =     let l = part-length (c .before .before .before .before .before .before .before .before .before .before .before .before .before .args .w .path) (c .before .before .before .before .before .before .before .before .before .before .before .before .before .args .a) (c .before .before .before .before .before .before .before .before .before .before .before .before .before .args .e - c .before .before .before .before .before .before .before .before .before .before .before .before .before .args .a) (omega (arith, c .before .before .before .before .before .before .before .before .before .before .before .before .before .pre .1 .within, c .before .before .before .before .before .before .before .before .before .before .before .before .before .pre .1 .short, c .before .before .before .before .before .before .before .before .before .before .before .before .before .pre .1 .whole)) in
+    let d = sym (c .before .before .before .before .before .before .is-dot .ensures) ∙ c .before .before .before .before .before .if2 .left in
+    let e = sym (c .before .before .is-dot-dot .ensures) ∙ c .before .if3 .taken in
+    fits-dots (viewOf (c .before .before .before .before .before .before .before .before .before .before .before .before .before .args .h) (c .before .before .before .before .before .before .before .before .before .before .before .before .before .args .s .now)) _ (positionOf (c .before .before .before .before .before .before .before .before .before .before .before .before .before .args .w)) _ (part (c .before .before .before .before .before .before .before .before .before .before .before .before .before .args .w .path) (c .before .before .before .before .before .before .before .before .before .before .before .before .before .args .a) (c .before .before .before .before .before .before .before .before .before .before .before .before .before .args .e - c .before .before .before .before .before .before .before .before .before .before .before .before .before .args .a)) (restFrom (c .before .before .before .before .before .before .before .before .before .before .before .before .before .args .w) (c .before .before .before .before .before .before .before .before .before .before .before .before .before .args .e)) (nameRoom (c .before .before .before .before .before .before .before .before .before .before .before .before .before .args .h)) (rw (← l) at (c .before .before .before .before .before .before .before .before .before .before .if1 .left)) (rw (d, e)) (c .dots2 .ensures)
 
 -- src/step.rt:127:5
 seek-requires : tie.Need-seek-requires
@@ -79,7 +95,11 @@ seek-requires c κs = search needs
 
 -- src/step.rt:113:1
 returns-4 : tie.Need-returns-4
-returns-4 c = ?
+unfolding part viewOf
+returns-4 c =     let l = part-length (c .before .before .before .before .before .before .before .before .before .before .before .before .before .args .w .path) (c .before .before .before .before .before .before .before .before .before .before .before .before .before .args .a) (c .before .before .before .before .before .before .before .before .before .before .before .before .before .args .e - c .before .before .before .before .before .before .before .before .before .before .before .before .before .args .a) (omega (arith, c .before .before .before .before .before .before .before .before .before .before .before .before .before .pre .1 .within, c .before .before .before .before .before .before .before .before .before .before .before .before .before .pre .1 .short, c .before .before .before .before .before .before .before .before .before .before .before .before .before .pre .1 .whole)) in
+    let d = sym (c .before .before .before .before .before .before .is-dot .ensures) ∙ c .before .before .before .before .before .if2 .left in
+    let e = sym (c .before .before .is-dot-dot .ensures) ∙ c .before .if3 .left in
+    fits-name (viewOf (c .before .before .before .before .before .before .before .before .before .before .before .before .before .args .h) (c .before .before .before .before .before .before .before .before .before .before .before .before .before .args .s .now)) _ (positionOf (c .before .before .before .before .before .before .before .before .before .before .before .before .before .args .w)) _ (part (c .before .before .before .before .before .before .before .before .before .before .before .before .before .args .w .path) (c .before .before .before .before .before .before .before .before .before .before .before .before .before .args .a) (c .before .before .before .before .before .before .before .before .before .before .before .before .before .args .e - c .before .before .before .before .before .before .before .before .before .before .before .before .before .args .a)) (restFrom (c .before .before .before .before .before .before .before .before .before .before .before .before .before .args .w) (c .before .before .before .before .before .before .before .before .before .before .before .before .before .args .e)) (nameRoom (c .before .before .before .before .before .before .before .before .before .before .before .before .before .args .h)) (rw (← l) at (c .before .before .before .before .before .before .before .before .before .before .if1 .left)) d e (c .seek .ensures)
 
 pub component-spec : {M : Type 1} → statement M
 component-spec =

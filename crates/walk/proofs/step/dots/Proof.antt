@@ -1,3 +1,13 @@
+use mathlib.Core.Path.{_≡_, sym, _∙_, ap}
+use native.Mathlib.Omega.{arith}
+use Prim.Native.Nat.{_-_}
+use lib.ListN.{length}
+use Rattle.layout.specs.Record.{field-of}
+use Rattle.seq.specs.Bytes.{part}
+use Rattle.layout.specs.Fields.{inodeField}
+use Rattle.layout.specs.View.{viewOf}
+use Rattle.walk.specs.State.{positionOf, restFrom}
+use Rattle.walk.specs.Turns.{dots-last, dots-stay, dots-up}
 use borrow.Author.Needs.{needs}
 use Rattle.walk.proofs.step.dots.Statement.{statement}
 use Rattle.walk.proofs.step.dots.Tie as tie
@@ -20,7 +30,7 @@ part-is-bare-start c = search needs
 
 -- src/step.rt:101:22
 part-is-bare-end : tie.Need-part-is-bare-end
-part-is-bare-end c = ?
+part-is-bare-end c =     omega (arith, c .before .before .before .pre .1 .within, c .before .before .before .pre .1 .short, c .before .before .before .pre .1 .whole)
 
 -- src/step.rt:101:8
 is-bare-requires : tie.Need-is-bare-requires
@@ -32,7 +42,8 @@ refuse-requires c κs = search needs
 
 -- src/step.rt:102:9
 returns : tie.Need-returns
-returns c = ?
+unfolding part
+returns c = dots-last (viewOf (c .before .before .before .before .before .before .before .args .h) (c .before .before .before .before .before .before .before .args .s .now)) _ (positionOf (c .before .before .before .before .before .before .before .args .w)) _ (part (c .before .before .before .before .before .before .before .args .w .path) (c .before .before .before .before .before .before .before .args .a) (c .before .before .before .before .before .before .before .args .e - c .before .before .before .before .before .before .before .args .a)) (restFrom (c .before .before .before .before .before .before .before .args .w) (c .before .before .before .before .before .before .before .args .e)) (sym (c .before .before .is-bare .ensures) ∙ c .before .if1 .taken) (c .refuse .ensures)
 
 -- src/step.rt:105:21
 sub-is-dot : tie.Need-sub-is-dot
@@ -44,7 +55,7 @@ part-is-dot-start c = search needs
 
 -- src/step.rt:105:21
 part-is-dot-end : tie.Need-part-is-dot-end
-part-is-dot-end c = ?
+part-is-dot-end c =     omega (arith, c .before .before .before .before .before .before .before .pre .1 .within, c .before .before .before .before .before .before .before .pre .1 .short, c .before .before .before .before .before .before .before .pre .1 .whole)
 
 -- src/step.rt:105:8
 is-dot-requires : tie.Need-is-dot-requires
@@ -52,11 +63,13 @@ is-dot-requires c κs = search needs
 
 -- src/step.rt:106:9
 advance-requires : tie.Need-advance-requires
-advance-requires c κs = ?
+unfolding part
+advance-requires c κs = (search needs, sym (c .before .before .before .before .before .is-bare .ensures) ∙ c .before .before .before .before .if1 .left)
 
 -- src/step.rt:106:9
 returns-2 : tie.Need-returns-2
-returns-2 c = ?
+unfolding part
+returns-2 c = dots-stay (viewOf (c .before .before .before .before .before .before .before .before .before .before .before .args .h) (c .before .before .before .before .before .before .before .before .before .before .before .args .s .now)) _ (positionOf (c .before .before .before .before .before .before .before .before .before .before .before .args .w)) _ (part (c .before .before .before .before .before .before .before .before .before .before .before .args .w .path) (c .before .before .before .before .before .before .before .before .before .before .before .args .a) (c .before .before .before .before .before .before .before .before .before .before .before .args .e - c .before .before .before .before .before .before .before .before .before .before .before .args .a)) (restFrom (c .before .before .before .before .before .before .before .before .before .before .before .args .w) (c .before .before .before .before .before .before .before .before .before .before .before .args .e)) (sym (c .before .before .before .before .before .before .is-bare .ensures) ∙ c .before .before .before .before .before .if1 .left) (sym (c .before .before .is-dot .ensures) ∙ c .before .if2 .taken) (c .advance .ensures)
 
 -- src/step.rt:108:9
 inode-requires : tie.Need-inode-requires
@@ -68,11 +81,13 @@ field-requires c κs = search needs
 
 -- src/step.rt:109:5
 advance-requires-2 : tie.Need-advance-requires-2
-advance-requires-2 c κs = ?
+unfolding part
+advance-requires-2 c κs = (search needs, sym (c .before .before .before .before .before .before .before .is-bare .ensures) ∙ c .before .before .before .before .before .before .if1 .left)
 
 -- src/step.rt:95:1
 returns-3 : tie.Need-returns-3
-returns-3 c = ?
+unfolding part viewOf
+returns-3 c = dots-up (viewOf (c .before .before .before .before .before .before .before .before .before .before .before .before .before .args .h) (c .before .before .before .before .before .before .before .before .before .before .before .before .before .args .s .now)) _ (positionOf (c .before .before .before .before .before .before .before .before .before .before .before .before .before .args .w)) _ (part (c .before .before .before .before .before .before .before .before .before .before .before .before .before .args .w .path) (c .before .before .before .before .before .before .before .before .before .before .before .before .before .args .a) (c .before .before .before .before .before .before .before .before .before .before .before .before .before .args .e - c .before .before .before .before .before .before .before .before .before .before .before .before .before .args .a)) (restFrom (c .before .before .before .before .before .before .before .before .before .before .before .before .before .args .w) (c .before .before .before .before .before .before .before .before .before .before .before .before .before .args .e)) _ (sym (c .before .before .before .before .before .before .before .before .is-bare .ensures) ∙ c .before .before .before .before .before .before .before .if1 .left) (sym (c .before .before .before .before .is-dot .ensures) ∙ c .before .before .before .if2 .left) (field-of inodeField (c .before .before .inode .ensures) (c .before .field .ensures .0)) (c .advance2 .ensures)
 
 pub dots-spec : {M : Type 1} → statement M
 dots-spec =

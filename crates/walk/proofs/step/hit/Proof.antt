@@ -1,3 +1,12 @@
+use mathlib.Core.Path.{_≡_, sym, _∙_, ap}
+use native.Mathlib.Omega.{arith}
+use lib.ListN.{length}
+use Rattle.layout.specs.Record.{field-of}
+use Rattle.seq.specs.Bytes.{part}
+use Rattle.layout.specs.Fields.{entryTarget}
+use Rattle.layout.specs.View.{viewOf, isUsed-below}
+use Rattle.walk.specs.State.{positionOf, restFrom}
+use Rattle.walk.specs.Turns.{hits-last, hits-more}
 use borrow.Author.Needs.{needs}
 use Rattle.walk.proofs.step.hit.Statement.{statement}
 use Rattle.walk.proofs.step.hit.Tie as tie
@@ -27,7 +36,7 @@ part-is-bare-start c = search needs
 
 -- src/step.rt:62:22
 part-is-bare-end : tie.Need-part-is-bare-end
-part-is-bare-end c = ?
+part-is-bare-end c =     omega (arith, c .before .before .before .before .before .pre .1 .within, c .before .before .before .before .before .pre .1 .short, c .before .before .before .before .before .pre .1 .whole)
 
 -- src/step.rt:62:8
 is-bare-requires : tie.Need-is-bare-requires
@@ -35,19 +44,25 @@ is-bare-requires c κs = search needs
 
 -- src/step.rt:63:9
 arrive-requires : tie.Need-arrive-requires
-arrive-requires c κs = ?
+unfolding viewOf
+arrive-requires c κs =     let t = field-of entryTarget (c .before .before .before .before .before .before .entry .ensures) (c .before .before .before .before .before .target .ensures .0) in
+    (c .before .before .before .before .before .before .before .before .pre .0, c .before .before .before .before .before .before .before .before .pre .1, t, rw (← t) at (isUsed-below (c .before .before .before .before .before .before .before .before .args .h) (c .before .before .before .before .before .before .before .before .args .s .now) _ (c .before .before .before .before .before .before .before .before .pre .0 .targets (c .before .before .before .before .before .before .before .before .args .slot) (c .before .before .before .before .before .before .before .before .pre .2) (c .before .before .before .before .before .before .before .before .pre .3))))
 
 -- src/step.rt:63:9
 returns : tie.Need-returns
-returns c = ?
+unfolding viewOf part
+returns c = hits-last (viewOf (c .before .before .before .before .before .before .before .before .before .args .h) (c .before .before .before .before .before .before .before .before .before .args .s .now)) _ (positionOf (c .before .before .before .before .before .before .before .before .before .args .w)) _ (restFrom (c .before .before .before .before .before .before .before .before .before .args .w) (c .before .before .before .before .before .before .before .before .before .args .e)) (c .before .before .before .before .before .before .before .before .before .args .slot) (c .before .before .before .before .before .before .target .result) (field-of entryTarget (c .before .before .before .before .before .before .before .entry .ensures) (c .before .before .before .before .before .before .target .ensures .0)) (sym (c .before .before .is-bare .ensures) ∙ c .before .if1 .taken) (c .arrive .ensures)
 
 -- src/step.rt:65:5
 enter-requires : tie.Need-enter-requires
-enter-requires c κs = ?
+unfolding viewOf part
+enter-requires c κs =     let t = field-of entryTarget (c .before .before .before .before .before .before .entry .ensures) (c .before .before .before .before .before .target .ensures .0) in
+    (c .before .before .before .before .before .before .before .before .pre .0, c .before .before .before .before .before .before .before .before .pre .1, sym (c .before .is-bare .ensures) ∙ c .if1 .left, rw (← t) at (isUsed-below (c .before .before .before .before .before .before .before .before .args .h) (c .before .before .before .before .before .before .before .before .args .s .now) _ (c .before .before .before .before .before .before .before .before .pre .0 .targets (c .before .before .before .before .before .before .before .before .args .slot) (c .before .before .before .before .before .before .before .before .pre .2) (c .before .before .before .before .before .before .before .before .pre .3))))
 
 -- src/step.rt:54:1
 returns-2 : tie.Need-returns-2
-returns-2 c = ?
+unfolding viewOf part
+returns-2 c = hits-more (viewOf (c .before .before .before .before .before .before .before .before .before .args .h) (c .before .before .before .before .before .before .before .before .before .args .s .now)) _ (positionOf (c .before .before .before .before .before .before .before .before .before .args .w)) _ (restFrom (c .before .before .before .before .before .before .before .before .before .args .w) (c .before .before .before .before .before .before .before .before .before .args .e)) (c .before .before .before .before .before .before .before .before .before .args .slot) (c .before .before .before .before .before .before .target .result) (field-of entryTarget (c .before .before .before .before .before .before .before .entry .ensures) (c .before .before .before .before .before .before .target .ensures .0)) (sym (c .before .before .is-bare .ensures) ∙ c .before .if1 .left) (c .enter .ensures)
 
 pub hit-spec : {M : Type 1} → statement M
 hit-spec =
