@@ -221,13 +221,13 @@ module _ (v : View) (who : Credentials) where
 -- where the walk of a path begins
 abbrev pub startOf : View → Credentials → ℕ → ℕ → List ℕ → Position
 startOf v who current start path =
-    record { rest = path; directory = startDirectory v who current start path; links = 0; steps = 0; waived = startWaived v who start path }
+    record { rest = path; directory = startDirectory v current start path; links = 0; steps = 0; waived = startWaived v start path }
 
 -- a path that a walk begins on: none of rules 53 to 56 refuses it
 pub record Begins (v : View) (who : Credentials) (start : ℕ) (path : List ℕ) : Type 0 where
   pub some : empty path ≡ false
   pub short : length path ≤ pathLimit
-  pub reached : startClosed v who start path ≡ false
+  pub reached : startClosed v start path ≡ false
   pub more : bare path ≡ false
 
 module _ (v : View) (who : Credentials) (current start : ℕ) (path : List ℕ) where
@@ -270,7 +270,7 @@ module _ (v : View) (who : Credentials) (current start : ℕ) (path : List ℕ) 
 
       by-long : (b : Bool) → ltb pathLimit (length path) ≡ b → stepsOf (long v who b current start path) ≤ stepLimit
       by-long true e = zero-le
-      by-long false e = by-closed (startClosed v who start path) (ltb-false _ _ e)
+      by-long false e = by-closed (startClosed v start path) (ltb-false _ _ e)
 
       by-blank : (b : Bool) → stepsOf (blank v who b current start path) ≤ stepLimit
       by-blank true = zero-le

@@ -1,5 +1,5 @@
 -- The ways out of each decision about a component: from the answer of the part that decides to that of the whole. Assumes nothing.
-use mathlib.Core.Path.{_≡_, sym, ap, _∙_}
+use mathlib.Core.Path.{_≡_, refl, sym, ap, _∙_, subst}
 use mathlib.Core.Bool.{Bool, true, false, _&&_, _||_, not}
 use mathlib.Core.List.{List}
 use Prim.Native.Nat.{ℕ, _+_, _-_, _≤_, _<_}
@@ -7,15 +7,20 @@ use native.Mathlib.Omega.{arith}
 use lib.Dec.{ltb, leb}
 use lib.ListN.{length, take, drop}
 use borrow.Author.Tests.{lt-ltb, le-ltb}
-use Rattle.seq.specs.Bytes.{part, part-take, part-drop}
+use Rattle.seq.specs.Bytes.{part, part-length, part-take, part-drop}
 use Rattle.layout.specs.View.{View, isKind, isDirectory}
 use Rattle.walk.specs.declared.request.Credentials.{Credentials}
+use Rattle.walk.specs.declared.state.Walk.{Walk}
+use Rattle.walk.specs.declared.state.Ending.the-variants.{Going}
 use Rattle.walk.specs.declared.state.Turn.{Turn}
 use Rattle.walk.specs.Permission.{searchBit, allows}
 use Rattle.walk.specs.Path.{slashes, nameBytes, skip, component, behind, empty, bare, isDot, isDotDot}
 use Rattle.walk.specs.Lookup.{lookup}
-use Rattle.walk.specs.Step.{linkLimit, Position, existing, missing, ends, refuse, move, followed, miss, entered, arrived, hit, sought, dotted, fitting, step}
-use Rattle.walk.specs.State.{Turned}
+use Rattle.walk.specs.Step.{linkLimit, pathLimit, Position, Step, goes, existing, missing, ends, refuse, move, followed, miss, entered, arrived, hit, sought, dotted, fitting, step}
+use Rattle.walk.specs.State.{restFrom, positionOf, endingOf, beginning, Fit, Onward, Turned}
+use Rattle.walk.specs.Splice.{filled-length, filled-part}
+use Rattle.walk.specs.Walk.{startDirectory, startWaived}
+use Rattle.walk.specs.Bound.{startOf}
 
 module _ (r : Turn) (w : Position) (n : ℕ) where
   pub misses-last : (name rest : List ℕ) (slash : Bool) → bare rest ≡ true → slash ≡ not (empty rest)
@@ -113,3 +118,27 @@ module _ (path : List ℕ) (at len a e : ℕ) (within : at ≤ len) (start : a �
       let m : len - a - nameBytes (part path a (len - a)) ≡ len - e = omega arith in
       sym (ap (λ x. drop (nameBytes x) x) skipped ∙ part-drop path a (len - a) (nameBytes (part path a (len - a)))
       ∙ ap (λ i. part path i (len - a - nameBytes (part path a (len - a)))) (sym end) ∙ ap (λ i. part path e i) m)
+
+-- what an answer says where the walk goes on, and where the path it has left is read next
+pub turned-goes : (r : Turn) (x : Step) (n : ℕ) → Turned r x n → r .ending ≡ Going → x ≡ goes (positionOf (r .walk))
+turned-goes r x n turned e = sym (turned .is) ∙ ap (λ y. endingOf (r .walk) y) e
+
+pub turned-fit : (r : Turn) (x : Step) (n : ℕ) → Turned r x n → r .ending ≡ Going → Fit (r .walk)
+turned-fit r x n turned e = subst (λ y. Onward y (r .walk) n) e (turned .onward) .0
+
+pub fit-short : (w : Walk) → Fit w → length (restFrom w (w .at)) ≤ pathLimit
+fit-short w fit = let l = part-length (w .path) (w .at) (w .len - w .at) (omega (arith, fit .within, fit .short, fit .whole)) in omega (arith, fit .short)
+
+-- the state in which a walk begins stands at the start of its path
+module _ (path : List ℕ) (directory : ℕ) (waived : Bool) where
+  pub begins-at : positionOf (beginning path directory waived) ≡ record { rest = path; directory = directory; links = 0; steps = 0; waived = waived }
+  begins-at = rw (filled-part path (length path) refl)
+
+  pub begins-fit : length path ≤ 255 → bare path ≡ false → Fit (beginning path directory waived)
+  begins-fit short more =
+      record { within = omega arith; short = short; whole = filled-length path (omega arith); more = rw (filled-part path (length path) refl) more }
+
+pub starts-at : (v : View) (who : Credentials) (current start : ℕ) (path : List ℕ) (directory : ℕ) (waived : Bool)
+    → directory ≡ startDirectory v current start path → waived ≡ startWaived v start path
+    → _≡_ {A = Position} (record { rest = path; directory = directory; links = 0; steps = 0; waived = waived }) (startOf v who current start path)
+starts-at v who current start path directory waived d w = rw (d, w)

@@ -3,5 +3,6 @@ pub mod find;
 pub mod path;
 pub mod permission;
 pub mod request;
+pub mod resolve;
 pub mod state;
 pub mod step;

@@ -63,20 +63,26 @@ pub fn refuse(w: Walk, number: u8) -> Turn
 
 // The final name exists.
 pub fn exists(w: Walk, slot: usize, inode: usize, slash: bool) -> Turn
+    requires { ⌜ w .steps < 65535 ⌝ }
     ensures { λ r. ⌜ Turned r (ends (existing (w .directory) slot inode slash (w .steps + 1))) (w .steps + 1) ⌝ }
 {
+    let mut last = w;
+    last.steps = w.steps + 1;
     Turn {
-        walk: w,
+        walk: last,
         ending: Ending::Existing { slot, inode, slash },
     }
 }
 
 // The final name, from index a up to e, is missing.
 pub fn lacks(w: Walk, a: usize, e: usize, slash: bool) -> Turn
+    requires { ⌜ w .steps < 65535 ⌝ }
     ensures { λ r. ⌜ Turned r (ends (missing (w .directory) (part (w .path) a (e - a)) slash (w .steps + 1))) (w .steps + 1) ⌝ }
 {
+    let mut last = w;
+    last.steps = w.steps + 1;
     Turn {
-        walk: w,
+        walk: last,
         ending: Ending::Missing {
             from: a,
             to: e,

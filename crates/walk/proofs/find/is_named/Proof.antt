@@ -25,7 +25,11 @@ parent-requires c κs = search needs
 
 returns-2 : tie.Need-returns-2
 unfolding isNamed viewOf
-returns-2 c = simp (ne-eqb _ _ (λ e. c .before .before .if1 .left (field-of entryNameLength (c .before .before .before .before .entry .ensures) (c .before .before .before .name-length .ensures .0) ∙ e)), ne-eqb _ _ (λ e. c .if2 .taken (field-of entryParent (c .before .before .before .before .entry .ensures) (c .before .parent .ensures .0) ∙ e)))
+returns-2 c =
+    simp (
+      ne-eqb _ _ (λ e. c .before .before .if1 .left (field-of entryNameLength (c .before .before .before .before .entry .ensures) (c .before .before .before .name-length .ensures .0) ∙ e)),
+      ne-eqb _ _ (λ e. c .if2 .taken (field-of entryParent (c .before .before .before .before .entry .ensures) (c .before .parent .ensures .0) ∙ e)),
+    )
 
 name-requires : tie.Need-name-requires
 unfolding viewOf
@@ -38,7 +42,12 @@ same-requires c κs = search needs
 returns-3 : tie.Need-returns-3
 unfolding isNamed viewOf
 returns-3 c = let n = c .before .name .ensures ∙ ap entryName (c .before .before .before .before .before .before .entry .ensures .is) in
-    simp (ne-eqb _ _ (λ e. c .before .before .before .before .if1 .left (field-of entryNameLength (c .before .before .before .before .before .before .entry .ensures) (c .before .before .before .before .before .name-length .ensures .0) ∙ e)), eq-eqb _ _ (sym (field-of entryParent (c .before .before .before .before .before .before .entry .ensures) (c .before .before .before .parent .ensures .0)) ∙ c .before .before .if2 .left), c .same .ensures, n)
+    simp (
+      ne-eqb _ _ (λ e. c .before .before .before .before .if1 .left (field-of entryNameLength (c .before .before .before .before .before .before .entry .ensures) (c .before .before .before .before .before .name-length .ensures .0) ∙ e)),
+      eq-eqb _ _ (sym (field-of entryParent (c .before .before .before .before .before .before .entry .ensures) (c .before .before .before .parent .ensures .0)) ∙ c .before .before .if2 .left),
+      c .same .ensures,
+      n,
+    )
 
 pub is-named-spec : {M : Type 1} → statement M
 is-named-spec =

@@ -48,7 +48,12 @@ unfolding allows viewOf
 returns-3 c = let m = field-of inodeMode (c .before .before .before .before .before .before .before .inode .ensures) (c .before .before .before .before .before .before .mode .ensures .0) in
     let o = field-of inodeOwner (c .before .before .before .before .before .before .before .inode .ensures) (c .before .before .before .before .before .owner .ensures) in
     let g = field-of inodeGroup (c .before .before .before .before .before .before .before .inode .ensures) (c .before .before .group .ensures) in
-    simp (ne-eqb _ _ (c .before .before .before .before .before .before .before .before .if1 .left), ne-eqb _ _ (λ e. c .before .before .before .if2 .left (e ∙ sym o)), eq-eqb _ _ (c .if3 .taken ∙ g), m)
+    simp (
+      ne-eqb _ _ (c .before .before .before .before .before .before .before .before .if1 .left),
+      ne-eqb _ _ (λ e. c .before .before .before .if2 .left (e ∙ sym o)),
+      eq-eqb _ _ (c .if3 .taken ∙ g),
+      m,
+    )
 
 div-result-3 : tie.Need-div-result-3
 div-result-3 c = search needs
@@ -58,7 +63,12 @@ unfolding allows viewOf
 returns-4 c = let m = field-of inodeMode (c .before .before .before .before .before .before .before .inode .ensures) (c .before .before .before .before .before .before .mode .ensures .0) in
     let o = field-of inodeOwner (c .before .before .before .before .before .before .before .inode .ensures) (c .before .before .before .before .before .owner .ensures) in
     let g = field-of inodeGroup (c .before .before .before .before .before .before .before .inode .ensures) (c .before .before .group .ensures) in
-    simp (ne-eqb _ _ (c .before .before .before .before .before .before .before .before .if1 .left), ne-eqb _ _ (λ e. c .before .before .before .if2 .left (e ∙ sym o)), ne-eqb _ _ (λ e. c .if3 .left (e ∙ sym g)), m)
+    simp (
+      ne-eqb _ _ (c .before .before .before .before .before .before .before .before .if1 .left),
+      ne-eqb _ _ (λ e. c .before .before .before .if2 .left (e ∙ sym o)),
+      ne-eqb _ _ (λ e. c .if3 .left (e ∙ sym g)),
+      m,
+    )
 
 pub allows-spec : {M : Type 1} → statement M
 allows-spec =

@@ -20,14 +20,23 @@ no-zero-requires c κs = search needs
 
 returns-2 : tie.Need-returns-2
 unfolding requestGood
-returns-2 c = simp (holds (c .before .before .before .is-directory .ensures) (c .before .before .if1 .left), fails (c .before .no-zero .ensures) (c .if2 .taken))
+returns-2 c =
+    simp (
+      holds (c .before .before .before .is-directory .ensures) (c .before .before .if1 .left),
+      fails (c .before .no-zero .ensures) (c .if2 .taken),
+    )
 
 no-zero-requires-2 : tie.Need-no-zero-requires-2
 no-zero-requires-2 c κs = search needs
 
 returns-3 : tie.Need-returns-3
 unfolding requestGood
-returns-3 c = simp (holds (c .before .before .before .before .is-directory .ensures) (c .before .before .before .if1 .left), holds (c .before .before .no-zero .ensures) (c .before .if2 .left), c .no-zero2 .ensures)
+returns-3 c =
+    simp (
+      holds (c .before .before .before .before .is-directory .ensures) (c .before .before .before .if1 .left),
+      holds (c .before .before .no-zero .ensures) (c .before .if2 .left),
+      c .no-zero2 .ensures,
+    )
 
 pub good-spec : {M : Type 1} → statement M
 good-spec =

@@ -1,90 +1,66 @@
-use mathlib.Core.Path.{_≡_, sym, _∙_, ap}
-use native.Mathlib.Omega.{arith}
+-- `walk::step::dots` meets its contract. Assumes nothing.
+use mathlib.Core.Path.{sym, _∙_}
 use Prim.Native.Nat.{_-_}
-use lib.ListN.{length}
-use Rattle.layout.specs.Record.{field-of}
+use native.Mathlib.Omega.{arith}
+use borrow.Author.Needs.{needs}
 use Rattle.seq.specs.Bytes.{part}
 use Rattle.layout.specs.Fields.{inodeField}
+use Rattle.layout.specs.Record.{field-of}
 use Rattle.layout.specs.View.{viewOf}
 use Rattle.walk.specs.State.{positionOf, restFrom}
 use Rattle.walk.specs.Turns.{dots-last, dots-stay, dots-up}
-use borrow.Author.Needs.{needs}
 use Rattle.walk.proofs.step.dots.Statement.{statement}
 use Rattle.walk.proofs.step.dots.Tie as tie
-use Rattle.walk.proofs.step.dots.Reads as reads
-use Rattle.walk.proofs.step.dots.Lts as lts
-use Rattle.layout.proofs.inode.field.Reads as field-reads
-use Rattle.layout.proofs.records.inode.Reads as inode-reads
-use Rattle.walk.proofs.path.is_bare.Reads as is-bare-reads
-use Rattle.walk.proofs.path.is_dot.Reads as is-dot-reads
-use Rattle.walk.proofs.state.advance.Reads as advance-reads
-use Rattle.walk.proofs.state.refuse.Reads as refuse-reads
 
--- src/step.rt:101:22
 sub-is-bare : tie.Need-sub-is-bare
 sub-is-bare c = search needs
 
--- src/step.rt:101:22
 part-is-bare-start : tie.Need-part-is-bare-start
 part-is-bare-start c = search needs
 
--- src/step.rt:101:22
 part-is-bare-end : tie.Need-part-is-bare-end
-part-is-bare-end c =     omega (arith, c .before .before .before .pre .1 .within, c .before .before .before .pre .1 .short, c .before .before .before .pre .1 .whole)
+part-is-bare-end c = omega (arith, c .before .before .before .pre .1 .within, c .before .before .before .pre .1 .short, c .before .before .before .pre .1 .whole)
 
--- src/step.rt:101:8
 is-bare-requires : tie.Need-is-bare-requires
 is-bare-requires c κs = search needs
 
--- src/step.rt:102:9
 refuse-requires : tie.Need-refuse-requires
 refuse-requires c κs = search needs
 
--- src/step.rt:102:9
 returns : tie.Need-returns
 unfolding part
 returns c = dots-last (viewOf (c .before .before .before .before .before .before .before .args .h) (c .before .before .before .before .before .before .before .args .s .now)) _ (positionOf (c .before .before .before .before .before .before .before .args .w)) _ (part (c .before .before .before .before .before .before .before .args .w .path) (c .before .before .before .before .before .before .before .args .a) (c .before .before .before .before .before .before .before .args .e - c .before .before .before .before .before .before .before .args .a)) (restFrom (c .before .before .before .before .before .before .before .args .w) (c .before .before .before .before .before .before .before .args .e)) (sym (c .before .before .is-bare .ensures) ∙ c .before .if1 .taken) (c .refuse .ensures)
 
--- src/step.rt:105:21
 sub-is-dot : tie.Need-sub-is-dot
 sub-is-dot c = search needs
 
--- src/step.rt:105:21
 part-is-dot-start : tie.Need-part-is-dot-start
 part-is-dot-start c = search needs
 
--- src/step.rt:105:21
 part-is-dot-end : tie.Need-part-is-dot-end
-part-is-dot-end c =     omega (arith, c .before .before .before .before .before .before .before .pre .1 .within, c .before .before .before .before .before .before .before .pre .1 .short, c .before .before .before .before .before .before .before .pre .1 .whole)
+part-is-dot-end c = omega (arith, c .before .before .before .before .before .before .before .pre .1 .within, c .before .before .before .before .before .before .before .pre .1 .short, c .before .before .before .before .before .before .before .pre .1 .whole)
 
--- src/step.rt:105:8
 is-dot-requires : tie.Need-is-dot-requires
 is-dot-requires c κs = search needs
 
--- src/step.rt:106:9
 advance-requires : tie.Need-advance-requires
 unfolding part
 advance-requires c κs = (search needs, sym (c .before .before .before .before .before .is-bare .ensures) ∙ c .before .before .before .before .if1 .left)
 
--- src/step.rt:106:9
 returns-2 : tie.Need-returns-2
 unfolding part
 returns-2 c = dots-stay (viewOf (c .before .before .before .before .before .before .before .before .before .before .before .args .h) (c .before .before .before .before .before .before .before .before .before .before .before .args .s .now)) _ (positionOf (c .before .before .before .before .before .before .before .before .before .before .before .args .w)) _ (part (c .before .before .before .before .before .before .before .before .before .before .before .args .w .path) (c .before .before .before .before .before .before .before .before .before .before .before .args .a) (c .before .before .before .before .before .before .before .before .before .before .before .args .e - c .before .before .before .before .before .before .before .before .before .before .before .args .a)) (restFrom (c .before .before .before .before .before .before .before .before .before .before .before .args .w) (c .before .before .before .before .before .before .before .before .before .before .before .args .e)) (sym (c .before .before .before .before .before .before .is-bare .ensures) ∙ c .before .before .before .before .before .if1 .left) (sym (c .before .before .is-dot .ensures) ∙ c .before .if2 .taken) (c .advance .ensures)
 
--- src/step.rt:108:9
 inode-requires : tie.Need-inode-requires
 inode-requires c κs = search needs
 
--- src/step.rt:109:26
 field-requires : tie.Need-field-requires
 field-requires c κs = search needs
 
--- src/step.rt:109:5
 advance-requires-2 : tie.Need-advance-requires-2
 unfolding part
 advance-requires-2 c κs = (search needs, sym (c .before .before .before .before .before .before .before .is-bare .ensures) ∙ c .before .before .before .before .before .before .if1 .left)
 
--- src/step.rt:95:1
 returns-3 : tie.Need-returns-3
 unfolding part viewOf
 returns-3 c = dots-up (viewOf (c .before .before .before .before .before .before .before .before .before .before .before .before .before .args .h) (c .before .before .before .before .before .before .before .before .before .before .before .before .before .args .s .now)) _ (positionOf (c .before .before .before .before .before .before .before .before .before .before .before .before .before .args .w)) _ (part (c .before .before .before .before .before .before .before .before .before .before .before .before .before .args .w .path) (c .before .before .before .before .before .before .before .before .before .before .before .before .before .args .a) (c .before .before .before .before .before .before .before .before .before .before .before .before .before .args .e - c .before .before .before .before .before .before .before .before .before .before .before .before .before .args .a)) (restFrom (c .before .before .before .before .before .before .before .before .before .before .before .before .before .args .w) (c .before .before .before .before .before .before .before .before .before .before .before .before .before .args .e)) _ (sym (c .before .before .before .before .before .before .before .before .is-bare .ensures) ∙ c .before .before .before .before .before .before .before .if1 .left) (sym (c .before .before .before .before .is-dot .ensures) ∙ c .before .before .before .if2 .left) (field-of inodeField (c .before .before .inode .ensures) (c .before .field .ensures .0)) (c .advance2 .ensures)

@@ -1,65 +1,48 @@
-use mathlib.Core.Path.{_≡_, sym, _∙_, ap}
+-- `walk::step::hit` meets its contract. Assumes nothing.
+use mathlib.Core.Path.{sym, _∙_}
 use native.Mathlib.Omega.{arith}
-use lib.ListN.{length}
-use Rattle.layout.specs.Record.{field-of}
+use borrow.Author.Needs.{needs}
 use Rattle.seq.specs.Bytes.{part}
 use Rattle.layout.specs.Fields.{entryTarget}
+use Rattle.layout.specs.Record.{field-of}
 use Rattle.layout.specs.View.{viewOf, isUsed-below}
 use Rattle.walk.specs.State.{positionOf, restFrom}
 use Rattle.walk.specs.Turns.{hits-last, hits-more}
-use borrow.Author.Needs.{needs}
 use Rattle.walk.proofs.step.hit.Statement.{statement}
 use Rattle.walk.proofs.step.hit.Tie as tie
-use Rattle.walk.proofs.step.hit.Reads as reads
-use Rattle.walk.proofs.step.hit.Lts as lts
-use Rattle.layout.proofs.entry.target.Reads as target-reads
-use Rattle.layout.proofs.records.entry.Reads as entry-reads
-use Rattle.walk.proofs.path.is_bare.Reads as is-bare-reads
-use Rattle.walk.proofs.step.arrive.Reads as arrive-reads
-use Rattle.walk.proofs.step.enter.Reads as enter-reads
 
--- src/step.rt:58:9
 entry-requires : tie.Need-entry-requires
 entry-requires c κs = search needs
 
--- src/step.rt:59:9
 target-requires : tie.Need-target-requires
 target-requires c κs = search needs
 
--- src/step.rt:62:22
 sub-is-bare : tie.Need-sub-is-bare
 sub-is-bare c = search needs
 
--- src/step.rt:62:22
 part-is-bare-start : tie.Need-part-is-bare-start
 part-is-bare-start c = search needs
 
--- src/step.rt:62:22
 part-is-bare-end : tie.Need-part-is-bare-end
-part-is-bare-end c =     omega (arith, c .before .before .before .before .before .pre .1 .within, c .before .before .before .before .before .pre .1 .short, c .before .before .before .before .before .pre .1 .whole)
+part-is-bare-end c = omega (arith, c .before .before .before .before .before .pre .1 .within, c .before .before .before .before .before .pre .1 .short, c .before .before .before .before .before .pre .1 .whole)
 
--- src/step.rt:62:8
 is-bare-requires : tie.Need-is-bare-requires
 is-bare-requires c κs = search needs
 
--- src/step.rt:63:9
 arrive-requires : tie.Need-arrive-requires
 unfolding viewOf
-arrive-requires c κs =     let t = field-of entryTarget (c .before .before .before .before .before .before .entry .ensures) (c .before .before .before .before .before .target .ensures .0) in
+arrive-requires c κs = let t = field-of entryTarget (c .before .before .before .before .before .before .entry .ensures) (c .before .before .before .before .before .target .ensures .0) in
     (c .before .before .before .before .before .before .before .before .pre .0, c .before .before .before .before .before .before .before .before .pre .1, t, rw (← t) at (isUsed-below (c .before .before .before .before .before .before .before .before .args .h) (c .before .before .before .before .before .before .before .before .args .s .now) _ (c .before .before .before .before .before .before .before .before .pre .0 .targets (c .before .before .before .before .before .before .before .before .args .slot) (c .before .before .before .before .before .before .before .before .pre .2) (c .before .before .before .before .before .before .before .before .pre .3))))
 
--- src/step.rt:63:9
 returns : tie.Need-returns
 unfolding viewOf part
 returns c = hits-last (viewOf (c .before .before .before .before .before .before .before .before .before .args .h) (c .before .before .before .before .before .before .before .before .before .args .s .now)) _ (positionOf (c .before .before .before .before .before .before .before .before .before .args .w)) _ (restFrom (c .before .before .before .before .before .before .before .before .before .args .w) (c .before .before .before .before .before .before .before .before .before .args .e)) (c .before .before .before .before .before .before .before .before .before .args .slot) (c .before .before .before .before .before .before .target .result) (field-of entryTarget (c .before .before .before .before .before .before .before .entry .ensures) (c .before .before .before .before .before .before .target .ensures .0)) (sym (c .before .before .is-bare .ensures) ∙ c .before .if1 .taken) (c .arrive .ensures)
 
--- src/step.rt:65:5
 enter-requires : tie.Need-enter-requires
 unfolding viewOf part
-enter-requires c κs =     let t = field-of entryTarget (c .before .before .before .before .before .before .entry .ensures) (c .before .before .before .before .before .target .ensures .0) in
+enter-requires c κs = let t = field-of entryTarget (c .before .before .before .before .before .before .entry .ensures) (c .before .before .before .before .before .target .ensures .0) in
     (c .before .before .before .before .before .before .before .before .pre .0, c .before .before .before .before .before .before .before .before .pre .1, sym (c .before .is-bare .ensures) ∙ c .if1 .left, rw (← t) at (isUsed-below (c .before .before .before .before .before .before .before .before .args .h) (c .before .before .before .before .before .before .before .before .args .s .now) _ (c .before .before .before .before .before .before .before .before .pre .0 .targets (c .before .before .before .before .before .before .before .before .args .slot) (c .before .before .before .before .before .before .before .before .pre .2) (c .before .before .before .before .before .before .before .before .pre .3))))
 
--- src/step.rt:54:1
 returns-2 : tie.Need-returns-2
 unfolding viewOf part
 returns-2 c = hits-more (viewOf (c .before .before .before .before .before .before .before .before .before .args .h) (c .before .before .before .before .before .before .before .before .before .args .s .now)) _ (positionOf (c .before .before .before .before .before .before .before .before .before .args .w)) _ (restFrom (c .before .before .before .before .before .before .before .before .before .args .w) (c .before .before .before .before .before .before .before .before .before .args .e)) (c .before .before .before .before .before .before .before .before .before .args .slot) (c .before .before .before .before .before .before .target .result) (field-of entryTarget (c .before .before .before .before .before .before .before .entry .ensures) (c .before .before .before .before .before .before .target .ensures .0)) (sym (c .before .before .is-bare .ensures) ∙ c .before .if1 .left) (c .enter .ensures)

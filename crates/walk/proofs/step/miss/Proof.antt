@@ -1,50 +1,37 @@
-use mathlib.Core.Path.{_≡_, sym, _∙_, ap}
-use native.Mathlib.Omega.{arith}
+-- `walk::step::miss` meets its contract. Assumes nothing.
+use mathlib.Core.Path.{sym, _∙_}
 use Prim.Native.Nat.{_-_}
-use lib.ListN.{length}
-use Rattle.seq.specs.Bytes.{part}
-use Rattle.walk.specs.State.{positionOf, restFrom}
-use Rattle.walk.specs.Splice.{slash-behind}
-use Rattle.walk.specs.Turns.{misses-last, misses-more}
+use native.Mathlib.Omega.{arith}
 use borrow.Author.Needs.{needs}
+use Rattle.seq.specs.Bytes.{part}
+use Rattle.walk.specs.Splice.{slash-behind}
+use Rattle.walk.specs.State.{positionOf, restFrom}
+use Rattle.walk.specs.Turns.{misses-last, misses-more}
 use Rattle.walk.proofs.step.miss.Statement.{statement}
 use Rattle.walk.proofs.step.miss.Tie as tie
-use Rattle.walk.proofs.step.miss.Reads as reads
-use Rattle.walk.proofs.step.miss.Lts as lts
-use Rattle.walk.proofs.path.is_bare.Reads as is-bare-reads
-use Rattle.walk.proofs.state.lacks.Reads as lacks-reads
-use Rattle.walk.proofs.state.refuse.Reads as refuse-reads
 
--- src/step.rt:75:22
 sub-is-bare : tie.Need-sub-is-bare
 sub-is-bare c = search needs
 
--- src/step.rt:75:22
 part-is-bare-start : tie.Need-part-is-bare-start
 part-is-bare-start c = search needs
 
--- src/step.rt:75:22
 part-is-bare-end : tie.Need-part-is-bare-end
-part-is-bare-end c =     omega (arith, c .before .before .pre .within, c .before .before .pre .short, c .before .before .pre .whole)
+part-is-bare-end c = omega (arith, c .before .before .pre .within, c .before .before .pre .short, c .before .before .pre .whole)
 
--- src/step.rt:75:8
 is-bare-requires : tie.Need-is-bare-requires
 is-bare-requires c κs = search needs
 
--- src/step.rt:76:9
 lacks-requires : tie.Need-lacks-requires
 lacks-requires c κs = search needs
 
--- src/step.rt:76:9
 returns : tie.Need-returns
 unfolding part
-returns c =     misses-last _ (positionOf (c .before .before .before .before .before .before .args .w)) _ (part (c .before .before .before .before .before .before .args .w .path) (c .before .before .before .before .before .before .args .a) (c .before .before .before .before .before .before .args .e - c .before .before .before .before .before .before .args .a)) (restFrom (c .before .before .before .before .before .before .args .w) (c .before .before .before .before .before .before .args .e)) _ (sym (c .before .before .is-bare .ensures) ∙ c .before .if1 .taken) (slash-behind (c .before .before .before .before .before .before .args .w) (c .before .before .before .before .before .before .args .e) (c .before .before .before .before .before .before .pre)) (c .lacks .ensures)
+returns c = misses-last _ (positionOf (c .before .before .before .before .before .before .args .w)) _ (part (c .before .before .before .before .before .before .args .w .path) (c .before .before .before .before .before .before .args .a) (c .before .before .before .before .before .before .args .e - c .before .before .before .before .before .before .args .a)) (restFrom (c .before .before .before .before .before .before .args .w) (c .before .before .before .before .before .before .args .e)) _ (sym (c .before .before .is-bare .ensures) ∙ c .before .if1 .taken) (slash-behind (c .before .before .before .before .before .before .args .w) (c .before .before .before .before .before .before .args .e) (c .before .before .before .before .before .before .pre)) (c .lacks .ensures)
 
--- src/step.rt:78:5
 refuse-requires : tie.Need-refuse-requires
 refuse-requires c κs = search needs
 
--- src/step.rt:69:1
 returns-2 : tie.Need-returns-2
 unfolding part
 returns-2 c = misses-more _ (positionOf (c .before .before .before .before .before .before .args .w)) _ (part (c .before .before .before .before .before .before .args .w .path) (c .before .before .before .before .before .before .args .a) (c .before .before .before .before .before .before .args .e - c .before .before .before .before .before .before .args .a)) (restFrom (c .before .before .before .before .before .before .args .w) (c .before .before .before .before .before .before .args .e)) (sym (c .before .before .is-bare .ensures) ∙ c .before .if1 .left) (c .refuse .ensures)

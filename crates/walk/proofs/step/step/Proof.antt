@@ -1,93 +1,67 @@
+-- `walk::step::step` meets its contract. Assumes nothing.
+use mathlib.Core.Path.{ap}
 use Prim.Native.Nat.{_+_, _-_}
-use Rattle.seq.specs.Bytes.{part, part-length}
-use Rattle.walk.specs.State.{Ahead}
-use mathlib.Core.Path.{_≡_, sym, _∙_, ap}
 use native.Mathlib.Omega.{arith}
-use Rattle.seq.specs.Truth.{fails, holds}
-use lib.ListN.{length}
-use Rattle.layout.specs.View.{viewOf, isKind-below}
-use Rattle.walk.specs.State.{positionOf}
-use Rattle.walk.specs.Turns.{steps-nowhere, steps-denied, steps-on, component-range, behind-range}
 use borrow.Author.Needs.{needs}
+use Rattle.seq.specs.Bytes.{part, part-length}
+use Rattle.seq.specs.Truth.{fails, holds}
+use Rattle.layout.specs.View.{viewOf, isKind-below}
+use Rattle.walk.specs.State.{Ahead, positionOf}
+use Rattle.walk.specs.Turns.{steps-nowhere, steps-denied, steps-on, component-range, behind-range}
 use Rattle.walk.proofs.step.step.Statement.{statement}
 use Rattle.walk.proofs.step.step.Tie as tie
-use Rattle.walk.proofs.step.step.Reads as reads
-use Rattle.walk.proofs.step.step.Lts as lts
-use Rattle.layout.proofs.lookup.is_directory.Reads as is-directory-reads
-use Rattle.walk.proofs.path.name_bytes.Reads as name-bytes-reads
-use Rattle.walk.proofs.path.slashes.Reads as slashes-reads
-use Rattle.walk.proofs.state.refuse.Reads as refuse-reads
-use Rattle.walk.proofs.step.component.Reads as component-reads
-use Rattle.walk.proofs.step.may_search.Reads as may-search-reads
 
--- src/step.rt:146:9
 is-directory-requires : tie.Need-is-directory-requires
 is-directory-requires c κs = search needs
 
--- src/step.rt:147:9
 refuse-requires : tie.Need-refuse-requires
 refuse-requires c κs = search needs
 
--- src/step.rt:147:9
 returns : tie.Need-returns
 returns c = steps-nowhere (viewOf (c .before .before .before .before .args .h) (c .before .before .before .before .args .s .now)) (c .before .before .before .before .args .who) _ (positionOf (c .before .before .before .before .args .w)) _ (fails (c .before .before .is-directory .ensures) (c .before .if1 .taken)) (c .refuse .ensures)
 
--- src/step.rt:149:9
 may-search-requires : tie.Need-may-search-requires
 may-search-requires c κs = (search needs, isKind-below (c .before .before .before .args .h) (c .before .before .before .args .s .now) _ 2 (holds (c .before .is-directory .ensures) (c .if1 .left)))
 
--- src/step.rt:150:9
 refuse-requires-2 : tie.Need-refuse-requires-2
 refuse-requires-2 c κs = search needs
 
--- src/step.rt:150:9
 returns-2 : tie.Need-returns-2
 returns-2 c = steps-denied (viewOf (c .before .before .before .before .before .before .args .h) (c .before .before .before .before .before .before .args .s .now)) (c .before .before .before .before .before .before .args .who) _ (positionOf (c .before .before .before .before .before .before .args .w)) _ (holds (c .before .before .before .before .is-directory .ensures) (c .before .before .before .if1 .left)) (fails (c .before .before .may-search .ensures) (c .before .if2 .taken)) (c .refuse2 .ensures)
 
--- src/step.rt:155:32
 sub-slashes : tie.Need-sub-slashes
 sub-slashes c = search needs
 
--- src/step.rt:155:32
 part-slashes-start : tie.Need-part-slashes-start
 part-slashes-start c = search needs
 
--- src/step.rt:155:32
 part-slashes-end : tie.Need-part-slashes-end
-part-slashes-end c =     omega (arith, c .before .before .before .before .before .before .before .pre .1 .within, c .before .before .before .before .before .before .before .pre .1 .short, c .before .before .before .before .before .before .before .pre .1 .whole)
+part-slashes-end c = omega (arith, c .before .before .before .before .before .before .before .pre .1 .within, c .before .before .before .before .before .before .before .pre .1 .short, c .before .before .before .before .before .before .before .pre .1 .whole)
 
--- src/step.rt:155:18
 slashes-requires : tie.Need-slashes-requires
 slashes-requires c κs = search needs
 
--- src/step.rt:155:13
 add-a : tie.Need-add-a
 add-a c = search needs
 
--- src/step.rt:156:34
 sub-name-bytes : tie.Need-sub-name-bytes
 sub-name-bytes c = search needs
 
--- src/step.rt:156:34
 part-name-bytes-start : tie.Need-part-name-bytes-start
 part-name-bytes-start c = search needs
 
--- src/step.rt:156:34
 part-name-bytes-end : tie.Need-part-name-bytes-end
-part-name-bytes-end c =     omega (arith, c .before .before .before .before .before .before .before .before .before .before .pre .1 .within, c .before .before .before .before .before .before .before .before .before .before .pre .1 .short, c .before .before .before .before .before .before .before .before .before .before .pre .1 .whole)
+part-name-bytes-end c = omega (arith, c .before .before .before .before .before .before .before .before .before .before .pre .1 .within, c .before .before .before .before .before .before .before .before .before .before .pre .1 .short, c .before .before .before .before .before .before .before .before .before .before .pre .1 .whole)
 
--- src/step.rt:156:17
 name-bytes-requires : tie.Need-name-bytes-requires
 name-bytes-requires c κs = search needs
 
--- src/step.rt:156:13
 add-e : tie.Need-add-e
 add-e c = search needs
 
--- src/step.rt:157:5
 component-requires : tie.Need-component-requires
 unfolding part
-component-requires c κs =     let fit = c .before .before .before .before .before .before .before .before .before .before .before .before .pre .1 in
+component-requires c κs = let fit = c .before .before .before .before .before .before .before .before .before .before .before .before .pre .1 in
     let l = part-length (c .before .before .before .before .before .before .before .before .before .before .before .before .args .w .path) (c .before .before .before .before .before .before .before .before .before .before .before .before .args .w .at) (c .before .before .before .before .before .before .before .before .before .before .before .before .args .w .len - c .before .before .before .before .before .before .before .before .before .before .before .before .args .w .at) (omega (arith, fit .within, fit .short, fit .whole)) in
     let a = c .before .before .before .before .before .before .before .before .before .before .before .before .args .w .at + c .before .before .before .slashes .result in
     let few = c .before .before .before .slashes .ensures .1 in
@@ -96,10 +70,9 @@ component-requires c κs =     let fit = c .before .before .before .before .befo
     let ahead : Ahead (c .before .before .before .before .before .before .before .before .before .before .before .before .args .w) (a + c .name-bytes .result) = record { within = omega (arith, fit .within); short = fit .short; whole = fit .whole; few = c .before .before .before .before .before .before .before .before .before .before .before .before .pre .2 } in
     (search needs, ahead, omega arith, isKind-below (c .before .before .before .before .before .before .before .before .before .before .before .before .args .h) (c .before .before .before .before .before .before .before .before .before .before .before .before .args .s .now) _ 2 (holds (c .before .before .before .before .before .before .before .before .before .before .is-directory .ensures) (c .before .before .before .before .before .before .before .before .before .if1 .left)))
 
--- src/step.rt:142:1
 returns-3 : tie.Need-returns-3
 unfolding part viewOf
-returns-3 c =     let fit = c .before .before .before .before .before .before .before .before .before .before .before .before .before .pre .1 in
+returns-3 c = let fit = c .before .before .before .before .before .before .before .before .before .before .before .before .before .pre .1 in
     let l = part-length (c .before .before .before .before .before .before .before .before .before .before .before .before .before .args .w .path) (c .before .before .before .before .before .before .before .before .before .before .before .before .before .args .w .at) (c .before .before .before .before .before .before .before .before .before .before .before .before .before .args .w .len - c .before .before .before .before .before .before .before .before .before .before .before .before .before .args .w .at) (omega (arith, fit .within, fit .short, fit .whole)) in
     let a = c .before .before .before .before .before .before .before .before .before .before .before .before .before .args .w .at + c .before .before .before .before .slashes .result in
     let few = c .before .before .before .before .slashes .ensures .1 in
