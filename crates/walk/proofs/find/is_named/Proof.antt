@@ -1,0 +1,63 @@
+-- `walk::find::is_named` meets its contract. Assumes nothing.
+use mathlib.Core.Path.{sym, _∙_, ap}
+use native.Mathlib.Omega.{arith}
+use borrow.Author.Needs.{needs}
+use borrow.Author.Tests.{eq-eqb, ne-eqb}
+use Rattle.layout.specs.Fields.{entryNameLength, entryParent, entryName}
+use Rattle.layout.specs.Record.{field-of}
+use Rattle.layout.specs.View.{viewOf}
+use Rattle.walk.specs.Lookup.{isNamed}
+use Rattle.walk.proofs.find.is_named.Statement.{statement}
+use Rattle.walk.proofs.find.is_named.Tie as tie
+
+entry-requires : tie.Need-entry-requires
+entry-requires c κs = search needs
+
+name-length-requires : tie.Need-name-length-requires
+name-length-requires c κs = search needs
+
+returns : tie.Need-returns
+unfolding isNamed viewOf
+returns c = simp (eq-eqb _ _ (sym (field-of entryNameLength (c .before .before .entry .ensures) (c .before .name-length .ensures .0)) ∙ c .if1 .taken))
+
+parent-requires : tie.Need-parent-requires
+parent-requires c κs = search needs
+
+returns-2 : tie.Need-returns-2
+unfolding isNamed viewOf
+returns-2 c =
+    simp (
+      ne-eqb _ _ (λ e. c .before .before .if1 .left (field-of entryNameLength (c .before .before .before .before .entry .ensures) (c .before .before .before .name-length .ensures .0) ∙ e)),
+      ne-eqb _ _ (λ e. c .if2 .taken (field-of entryParent (c .before .before .before .before .entry .ensures) (c .before .parent .ensures .0) ∙ e)),
+    )
+
+name-requires : tie.Need-name-requires
+unfolding viewOf
+name-requires c κs = let n = ap entryNameLength (c .before .before .before .before .entry .ensures .is) in
+    omega (arith, c .before .before .before .before .before .before .before .pre .0 .names (c .before .before .before .before .before .before .before .args .j) (c .before .before .before .before .before .before .before .pre .1), c .before .before .before .before .entry .ensures .long, c .before .before .before .before .before .before .before .pre .0 .laid .width-least)
+
+same-requires : tie.Need-same-requires
+same-requires c κs = search needs
+
+returns-3 : tie.Need-returns-3
+unfolding isNamed viewOf
+returns-3 c = let n = c .before .name .ensures ∙ ap entryName (c .before .before .before .before .before .before .entry .ensures .is) in
+    simp (
+      ne-eqb _ _ (λ e. c .before .before .before .before .if1 .left (field-of entryNameLength (c .before .before .before .before .before .before .entry .ensures) (c .before .before .before .before .before .name-length .ensures .0) ∙ e)),
+      eq-eqb _ _ (sym (field-of entryParent (c .before .before .before .before .before .before .entry .ensures) (c .before .before .before .parent .ensures .0)) ∙ c .before .before .if2 .left),
+      c .same .ensures,
+      n,
+    )
+
+pub is-named-spec : {M : Type 1} → statement M
+is-named-spec =
+    tie.close
+    (tie.spec
+    entry-requires
+    name-length-requires
+    returns
+    parent-requires
+    returns-2
+    name-requires
+    same-requires
+    returns-3)

@@ -1,0 +1,21 @@
+-- `walk::resolve::working` meets its contract. Assumes nothing.
+use mathlib.Core.Path.{_∙_}
+use native.Mathlib.Omega.{arith}
+use borrow.Author.Needs.{needs}
+use Rattle.seq.specs.Bytes.{put-zeros}
+use Rattle.walk.specs.State.{filled}
+use Rattle.walk.proofs.resolve.working.Statement.{statement}
+use Rattle.walk.proofs.resolve.working.Tie as tie
+
+slice-aggregate-copy : tie.Need-slice-aggregate-copy
+slice-aggregate-copy c = search needs
+
+copy-requires : tie.Need-copy-requires
+copy-requires c κs = search needs
+
+returns : tie.Need-returns
+unfolding filled
+returns c = c .before .copy .ensures ∙ put-zeros 256 (c .before .before .before .before .args .path .now) (omega (arith, c .before .before .before .before .pre))
+
+pub working-spec : {M : Type 1} → statement M
+working-spec = tie.close (tie.spec slice-aggregate-copy copy-requires returns)

@@ -1,0 +1,45 @@
+-- `walk::state::follow` meets its contract. Assumes nothing.
+use borrow.Author.Needs.{needs}
+use borrow.Author.Tests.{lt-ltb, le-ltb, le-leb, lt-leb}
+use Rattle.walk.specs.Splice.{rest-length}
+use Rattle.walk.proofs.state.follow.Statement.{statement}
+use Rattle.walk.proofs.state.follow.Tie as tie
+
+refuse-requires : tie.Need-refuse-requires
+refuse-requires c κs = search needs
+
+returns : tie.Need-returns
+returns c = rw (le-leb _ _ (c .before .if1 .taken)) (c .refuse .ensures)
+
+sub-len : tie.Need-sub-len
+sub-len c = search needs
+
+add-len : tie.Need-add-len
+add-len c = search needs
+
+refuse-requires-2 : tie.Need-refuse-requires-2
+refuse-requires-2 c κs = search needs
+
+returns-2 : tie.Need-returns-2
+returns-2 c = let l = rest-length (c .before .before .before .before .before .before .args .w) (c .before .before .before .before .before .before .args .e) (c .before .before .before .before .before .before .pre .0) in
+    rw (lt-leb _ _ (c .before .before .before .if1 .left), lt-ltb _ _ (rw (← l) at (c .before .if2 .taken))) (c .refuse2 .ensures)
+
+join-requires : tie.Need-join-requires
+join-requires c κs = search needs
+
+returns-3 : tie.Need-returns-3
+returns-3 c = let l = rest-length (c .before .before .before .before .before .before .args .w) (c .before .before .before .before .before .before .args .e) (c .before .before .before .before .before .before .pre .0) in
+    rw (lt-leb _ _ (c .before .before .before .if1 .left), le-ltb _ _ (rw (← l) at (c .before .if2 .left))) (c .join .ensures)
+
+pub follow-spec : {M : Type 1} → statement M
+follow-spec =
+    tie.close
+    (tie.spec
+    refuse-requires
+    returns
+    sub-len
+    add-len
+    refuse-requires-2
+    returns-2
+    join-requires
+    returns-3)

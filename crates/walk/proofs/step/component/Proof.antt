@@ -1,0 +1,100 @@
+-- `walk::step::component` meets its contract. Assumes nothing.
+use mathlib.Core.Path.{sym, _∙_}
+use Prim.Native.Nat.{_-_}
+use native.Mathlib.Omega.{arith}
+use borrow.Author.Needs.{needs}
+use Rattle.seq.specs.Bytes.{part, part-length}
+use Rattle.layout.specs.View.{viewOf, nameRoom}
+use Rattle.walk.specs.State.{positionOf, restFrom}
+use Rattle.walk.specs.Turns.{fits-not, fits-dots, fits-name}
+use Rattle.walk.proofs.step.component.Statement.{statement}
+use Rattle.walk.proofs.step.component.Tie as tie
+
+sub-if1 : tie.Need-sub-if1
+sub-if1 c = search needs
+
+sub-if1-2 : tie.Need-sub-if1-2
+sub-if1-2 c = search needs
+
+refuse-requires : tie.Need-refuse-requires
+refuse-requires c κs = search needs
+
+returns : tie.Need-returns
+returns c = let l = part-length (c .before .before .before .before .args .w .path) (c .before .before .before .before .args .a) (c .before .before .before .before .args .e - c .before .before .before .before .args .a) (omega (arith, c .before .before .before .before .pre .1 .within, c .before .before .before .before .pre .1 .short, c .before .before .before .before .pre .1 .whole)) in
+    fits-not (viewOf (c .before .before .before .before .args .h) (c .before .before .before .before .args .s .now)) _ (positionOf (c .before .before .before .before .args .w)) _ (part (c .before .before .before .before .args .w .path) (c .before .before .before .before .args .a) (c .before .before .before .before .args .e - c .before .before .before .before .args .a)) (restFrom (c .before .before .before .before .args .w) (c .before .before .before .before .args .e)) (nameRoom (c .before .before .before .before .args .h)) (rw (← l) at (c .before .if1 .taken)) (c .refuse .ensures)
+
+sub-is-dot : tie.Need-sub-is-dot
+sub-is-dot c = search needs
+
+part-is-dot-start : tie.Need-part-is-dot-start
+part-is-dot-start c = search needs
+
+part-is-dot-end : tie.Need-part-is-dot-end
+part-is-dot-end c = omega (arith, c .before .before .before .before .before .pre .1 .within, c .before .before .before .before .before .pre .1 .short, c .before .before .before .before .before .pre .1 .whole)
+
+is-dot-requires : tie.Need-is-dot-requires
+is-dot-requires c κs = search needs
+
+dots-requires : tie.Need-dots-requires
+dots-requires c κs = search needs
+
+returns-2 : tie.Need-returns-2
+unfolding part
+returns-2 c = let l = part-length (c .before .before .before .before .before .before .before .before .before .args .w .path) (c .before .before .before .before .before .before .before .before .before .args .a) (c .before .before .before .before .before .before .before .before .before .args .e - c .before .before .before .before .before .before .before .before .before .args .a) (omega (arith, c .before .before .before .before .before .before .before .before .before .pre .1 .within, c .before .before .before .before .before .before .before .before .before .pre .1 .short, c .before .before .before .before .before .before .before .before .before .pre .1 .whole)) in
+    let d = sym (c .before .before .is-dot .ensures) ∙ c .before .if2 .taken in
+    fits-dots (viewOf (c .before .before .before .before .before .before .before .before .before .args .h) (c .before .before .before .before .before .before .before .before .before .args .s .now)) _ (positionOf (c .before .before .before .before .before .before .before .before .before .args .w)) _ (part (c .before .before .before .before .before .before .before .before .before .args .w .path) (c .before .before .before .before .before .before .before .before .before .args .a) (c .before .before .before .before .before .before .before .before .before .args .e - c .before .before .before .before .before .before .before .before .before .args .a)) (restFrom (c .before .before .before .before .before .before .before .before .before .args .w) (c .before .before .before .before .before .before .before .before .before .args .e)) (nameRoom (c .before .before .before .before .before .before .before .before .before .args .h)) (rw (← l) at (c .before .before .before .before .before .before .if1 .left)) (rw d) (c .dots .ensures)
+
+sub-is-dot-dot : tie.Need-sub-is-dot-dot
+sub-is-dot-dot c = search needs
+
+part-is-dot-dot-start : tie.Need-part-is-dot-dot-start
+part-is-dot-dot-start c = search needs
+
+part-is-dot-dot-end : tie.Need-part-is-dot-dot-end
+part-is-dot-dot-end c = omega (arith, c .before .before .before .before .before .before .before .before .before .pre .1 .within, c .before .before .before .before .before .before .before .before .before .pre .1 .short, c .before .before .before .before .before .before .before .before .before .pre .1 .whole)
+
+is-dot-dot-requires : tie.Need-is-dot-dot-requires
+is-dot-dot-requires c κs = search needs
+
+dots-requires-2 : tie.Need-dots-requires-2
+dots-requires-2 c κs = search needs
+
+returns-3 : tie.Need-returns-3
+unfolding part
+returns-3 c = let l = part-length (c .before .before .before .before .before .before .before .before .before .before .before .before .before .args .w .path) (c .before .before .before .before .before .before .before .before .before .before .before .before .before .args .a) (c .before .before .before .before .before .before .before .before .before .before .before .before .before .args .e - c .before .before .before .before .before .before .before .before .before .before .before .before .before .args .a) (omega (arith, c .before .before .before .before .before .before .before .before .before .before .before .before .before .pre .1 .within, c .before .before .before .before .before .before .before .before .before .before .before .before .before .pre .1 .short, c .before .before .before .before .before .before .before .before .before .before .before .before .before .pre .1 .whole)) in
+    let d = sym (c .before .before .before .before .before .before .is-dot .ensures) ∙ c .before .before .before .before .before .if2 .left in
+    let e = sym (c .before .before .is-dot-dot .ensures) ∙ c .before .if3 .taken in
+    fits-dots (viewOf (c .before .before .before .before .before .before .before .before .before .before .before .before .before .args .h) (c .before .before .before .before .before .before .before .before .before .before .before .before .before .args .s .now)) _ (positionOf (c .before .before .before .before .before .before .before .before .before .before .before .before .before .args .w)) _ (part (c .before .before .before .before .before .before .before .before .before .before .before .before .before .args .w .path) (c .before .before .before .before .before .before .before .before .before .before .before .before .before .args .a) (c .before .before .before .before .before .before .before .before .before .before .before .before .before .args .e - c .before .before .before .before .before .before .before .before .before .before .before .before .before .args .a)) (restFrom (c .before .before .before .before .before .before .before .before .before .before .before .before .before .args .w) (c .before .before .before .before .before .before .before .before .before .before .before .before .before .args .e)) (nameRoom (c .before .before .before .before .before .before .before .before .before .before .before .before .before .args .h)) (rw (← l) at (c .before .before .before .before .before .before .before .before .before .before .if1 .left)) (rw (d, e)) (c .dots2 .ensures)
+
+seek-requires : tie.Need-seek-requires
+seek-requires c κs = search needs
+
+returns-4 : tie.Need-returns-4
+unfolding part viewOf
+returns-4 c = let l = part-length (c .before .before .before .before .before .before .before .before .before .before .before .before .before .args .w .path) (c .before .before .before .before .before .before .before .before .before .before .before .before .before .args .a) (c .before .before .before .before .before .before .before .before .before .before .before .before .before .args .e - c .before .before .before .before .before .before .before .before .before .before .before .before .before .args .a) (omega (arith, c .before .before .before .before .before .before .before .before .before .before .before .before .before .pre .1 .within, c .before .before .before .before .before .before .before .before .before .before .before .before .before .pre .1 .short, c .before .before .before .before .before .before .before .before .before .before .before .before .before .pre .1 .whole)) in
+    let d = sym (c .before .before .before .before .before .before .is-dot .ensures) ∙ c .before .before .before .before .before .if2 .left in
+    let e = sym (c .before .before .is-dot-dot .ensures) ∙ c .before .if3 .left in
+    fits-name (viewOf (c .before .before .before .before .before .before .before .before .before .before .before .before .before .args .h) (c .before .before .before .before .before .before .before .before .before .before .before .before .before .args .s .now)) _ (positionOf (c .before .before .before .before .before .before .before .before .before .before .before .before .before .args .w)) _ (part (c .before .before .before .before .before .before .before .before .before .before .before .before .before .args .w .path) (c .before .before .before .before .before .before .before .before .before .before .before .before .before .args .a) (c .before .before .before .before .before .before .before .before .before .before .before .before .before .args .e - c .before .before .before .before .before .before .before .before .before .before .before .before .before .args .a)) (restFrom (c .before .before .before .before .before .before .before .before .before .before .before .before .before .args .w) (c .before .before .before .before .before .before .before .before .before .before .before .before .before .args .e)) (nameRoom (c .before .before .before .before .before .before .before .before .before .before .before .before .before .args .h)) (rw (← l) at (c .before .before .before .before .before .before .before .before .before .before .if1 .left)) d e (c .seek .ensures)
+
+pub component-spec : {M : Type 1} → statement M
+component-spec =
+    tie.close
+    (tie.spec
+    sub-if1
+    sub-if1-2
+    refuse-requires
+    returns
+    sub-is-dot
+    part-is-dot-start
+    part-is-dot-end
+    is-dot-requires
+    dots-requires
+    returns-2
+    sub-is-dot-dot
+    part-is-dot-dot-start
+    part-is-dot-dot-end
+    is-dot-dot-requires
+    dots-requires-2
+    returns-3
+    seek-requires
+    returns-4)

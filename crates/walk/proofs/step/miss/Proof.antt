@@ -1,0 +1,50 @@
+-- `walk::step::miss` meets its contract. Assumes nothing.
+use mathlib.Core.Path.{sym, _∙_}
+use Prim.Native.Nat.{_-_}
+use native.Mathlib.Omega.{arith}
+use borrow.Author.Needs.{needs}
+use Rattle.seq.specs.Bytes.{part}
+use Rattle.walk.specs.Splice.{slash-behind}
+use Rattle.walk.specs.State.{positionOf, restFrom}
+use Rattle.walk.specs.Turns.{misses-last, misses-more}
+use Rattle.walk.proofs.step.miss.Statement.{statement}
+use Rattle.walk.proofs.step.miss.Tie as tie
+
+sub-is-bare : tie.Need-sub-is-bare
+sub-is-bare c = search needs
+
+part-is-bare-start : tie.Need-part-is-bare-start
+part-is-bare-start c = search needs
+
+part-is-bare-end : tie.Need-part-is-bare-end
+part-is-bare-end c = omega (arith, c .before .before .pre .within, c .before .before .pre .short, c .before .before .pre .whole)
+
+is-bare-requires : tie.Need-is-bare-requires
+is-bare-requires c κs = search needs
+
+lacks-requires : tie.Need-lacks-requires
+lacks-requires c κs = search needs
+
+returns : tie.Need-returns
+unfolding part
+returns c = misses-last _ (positionOf (c .before .before .before .before .before .before .args .w)) _ (part (c .before .before .before .before .before .before .args .w .path) (c .before .before .before .before .before .before .args .a) (c .before .before .before .before .before .before .args .e - c .before .before .before .before .before .before .args .a)) (restFrom (c .before .before .before .before .before .before .args .w) (c .before .before .before .before .before .before .args .e)) _ (sym (c .before .before .is-bare .ensures) ∙ c .before .if1 .taken) (slash-behind (c .before .before .before .before .before .before .args .w) (c .before .before .before .before .before .before .args .e) (c .before .before .before .before .before .before .pre)) (c .lacks .ensures)
+
+refuse-requires : tie.Need-refuse-requires
+refuse-requires c κs = search needs
+
+returns-2 : tie.Need-returns-2
+unfolding part
+returns-2 c = misses-more _ (positionOf (c .before .before .before .before .before .before .args .w)) _ (part (c .before .before .before .before .before .before .args .w .path) (c .before .before .before .before .before .before .args .a) (c .before .before .before .before .before .before .args .e - c .before .before .before .before .before .before .args .a)) (restFrom (c .before .before .before .before .before .before .args .w) (c .before .before .before .before .before .before .args .e)) (sym (c .before .before .is-bare .ensures) ∙ c .before .if1 .left) (c .refuse .ensures)
+
+pub miss-spec : {M : Type 1} → statement M
+miss-spec =
+    tie.close
+    (tie.spec
+    sub-is-bare
+    part-is-bare-start
+    part-is-bare-end
+    is-bare-requires
+    lacks-requires
+    returns
+    refuse-requires
+    returns-2)

@@ -1,0 +1,52 @@
+-- `walk::step::seek` meets its contract. Assumes nothing.
+use Prim.Native.Nat.{_-_}
+use native.Mathlib.Omega.{arith}
+use borrow.Author.Needs.{needs}
+use Rattle.seq.specs.Bytes.{part}
+use Rattle.layout.specs.View.{viewOf}
+use Rattle.walk.specs.Lookup.{lookup-used}
+use Rattle.walk.specs.State.{positionOf, restFrom}
+use Rattle.walk.specs.Turns.{seeks-hit, seeks-miss}
+use Rattle.walk.proofs.step.seek.Statement.{statement}
+use Rattle.walk.proofs.step.seek.Tie as tie
+
+sub-find : tie.Need-sub-find
+sub-find c = search needs
+
+part-find-start : tie.Need-part-find-start
+part-find-start c = search needs
+
+part-find-end : tie.Need-part-find-end
+part-find-end c = omega (arith, c .before .before .before .pre .1 .within, c .before .before .before .pre .1 .short, c .before .before .before .pre .1 .whole)
+
+find-requires : tie.Need-find-requires
+find-requires c κs = search needs
+
+hit-requires : tie.Need-hit-requires
+unfolding part viewOf
+hit-requires c κs = let j = c .before .before .find .ensures .0 in
+    (search needs, search needs, c .if1 .taken, lookup-used (viewOf (c .before .before .before .before .before .before .before .args .h) (c .before .before .before .before .before .before .before .args .s .now)) (c .before .before .before .before .before .before .before .args .w .directory) (part (c .before .before .before .before .before .before .before .args .w .path) (c .before .before .before .before .before .before .before .args .a) (c .before .before .before .before .before .before .before .args .e - c .before .before .before .before .before .before .before .args .a)) _ j (c .if1 .taken))
+
+returns : tie.Need-returns
+unfolding part
+returns c = seeks-hit (viewOf (c .before .before .before .before .before .before .before .before .args .h) (c .before .before .before .before .before .before .before .before .args .s .now)) _ (positionOf (c .before .before .before .before .before .before .before .before .args .w)) _ (part (c .before .before .before .before .before .before .before .before .args .w .path) (c .before .before .before .before .before .before .before .before .args .a) (c .before .before .before .before .before .before .before .before .args .e - c .before .before .before .before .before .before .before .before .args .a)) (restFrom (c .before .before .before .before .before .before .before .before .args .w) (c .before .before .before .before .before .before .before .before .args .e)) (c .before .before .before .find .result) _ (c .before .before .before .before .before .before .before .before .args .h .entries) (c .before .before .before .find .ensures .0) (c .before .if1 .taken) (c .hit .ensures)
+
+miss-requires : tie.Need-miss-requires
+miss-requires c κs = search needs
+
+returns-2 : tie.Need-returns-2
+unfolding part
+returns-2 c = seeks-miss (viewOf (c .before .before .before .before .before .before .before .before .args .h) (c .before .before .before .before .before .before .before .before .args .s .now)) _ (positionOf (c .before .before .before .before .before .before .before .before .args .w)) _ (part (c .before .before .before .before .before .before .before .before .args .w .path) (c .before .before .before .before .before .before .before .before .args .a) (c .before .before .before .before .before .before .before .before .args .e - c .before .before .before .before .before .before .before .before .args .a)) (restFrom (c .before .before .before .before .before .before .before .before .args .w) (c .before .before .before .before .before .before .before .before .args .e)) (c .before .before .before .find .result) _ (c .before .before .before .before .before .before .before .before .args .h .entries) (c .before .before .before .find .ensures .0) (c .before .if1 .left) (c .miss .ensures)
+
+pub seek-spec : {M : Type 1} → statement M
+seek-spec =
+    tie.close
+    (tie.spec
+    sub-find
+    part-find-start
+    part-find-end
+    find-requires
+    hit-requires
+    returns
+    miss-requires
+    returns-2)

@@ -1,0 +1,108 @@
+-- `walk::step::step` meets its contract. Assumes nothing.
+use mathlib.Core.Path.{ap}
+use Prim.Native.Nat.{_+_, _-_}
+use native.Mathlib.Omega.{arith}
+use borrow.Author.Needs.{needs}
+use Rattle.seq.specs.Bytes.{part, part-length}
+use Rattle.seq.specs.Truth.{fails, holds}
+use Rattle.layout.specs.View.{viewOf, isKind-below}
+use Rattle.walk.specs.State.{Ahead, positionOf}
+use Rattle.walk.specs.Turns.{steps-nowhere, steps-denied, steps-on, component-range, behind-range}
+use Rattle.walk.proofs.step.step.Statement.{statement}
+use Rattle.walk.proofs.step.step.Tie as tie
+
+is-directory-requires : tie.Need-is-directory-requires
+is-directory-requires c κs = search needs
+
+refuse-requires : tie.Need-refuse-requires
+refuse-requires c κs = search needs
+
+returns : tie.Need-returns
+returns c = steps-nowhere (viewOf (c .before .before .before .before .args .h) (c .before .before .before .before .args .s .now)) (c .before .before .before .before .args .who) _ (positionOf (c .before .before .before .before .args .w)) _ (fails (c .before .before .is-directory .ensures) (c .before .if1 .taken)) (c .refuse .ensures)
+
+may-search-requires : tie.Need-may-search-requires
+may-search-requires c κs = (search needs, isKind-below (c .before .before .before .args .h) (c .before .before .before .args .s .now) _ 2 (holds (c .before .is-directory .ensures) (c .if1 .left)))
+
+refuse-requires-2 : tie.Need-refuse-requires-2
+refuse-requires-2 c κs = search needs
+
+returns-2 : tie.Need-returns-2
+returns-2 c = steps-denied (viewOf (c .before .before .before .before .before .before .args .h) (c .before .before .before .before .before .before .args .s .now)) (c .before .before .before .before .before .before .args .who) _ (positionOf (c .before .before .before .before .before .before .args .w)) _ (holds (c .before .before .before .before .is-directory .ensures) (c .before .before .before .if1 .left)) (fails (c .before .before .may-search .ensures) (c .before .if2 .taken)) (c .refuse2 .ensures)
+
+sub-slashes : tie.Need-sub-slashes
+sub-slashes c = search needs
+
+part-slashes-start : tie.Need-part-slashes-start
+part-slashes-start c = search needs
+
+part-slashes-end : tie.Need-part-slashes-end
+part-slashes-end c = omega (arith, c .before .before .before .before .before .before .before .pre .1 .within, c .before .before .before .before .before .before .before .pre .1 .short, c .before .before .before .before .before .before .before .pre .1 .whole)
+
+slashes-requires : tie.Need-slashes-requires
+slashes-requires c κs = search needs
+
+add-a : tie.Need-add-a
+add-a c = search needs
+
+sub-name-bytes : tie.Need-sub-name-bytes
+sub-name-bytes c = search needs
+
+part-name-bytes-start : tie.Need-part-name-bytes-start
+part-name-bytes-start c = search needs
+
+part-name-bytes-end : tie.Need-part-name-bytes-end
+part-name-bytes-end c = omega (arith, c .before .before .before .before .before .before .before .before .before .before .pre .1 .within, c .before .before .before .before .before .before .before .before .before .before .pre .1 .short, c .before .before .before .before .before .before .before .before .before .before .pre .1 .whole)
+
+name-bytes-requires : tie.Need-name-bytes-requires
+name-bytes-requires c κs = search needs
+
+add-e : tie.Need-add-e
+add-e c = search needs
+
+component-requires : tie.Need-component-requires
+unfolding part
+component-requires c κs = let fit = c .before .before .before .before .before .before .before .before .before .before .before .before .pre .1 in
+    let l = part-length (c .before .before .before .before .before .before .before .before .before .before .before .before .args .w .path) (c .before .before .before .before .before .before .before .before .before .before .before .before .args .w .at) (c .before .before .before .before .before .before .before .before .before .before .before .before .args .w .len - c .before .before .before .before .before .before .before .before .before .before .before .before .args .w .at) (omega (arith, fit .within, fit .short, fit .whole)) in
+    let a = c .before .before .before .before .before .before .before .before .before .before .before .before .args .w .at + c .before .before .before .slashes .result in
+    let few = c .before .before .before .slashes .ensures .1 in
+    let k = part-length (c .before .before .before .before .before .before .before .before .before .before .before .before .args .w .path) a (c .before .before .before .before .before .before .before .before .before .before .before .before .args .w .len - a) (omega (arith, fit .within, fit .short, fit .whole)) in
+    let more = c .name-bytes .ensures .1 in
+    let ahead : Ahead (c .before .before .before .before .before .before .before .before .before .before .before .before .args .w) (a + c .name-bytes .result) = record { within = omega (arith, fit .within); short = fit .short; whole = fit .whole; few = c .before .before .before .before .before .before .before .before .before .before .before .before .pre .2 } in
+    (search needs, ahead, omega arith, isKind-below (c .before .before .before .before .before .before .before .before .before .before .before .before .args .h) (c .before .before .before .before .before .before .before .before .before .before .before .before .args .s .now) _ 2 (holds (c .before .before .before .before .before .before .before .before .before .before .is-directory .ensures) (c .before .before .before .before .before .before .before .before .before .if1 .left)))
+
+returns-3 : tie.Need-returns-3
+unfolding part viewOf
+returns-3 c = let fit = c .before .before .before .before .before .before .before .before .before .before .before .before .before .pre .1 in
+    let l = part-length (c .before .before .before .before .before .before .before .before .before .before .before .before .before .args .w .path) (c .before .before .before .before .before .before .before .before .before .before .before .before .before .args .w .at) (c .before .before .before .before .before .before .before .before .before .before .before .before .before .args .w .len - c .before .before .before .before .before .before .before .before .before .before .before .before .before .args .w .at) (omega (arith, fit .within, fit .short, fit .whole)) in
+    let a = c .before .before .before .before .before .before .before .before .before .before .before .before .before .args .w .at + c .before .before .before .before .slashes .result in
+    let few = c .before .before .before .before .slashes .ensures .1 in
+    let k = part-length (c .before .before .before .before .before .before .before .before .before .before .before .before .before .args .w .path) a (c .before .before .before .before .before .before .before .before .before .before .before .before .before .args .w .len - a) (omega (arith, fit .within, fit .short, fit .whole)) in
+    let more = c .before .name-bytes .ensures .1 in
+    let start = ap (λ n. c .before .before .before .before .before .before .before .before .before .before .before .before .before .args .w .at + n) (c .before .before .before .before .slashes .ensures .0) in
+    let end = ap (λ n. a + n) (c .before .name-bytes .ensures .0) in
+    steps-on (viewOf (c .before .before .before .before .before .before .before .before .before .before .before .before .before .args .h) (c .before .before .before .before .before .before .before .before .before .before .before .before .before .args .s .now)) (c .before .before .before .before .before .before .before .before .before .before .before .before .before .args .who) _ (positionOf (c .before .before .before .before .before .before .before .before .before .before .before .before .before .args .w)) _ _ _ (holds (c .before .before .before .before .before .before .before .before .before .before .before .is-directory .ensures) (c .before .before .before .before .before .before .before .before .before .before .if1 .left)) (holds (c .before .before .before .before .before .before .before .before .before .may-search .ensures) (c .before .before .before .before .before .before .before .before .if2 .left))
+    (component-range (c .before .before .before .before .before .before .before .before .before .before .before .before .before .args .w .path) (c .before .before .before .before .before .before .before .before .before .before .before .before .before .args .w .at) (c .before .before .before .before .before .before .before .before .before .before .before .before .before .args .w .len) a (a + c .before .name-bytes .result) (fit .within) start end (omega (arith, fit .within)))
+    (behind-range (c .before .before .before .before .before .before .before .before .before .before .before .before .before .args .w .path) (c .before .before .before .before .before .before .before .before .before .before .before .before .before .args .w .at) (c .before .before .before .before .before .before .before .before .before .before .before .before .before .args .w .len) a (a + c .before .name-bytes .result) (fit .within) start end) (c .component .ensures)
+
+pub step-spec : {M : Type 1} → statement M
+step-spec =
+    tie.close
+    (tie.spec
+    is-directory-requires
+    refuse-requires
+    returns
+    may-search-requires
+    refuse-requires-2
+    returns-2
+    sub-slashes
+    part-slashes-start
+    part-slashes-end
+    slashes-requires
+    add-a
+    sub-name-bytes
+    part-name-bytes-start
+    part-name-bytes-end
+    name-bytes-requires
+    add-e
+    component-requires
+    returns-3)

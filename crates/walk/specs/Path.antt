@@ -1,0 +1,46 @@
+-- A path and its components (rule 51). Assumes nothing.
+use mathlib.Core.Bool.{Bool, not}
+use mathlib.Core.List.{List, [], _∷_}
+use Prim.Native.Nat.{ℕ}
+use lib.Dec.{eqb}
+use lib.ListN.{length, getD, take, drop}
+use Rattle.seq.specs.Search.{first}
+use Rattle.seq.specs.Bytes.{sameBytes}
+
+abbrev pub isSlash : ℕ → Bool
+isSlash b = eqb b 47
+
+-- how many slashes a path begins with
+unfoldable pub slashes : List ℕ → ℕ
+slashes p = first (λ k. not (isSlash (getD p k 0))) (length p)
+
+-- how many bytes stand ahead of its first slash
+unfoldable pub nameBytes : List ℕ → ℕ
+nameBytes p = first (λ k. isSlash (getD p k 0)) (length p)
+
+-- a path without the slashes that it begins with
+abbrev pub skip : List ℕ → List ℕ
+skip p = drop (slashes p) p
+
+-- rule 51: the first component, and what stands behind it, its slashes first
+abbrev pub component : List ℕ → List ℕ
+component p = take (nameBytes (skip p)) (skip p)
+
+abbrev pub behind : List ℕ → List ℕ
+behind p = drop (nameBytes (skip p)) (skip p)
+
+abbrev pub empty : List ℕ → Bool
+empty p = eqb (length p) 0
+
+-- nothing but slashes
+abbrev pub bare : List ℕ → Bool
+bare p = eqb (slashes p) (length p)
+
+abbrev pub absolute : List ℕ → Bool
+absolute p = isSlash (getD p 0 0)
+
+abbrev pub isDot : List ℕ → Bool
+isDot name = sameBytes name (46 ∷ [])
+
+abbrev pub isDotDot : List ℕ → Bool
+isDotDot name = sameBytes name (46 ∷ 46 ∷ [])
