@@ -1,8 +1,9 @@
 -- A consistent image (the papers' word is sound), and the number that the job check answers (rules 27, 33 and 47). Assumes nothing.
-use mathlib.Core.Path.{_≡_}
-use mathlib.Core.Bool.{Bool, false, _&&_, not, cond}
+use mathlib.Core.Path.{_≡_, refl}
+use mathlib.Core.Bool.{Bool, true, false, _&&_, not, cond}
 use mathlib.Core.List.{List}
 use Prim.Native.Nat.{ℕ}
+use native.Mathlib.Omega.{arith}
 use Rattle.seq.specs.Search.{all}
 use Rattle.layout.specs.declared.Shape.{Shape}
 use Rattle.layout.specs.Contents.{layoutGood, shapeOf, Read}
@@ -43,3 +44,12 @@ check-bad s e = rw e
 pub check-read : (s : List ℕ) (h : Shape) → Read s h → checkNumber s ≡ recordsNumber h s
 unfolding checkNumber
 check-read s h r = rw (r .good, r .shape)
+
+pub zero-bodies : (h : Shape) (s : List ℕ) → recordsNumber h s ≡ 0 → bodiesGood h s ≡ true
+unfolding recordsNumber
+zero-bodies h s e = go (journalClear h s) (bodiesGood h s) e
+  where
+    go : (a b : Bool) → cond a (cond b 0 unsound) pending ≡ 0 → b ≡ true
+    go true true z = refl
+    go true false z = absurd (omega arith)
+    go false b z = absurd (omega arith)

@@ -1,5 +1,5 @@
 -- What a consistent image gives those who reason with it, both directions, and that it is readable. Assumes nothing.
-use mathlib.Core.Path.{_≡_, refl}
+use mathlib.Core.Path.{_≡_, refl, sym, _∙_}
 use mathlib.Core.Bool.{Bool, true, false}
 use mathlib.Core.List.{List}
 use Prim.Native.Nat.{ℕ, _-_, _≤_, _<_}
@@ -10,14 +10,14 @@ use borrow.Author.Tests.{eqb-true, eqb-false, not-true, not-false}
 use Rattle.seq.specs.Truth.{and-left, and-right}
 use Rattle.seq.specs.Search.{any-not, any-false, all-at, all-of}
 use Rattle.layout.specs.declared.Shape.{Shape}
-use Rattle.layout.specs.Contents.{layoutGood, shapeOf, Laid, good-laid}
+use Rattle.layout.specs.Contents.{layoutGood, shapeOf, Laid, good-laid, Read}
 use Rattle.layout.specs.View.{viewOf, isDirectory, entryUsed, isKind-below, Readable}
 use Rattle.consistency.specs.Name.{clash, hasDuplicate}
 use Rattle.consistency.specs.Tree.{leads-field}
 use Rattle.consistency.specs.Inode.{inodeGood}
 use Rattle.consistency.specs.Entry.{entryGood}
 use Rattle.consistency.specs.Others.{textGood, handleGood, journalClear}
-use Rattle.consistency.specs.Consistent.{bodiesGood, consistent}
+use Rattle.consistency.specs.Consistent.{bodiesGood, consistent, checkNumber, check-read, zero-bodies}
 use Rattle.consistency.specs.InodeFacts.{Directory, Inode, inode-is, is-inode}
 use Rattle.consistency.specs.RecordFacts.{Entry, Text, Handle, entry-is, is-entry, text-is, is-text, handle-is, is-handle}
 
@@ -120,3 +120,7 @@ module _ (h : Shape) (s : List ℕ) (laid : Laid h s) (f : Bodies h s) where
 
 pub consistent-readable : (s : List ℕ) → consistent s ≡ true → Readable (shapeOf s) s
 consistent-readable s e = let f = consistent-is s e in bodies-readable (shapeOf s) s (good-laid s (f .layout)) (f .bodies)
+
+-- what the job check shows of an image that it passed
+pub checked-readable : (s : List ℕ) (h : Shape) → Read s h → checkNumber s ≡ 0 → Readable h s
+checked-readable s h r e = bodies-readable h s (r .laid) (bodies-is h s (zero-bodies h s (sym (check-read s h r) ∙ e)))

@@ -5,22 +5,11 @@ use crate::reader;
 use crate::reader::Number;
 use libc::STDOUT_FILENO;
 
-// The checksum of an image.
-fn checksum(image: &[u8]) -> usize {
-    let mut sum: usize = 0;
-    let mut i: usize = 0;
-    while i < image.len() {
-        sum = (31 * sum + reader::wide(image[i]) + 1) % 4294967291;
-        i += 1;
-    }
-    sum
-}
-
 // Prints the line of a case: the number that the library answers, and the checksum of the image after it.
 fn answer(image: &mut [u8], plan: &[u8], row: u64) {
     io::print_decimal(STDOUT_FILENO, mirepillar::mp_land(image, plan, row));
     io::write_all(STDOUT_FILENO, b" ");
-    io::print_decimal(STDOUT_FILENO, checksum(image) as u64);
+    io::print_decimal(STDOUT_FILENO, reader::checksum(image) as u64);
     io::write_all(STDOUT_FILENO, b"\n");
 }
 

@@ -5,6 +5,7 @@ use reader::Tag;
 mod check;
 mod image;
 mod land;
+mod paths;
 mod plan;
 mod reader;
 
@@ -15,6 +16,8 @@ const BASE: u8 = 1;
 
 const CHECK_CASE: u8 = 2;
 
+const WALK_CASE: u8 = 3;
+
 const LAND_CASE: u8 = 4;
 
 // Reads the rest of an item, and answers it where it is a case.
@@ -24,6 +27,9 @@ fn item(fd: i32, tag: u8, base: &mut [u8], image: &mut [u8], plan: &mut [u8]) ->
     }
     if tag == CHECK_CASE {
         return check::case(fd, base, image);
+    }
+    if tag == WALK_CASE {
+        return paths::case(fd, base, image);
     }
     if tag == LAND_CASE {
         return land::case(fd, base, image, plan);
@@ -74,4 +80,5 @@ fn run(path: &[u8]) {
 fn main() {
     run(b"check");
     run(b"land");
+    run(b"walk");
 }

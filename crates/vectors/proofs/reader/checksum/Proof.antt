@@ -1,15 +1,15 @@
--- `vectors::land::checksum` meets its contract. Assumes nothing.
+-- `vectors::reader::checksum` meets its contract. Assumes nothing.
 use Prim.Native.Nat.{_<_, _-_}
 use lib.ListN.{length}
 use borrow.Author.Needs.{needs}
-use Rattle.vectors.proofs.land.checksum.Statement.{statement}
-use Rattle.vectors.proofs.land.checksum.Tie as tie
+use Rattle.vectors.proofs.reader.checksum.Statement.{statement}
+use Rattle.vectors.proofs.reader.checksum.Tie as tie
 
 abbrev Inv-loop : tie.InvT-loop
-Inv-loop image sum₀ i₀ sum i = sum < 4294967291
+Inv-loop s sum₀ i₀ sum i = sum < 4294967291
 
 abbrev μ-loop : tie.MeasureT-loop
-μ-loop image sum₀ i₀ sum i = length image - i
+μ-loop s sum₀ i₀ sum i = length s - i
 
 loop-holds : tie.Need-loop-holds Inv-loop μ-loop
 loop-holds c = search needs
