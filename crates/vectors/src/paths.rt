@@ -8,9 +8,9 @@ use walk::request::Credentials;
 use walk::request::Request;
 use walk::state::Ending;
 use walk::state::Turn;
+ghost use mathlib.Core.Path.{_≡_};
+ghost use lib.ListN.{length};
 ghost use Rattle.layout.specs.View.{Readable};
-
-const LONGEST_PATH: usize = 600;
 
 const NONE: usize = 65535;
 
@@ -44,6 +44,15 @@ fn print_name(name: &[u8]) {
     print_next(reader::checksum(name));
 }
 
+// The name in a range of the working path.
+fn print_range(path: &[u8], from: usize, to: usize) {
+    if from <= to {
+        if to <= path.len() {
+            print_name(&path[from..to]);
+        }
+    }
+}
+
 // What a walk has found.
 fn print_end(r: Turn) {
     print_next(r.walk.directory);
@@ -59,11 +68,7 @@ fn print_end(r: Turn) {
             print_next(NONE);
             print_slash(slash);
             let path = r.walk.path;
-            if from <= to {
-                if to <= 256 {
-                    print_name(&path[from..to]);
-                }
-            }
+            print_range(&path, from, to);
         }
         Ending::Refused(_) => reader::complain(b"a walk was refused with the number 0"),
         Ending::Going => reader::complain(b"a walk did not end"),
@@ -119,25 +124,42 @@ fn answer(s: &[u8], q: Request, old: &[u8], new: &[u8]) -> bool {
     true
 }
 
+// Room for the longest path.
+fn buffer() -> [u8; 600]
+    ensures { λ r. ⌜ 600 ≡ length r ⌝ }
+{
+    [0; 600]
+}
+
+// Reads the two paths, which fill their buffers, and answers.
+fn filled(fd: i32, s: &[u8], q: Request, old: &mut [u8], new: &mut [u8]) -> bool {
+    if !reader::fill(fd, old) {
+        return false;
+    }
+    if !reader::fill(fd, new) {
+        return false;
+    }
+    answer(s, q, old, new)
+}
+
+// Cuts the buffers to the lengths of the paths.
+fn lent(fd: i32, s: &[u8], q: Request, old: &mut [u8], n: usize, new: &mut [u8], m: usize) -> bool {
+    if old.len() < n {
+        reader::complain(b"a path is too long");
+        return false;
+    }
+    if new.len() < m {
+        reader::complain(b"a path is too long");
+        return false;
+    }
+    filled(fd, s, q, &mut old[..n], &mut new[..m])
+}
+
 // Reads the two paths, of these lengths, and answers.
-fn paths(fd: i32, s: &[u8], q: Request, old_length: usize, new_length: usize) -> bool {
-    let mut old = [0u8; 600];
-    let mut new = [0u8; 600];
-    if LONGEST_PATH < old_length {
-        reader::complain(b"a path is too long");
-        return false;
-    }
-    if LONGEST_PATH < new_length {
-        reader::complain(b"a path is too long");
-        return false;
-    }
-    if !reader::fill(fd, &mut old[..old_length]) {
-        return false;
-    }
-    if !reader::fill(fd, &mut new[..new_length]) {
-        return false;
-    }
-    answer(s, q, &old[..old_length], &new[..new_length])
+fn paths(fd: i32, s: &[u8], q: Request, n: usize, m: usize) -> bool {
+    let mut old = buffer();
+    let mut new = buffer();
+    lent(fd, s, q, &mut old, n, &mut new, m)
 }
 
 // Reads a request and answers it.
@@ -167,7 +189,7 @@ fn request(fd: i32, s: &[u8]) -> bool {
 }
 
 // The length of a consistent image, which its own table of contents tells.
-fn length(base: &[u8]) -> usize {
+fn image_length(base: &[u8]) -> usize {
     if base.len() < 40 {
         return 0;
     }
@@ -176,7 +198,7 @@ fn length(base: &[u8]) -> usize {
 
 // Reads a case and prints its line.
 pub fn case(fd: i32, base: &[u8], image: &mut [u8]) -> bool {
-    let n = length(base);
+    let n = image_length(base);
     if image.len() < n {
         reader::complain(b"an image is too long");
         return false;
