@@ -15,7 +15,6 @@ pub struct Part {
 pub const PARTS: &[Part] = &[
     Part { name: "check", make: check::all }, // an image: its number
     Part { name: "land", make: land::all },   // an image, a plan, a row: the number and the image after
-    Part { name: "walk", make: walk::all },   // an image, a request: where both walks end
 ];
 
 /// The cases of one class, by the numbers that answer them.
