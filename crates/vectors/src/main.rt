@@ -4,6 +4,8 @@ use reader::Tag;
 
 mod check;
 mod image;
+mod land;
+mod plan;
 mod reader;
 
 // So many items are too many. Nothing says that a file ends, so a count of its items ends the loop.
@@ -13,20 +15,25 @@ const BASE: u8 = 1;
 
 const CHECK_CASE: u8 = 2;
 
+const LAND_CASE: u8 = 4;
+
 // Reads the rest of an item, and answers it where it is a case.
-fn item(fd: i32, tag: u8, base: &mut [u8], image: &mut [u8]) -> bool {
+fn item(fd: i32, tag: u8, base: &mut [u8], image: &mut [u8], plan: &mut [u8]) -> bool {
     if tag == BASE {
         return image::read_base(fd, base);
     }
     if tag == CHECK_CASE {
         return check::case(fd, base, image);
     }
+    if tag == LAND_CASE {
+        return land::case(fd, base, image, plan);
+    }
     reader::complain(b"an item has an unknown tag");
     false
 }
 
 // Answers the cases of a file; false where something is wrong with it.
-fn all(fd: i32, base: &mut [u8], image: &mut [u8]) -> bool {
+fn all(fd: i32, base: &mut [u8], image: &mut [u8], plan: &mut [u8]) -> bool {
     let mut left: usize = TOO_MANY;
     while 0 < left {
         let found = reader::next(fd);
@@ -34,7 +41,7 @@ fn all(fd: i32, base: &mut [u8], image: &mut [u8]) -> bool {
             Tag::End => return true,
             Tag::Failed => return false,
             Tag::Item(tag) => {
-                if !item(fd, tag, base, image) {
+                if !item(fd, tag, base, image, plan) {
                     return false;
                 }
             }
@@ -55,7 +62,8 @@ fn run(path: &[u8]) {
     }
     let mut base = image::base_buffer();
     let mut image = image::buffer();
-    if !all(fd, &mut base, &mut image) {
+    let mut plan = plan::buffer();
+    if !all(fd, &mut base, &mut image, &mut plan) {
         io::write_all(STDERR_FILENO, b"vectors: stopped in the file ");
         io::write_all(STDERR_FILENO, path);
         io::write_all(STDERR_FILENO, b"\n");
@@ -65,4 +73,5 @@ fn run(path: &[u8]) {
 
 fn main() {
     run(b"check");
+    run(b"land");
 }
