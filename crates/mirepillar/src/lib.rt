@@ -17,6 +17,5 @@ pub extern "C" fn mp_check(image: &[u8]) -> u64
 pub extern "C" fn mp_land(image: &mut [u8], plan: &[u8], row: u64) -> u64
     ensures { λ r. ⌜ (r ≡ applyNumber (now (image .entry)) (now (plan .entry)) row) × (now (image .exit) ≡ appliedImage (now (image .entry)) (now (plan .entry)) row) ⌝ }
 {
-    let number = apply::land(image, plan, row);
-    number as u64
+    apply::land(image, plan, row) as u64
 }
