@@ -1,0 +1,4 @@
+-- The laws, each file below those that it uses.
+pub mod Image
+pub mod Covered
+pub mod Job
