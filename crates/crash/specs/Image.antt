@@ -2,7 +2,7 @@
 use mathlib.Core.Path.{_≡_, refl, sym, ap, _∙_, subst}
 use mathlib.Core.Logic.{_≢_}
 use mathlib.Core.Bool.{Bool, true, false, not, cond, _&&_}
-use mathlib.Core.List.{List, []}
+use mathlib.Core.List.{List, [], _∷_}
 use Prim.Native.Nat.{ℕ, _+_, _<_}
 use native.Mathlib.Nat.{zero-add}
 use native.Mathlib.Decide.{ℕ-discrete}
@@ -17,7 +17,8 @@ use Rattle.layout.specs.Contents.{Laid, Read, layoutGood, shapeOf, good-laid}
 use Rattle.layout.specs.Record.{recordAt, store, store-same, store-other, store-contents, same-image}
 use Rattle.layout.specs.Commute.{shape-same, layout-same, store-shape, store-layout}
 use Rattle.plan.specs.Fit.{Writes, rowFits, rowFor, written-fits}
-use Rattle.journal.specs.Store.{Store}
+use Rattle.journal.specs.Pick.{All}
+use Rattle.journal.specs.Store.{Store, putAll}
 
 -- One write of an operation: its ordering group, the record that it replaces, and the record's new bytes.
 pub record Write : Type 0 where
@@ -178,3 +179,14 @@ images h s₀ = record {
   get-other = λ {X} {r} o f j n. get-other h s₀ X r o f j n;
   ext = λ {X} {Y} o p e. image-ext h s₀ X Y o p e;
 }
+
+-- the image with each row's bytes in place of its record, one after another
+abbrev pub storeAll : Shape → List ℕ → List Write → List ℕ
+storeAll h s [] = s
+storeAll h s (w ∷ ws) = storeAll h (store h s (w .key) (w .body)) ws
+
+-- rows that fit, applied one after another, are so many stores of records
+pub puts-store : (h : Shape) (s₀ s : List ℕ) (ws : List Write) → All (Fits h) ws → putAll (images h s₀) s ws ≡ storeAll h s ws
+puts-store h s₀ s [] f = refl
+puts-store h s₀ s (w ∷ ws) f =
+    ap (λ (x : List ℕ). putAll (images h s₀) x ws) (put-is h s w (f .0)) ∙ puts-store h s₀ (store h s (w .key) (w .body)) ws (f .1)

@@ -2,3 +2,5 @@
 pub mod Image
 pub mod Covered
 pub mod Job
+pub mod Rows
+pub mod Operation
