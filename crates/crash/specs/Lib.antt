@@ -4,3 +4,4 @@ pub mod Covered
 pub mod Job
 pub mod Rows
 pub mod Operation
+pub mod Example

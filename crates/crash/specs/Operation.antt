@@ -199,30 +199,32 @@ module _ (h : Shape) (s₀ : List ℕ) (𝓒 : Change (images h s₀)) (buffer :
 
 -- ---- an operation by its rows
 
-module _ (h : Shape) (s₀ : List ℕ) (p : Plan (images h s₀)) (𝓦 : WellFormed (images h s₀) p) (buffer : List ℕ) (long : planBytes ≤ length buffer) where
+module _ (h : Shape) (s₀ : List ℕ) (p : Plan (images h s₀)) where
   -- its rows in the order of the plan: the journal record's and those of created records, the deciding one, the rest, the clearing one
   abbrev pub rowsIn : List Write
   rowsIn = aheadOf (p .set) (p .decider) ++ decideRow (images h s₀) p ∷ behindOf (images h s₀) p
 
-  module _ (room : length rowsIn ≤ planRows) where
+  -- the change in jobs of the plan that it fills the buffer with
+  abbrev pub planned : List ℕ → (List ℕ → Option (List Write)) → (List ℕ → Option (List Job)) → Change (jobs h s₀)
+  planned buffer recover answer = jobChange h s₀ (change (images h s₀) p recover) buffer answer
+
+  module _ (𝓦 : WellFormed (images h s₀) p) (buffer : List ℕ) (long : planBytes ≤ length buffer) (room : length rowsIn ≤ planRows) where
     -- without a crash, in any permitted order: the image before with every record stored that the rows write
-    pub planned-landing : (js : List Job) → Permitted (jobs h s₀) (jobsIn (planOf h buffer rowsIn)) js → putAll (jobs h s₀) (p .before) js ≡ storeAll h (p .before) (writes (images h s₀) p)
+    pub planned-landing : (js : List Job) → Permitted (jobs h s₀) (jobsIn (planOf h buffer rowsIn)) js
+        → putAll (jobs h s₀) (p .before) js ≡ storeAll h (p .before) (writes (images h s₀) p)
     planned-landing js o =
-        let 𝓒 = change (images h s₀) p (λ s. none) in
-        whole-landing h s₀ 𝓒 buffer (λ s. none) long room (orderly p (λ s. none) 𝓦) js o
+        whole-landing h s₀ (change (images h s₀) p (λ s. none)) buffer (λ s. none) long room (orderly p (λ s. none) 𝓦) js o
         ∙ puts-store h s₀ (p .before) (writes (images h s₀) p) (𝓦 .fits)
 
     -- with crashes: what recovery does is the one thing left to supply
     module _ (recover : List ℕ → Option (List Write)) (ρ : Recovers (images h s₀) p recover) (answer : List ℕ → Option (List Job))
         (𝓐 : Answers h s₀ (change (images h s₀) p recover) answer) where
-      abbrev pub planned : Change (jobs h s₀)
-      planned = jobChange h s₀ (change (images h s₀) p recover) buffer answer
-
-      pub planned-first : plan planned ≡ jobsIn (planOf h buffer rowsIn)
+      -- all rows of the plan's bytes wait at first
+      pub planned-first : plan (planned buffer recover answer) ≡ jobsIn (planOf h buffer rowsIn)
       planned-first = waiting-first h s₀ (change (images h s₀) p recover) buffer answer long room (orderly p recover 𝓦)
 
-      pub planned-owed : Obligations planned
+      pub planned-owed : Obligations (planned buffer recover answer)
       planned-owed = jobs-owed h s₀ (change (images h s₀) p recover) buffer answer long room 𝓐 (journaled p recover 𝓦 ρ)
 
-      pub planned-safe : (es : List (Event Job)) → Safe planned (run planned (start planned) es)
-      planned-safe es = crash-safe planned planned-owed es
+      pub planned-safe : (es : List (Event Job)) → Safe (planned buffer recover answer) (run (planned buffer recover answer) (start (planned buffer recover answer)) es)
+      planned-safe es = crash-safe (planned buffer recover answer) planned-owed es
