@@ -10,7 +10,7 @@ use borrow.Author.Tests.{eqb-true}
 use Rattle.seq.specs.Truth.{and-left, and-right}
 use Rattle.seq.specs.Search.{any, first}
 use Rattle.layout.specs.declared.Shape.{Shape}
-use Rattle.layout.specs.Place.{Key, Valid, recordBytes, records, place, apart}
+use Rattle.layout.specs.Place.{Key, Valid, records, place, apart}
 use Rattle.plan.specs.Fit.{Covered, coverable, coversRecord, coversSection, covers, one-covers, record-some}
 use Rattle.crash.specs.Image.{same-key}
 

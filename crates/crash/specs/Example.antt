@@ -1,8 +1,8 @@
 -- A small image and a call on it that meets every demand, as four jobs of one plan; and lists of events, computed on bytes. Assumes nothing.
-use mathlib.Core.Path.{_≡_, refl, subst}
-use mathlib.Core.Logic.{inl, inr, ⊎-elim, _≢_}
+use mathlib.Core.Path.{_≡_, refl, ap, subst}
+use mathlib.Core.Logic.{inl, ⊎-elim}
 use mathlib.Core.Bool.{Bool, true, false}
-use mathlib.Core.List.{List, [], _∷_, _++_}
+use mathlib.Core.List.{List, [], _∷_, _++_, map}
 use mathlib.Core.Option.{Option, some, Option·some-injective}
 use Prim.Native.Nat.{ℕ, _≤_}
 use native.Mathlib.Omega.{arith}
@@ -12,21 +12,22 @@ use Rattle.seq.specs.Search.{any, all, first}
 use Rattle.seq.specs.Bytes.{part, put, zeros}
 use Rattle.seq.specs.Number.{numberAt, bytesOf}
 use Rattle.layout.specs.declared.Shape.{Shape}
-use Rattle.layout.specs.Place.{Key}
+use Rattle.layout.specs.Place.{Key, Valid, recordBytes}
 use Rattle.layout.specs.Contents.{Read, nameIs, rowIs, shapeOf, rowGood, rowsGood, layoutGood}
 use Rattle.layout.specs.Record.{recordAt, store}
 use Rattle.plan.specs.Form.{planRows, rowAt, headerOf, rowPut, rowsPut, cleared, noRow, rowCount}
-use Rattle.plan.specs.Fit.{coversSection, covers, rowFits, applicable}
+use Rattle.plan.specs.Fit.{coverable, coversSection, covers, rowFits, applicable}
 use Rattle.apply.specs.Apply.{applyNumber, appliedImage}
+use Rattle.journal.specs.Store.{putAll}
 use Rattle.journal.specs.Change.{Change}
 use Rattle.journal.specs.Events.{Event, apply, stray, crash, decided, start, run}
 use Rattle.journal.specs.Obligations.{Obligations}
-use Rattle.journal.specs.Plan.{by-row, Plan, afterOf, behindOf, change, WellFormed, Recovers}
+use Rattle.journal.specs.Plan.{by-row, Plan, behindOf, change, WellFormed, Recovers}
 use Rattle.journal.specs.Planned.{clear-settles, behind-all}
-use Rattle.crash.specs.Image.{Write, Fits, other-section, isValid, recordOf, read-of, first-ok, accepted, putWrite, images}
+use Rattle.crash.specs.Image.{Write, Fits, other-section, isValid, recordOf, read-of, first-ok, accepted, putWrite, images, storeAll}
 use Rattle.crash.specs.Job.{Job, jobs}
-use Rattle.crash.specs.Rows.{planOf}
-use Rattle.crash.specs.Operation.{answerIn, plan-answers, rowsIn, planned, planned-owed}
+use Rattle.crash.specs.Rows.{jobsIn, planOf}
+use Rattle.crash.specs.Operation.{answerIn, plan-answers, rowsIn, planned, planned-in-order, planned-owed}
 
 -- one inode at 40, one entry at 72, the journal record at 104, and the end at 136
 abbrev pub shape : Shape
@@ -80,25 +81,18 @@ answer false false = some (call .clear ∷ [])
 abbrev pub recover : List ℕ → Option (List Write)
 recover s = answer (eqb (getD (recordOf shape s journalKey) 0 0) 0) (eqb (getD (recordOf shape s entryKey) 0 0) 5)
 
-pub set-fits : (g b : ℕ) → 1 ≤ g → g ≤ 4 → Fits shape (row g journalKey b)
-set-fits g b l m = record {
-  writes = record { first = l; last = m; valid = record { in-image = lit< tt; in-section = lit< tt }; allowed = refl; whole = refl };
-}
+row-fits : (g : ℕ) (k : Key) (b : ℕ) → 1 ≤ g → g ≤ 4 → Valid shape k → coverable (k .section) ≡ true → 32 ≡ recordBytes shape (k .section) → Fits shape (row g k b)
+row-fits g k b l m v a e = record { writes = record { first = l; last = m; valid = v; allowed = a; whole = e } }
 
 pub call-formed : WellFormed (images shape image) call
 unfolding recordOf isValid recordAt part
 call-formed = record {
   ok = first-ok shape image image-read;
-  set-fits = set-fits 1 1 (lit≤ tt) (lit≤ tt);
-  clear-fits = set-fits 4 0 (lit≤ tt) (lit≤ tt);
+  set-fits = row-fits 1 journalKey 1 (lit≤ tt) (lit≤ tt) (record { in-image = lit< tt; in-section = lit< tt }) refl refl;
+  clear-fits = row-fits 4 journalKey 0 (lit≤ tt) (lit≤ tt) (record { in-image = lit< tt; in-section = lit< tt }) refl refl;
   fits = (
-    record {
-      writes = record { first = lit≤ tt; last = lit≤ tt; valid = record { in-image = lit< tt; in-section = lit< tt }; allowed = refl; whole = refl };
-    },
-    (record {
-      writes = record { first = lit≤ tt; last = lit≤ tt; valid = record { in-image = lit< tt; in-section = lit< tt }; allowed = refl; whole = refl };
-    },
-    tt),
+    row-fits 2 entryKey 5 (lit≤ tt) (lit≤ tt) (record { in-image = lit< tt; in-section = lit< tt }) refl refl,
+    (row-fits 3 inodeKey 7 (lit≤ tt) (lit≤ tt) (record { in-image = lit< tt; in-section = lit< tt }) refl refl, tt),
   );
   distinct = ((other-section inodeKey entryKey (omega arith), tt), (tt, tt));
   apart = (other-section entryKey journalKey (omega arith), (other-section inodeKey journalKey (omega arith), tt));
@@ -122,8 +116,11 @@ call-recovers = record {
   at-before = refl;
   at-after = refl;
   back = λ X b i m. rw (m, ⊎-elim (λ n. absurd n) (λ e. e) (i .fixed entryKey (other-section entryKey journalKey (omega arith))));
-  on = λ X i m. rw (m, ⊎-elim (⊎-elim (λ e. absurd (other-section inodeKey entryKey (omega arith) e)) (λ n. absurd n)) (λ e. e)
-  (i .fixed entryKey (other-section entryKey journalKey (omega arith))));
+  on = λ X i m. rw (
+    m,
+    ⊎-elim (⊎-elim (λ e. absurd (other-section inodeKey entryKey (omega arith) e)) (λ n. absurd n)) (λ e. e)
+        (i .fixed entryKey (other-section entryKey journalKey (omega arith))),
+  );
 }
 
 -- ---- the call as four jobs
@@ -153,7 +150,14 @@ jobCall = planned shape image call buffer recover answered
 pub call-owed : Obligations jobCall
 call-owed =
     planned-owed shape image call call-formed buffer (lit≤ tt) (lit≤ tt) recover call-recovers answered
-    (plan-answers shape image (change (images shape image) call recover) (λ s. buffer) (λ s. lit≤ tt) few)
+    (plan-answers shape image (change (images shape image) call recover) answered (λ s ws o e. (buffer, lit≤ tt, few s ws e, ap (answerIn shape buffer) e)))
+
+-- the plan applied as it stands, without a crash
+pub call-landed : putAll (jobs shape image) image (jobsIn bytes) ≡ storeAll shape image (row 2 entryKey 5 ∷ row 3 inodeKey 7 ∷ [])
+call-landed = planned-in-order shape image call call-formed buffer (lit≤ tt) (lit≤ tt) (
+  (lit≤ tt, (lit≤ tt, (lit≤ tt, tt))),
+  ((lit≤ tt, (lit≤ tt, tt)), ((lit≤ tt, tt), (tt, tt))),
+)
 
 -- whether a recovery is done, whether the call is decided, and the image
 abbrev pub seen : List (Event Job) → Bool × Bool × List ℕ
@@ -163,12 +167,14 @@ seen es = let s = run jobCall (start jobCall) es in (s .done, decided jobCall s,
 abbrev tried : ℕ → Event Job
 tried i = stray (record { plan = bytes; number = i })
 
--- the journal record is set; a number past the rows is refused; the first recovery is refused, and the second takes the call back
-pub crash-early : seen (apply 0 ∷ tried 4 ∷ crash false ∷ crash true ∷ apply 0 ∷ []) ≡ (true, false, image)
-unfolding recordOf isValid recordAt part put zeros planOf rowsPut rowPut headerOf rowAt cleared rowCount noRow first bytesOf numberAt appliedImage applyNumber applicable rowFits covers coversSection any all layoutGood rowsGood rowGood rowIs nameIs shapeOf
-crash-early = refl
+-- a crash before the decision: the journal record was set, a number past the rows was refused, one recovery too, and the next takes the call back
+abbrev pub early : List (Event Job)
+early = apply 0 ∷ tried 4 ∷ crash false ∷ crash true ∷ apply 0 ∷ []
 
--- the entry is written too, and the recovery finishes the call
-pub crash-late : seen (apply 0 ∷ apply 0 ∷ crash true ∷ apply 1 ∷ apply 0 ∷ apply 0 ∷ []) ≡ (true, true, imageOf 7 5 0)
+-- a crash after it: the entry was written, a row was out of turn, and recovery writes the inode
+abbrev pub late : List (Event Job)
+late = apply 0 ∷ apply 0 ∷ crash true ∷ apply 1 ∷ apply 0 ∷ apply 0 ∷ []
+
+pub crashes : map seen (early ∷ late ∷ []) ≡ (true, false, imageOf 0 0 0) ∷ (true, true, imageOf 7 5 0) ∷ []
 unfolding recordOf isValid recordAt part put zeros planOf rowsPut rowPut headerOf rowAt cleared rowCount noRow first bytesOf numberAt appliedImage applyNumber applicable rowFits covers coversSection any all layoutGood rowsGood rowGood rowIs nameIs shapeOf
-crash-late = refl
+crashes = refl

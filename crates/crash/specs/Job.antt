@@ -1,8 +1,8 @@
 -- The landing job as the writer of that store: a row is a plan's bytes and a number. Assumes nothing.
 use mathlib.Core.Path.{_≡_, refl, sym, ap, _∙_, subst}
 use mathlib.Core.Logic.{_≢_}
-use mathlib.Core.Bool.{Bool, true, not}
-use mathlib.Core.List.{List, []}
+use mathlib.Core.Bool.{not}
+use mathlib.Core.List.{List}
 use Prim.Native.Nat.{ℕ, _≤_, _<_}
 use native.Mathlib.Omega.{arith}
 use lib.Dec.{T, eqb, eqb→eq}
@@ -12,7 +12,6 @@ use Rattle.seq.specs.Truth.{to-T, of-T}
 use Rattle.seq.specs.Bytes.{part-length}
 use Rattle.layout.specs.declared.Shape.{Shape}
 use Rattle.layout.specs.Place.{Key, recordBytes, place}
-use Rattle.layout.specs.Contents.{Laid}
 use Rattle.plan.specs.Form.{Row, planRows, planBytes, bodyAt, rowLength, rowOffset, rowAt}
 use Rattle.plan.specs.Rows.{Stands}
 use Rattle.plan.specs.Fit.{Covered, Applicable, applicable-is, applicable-fits, rowFor, stands-applicable, written-fits}

@@ -1,29 +1,27 @@
 -- What an operation gets: it speaks of its rows by group, record and bytes, and the crash theorem holds of the jobs of its plan. Assumes nothing.
-use mathlib.Core.Path.{_≡_, refl, sym, ap, _∙_, subst}
-use mathlib.Core.Logic.{_⊎_, inl, inr, ⊎-elim, _≢_}
+use mathlib.Core.Path.{_≡_, sym, _∙_, subst}
+use mathlib.Core.Logic.{inl, inr, ⊎-elim, _≢_}
 use mathlib.Core.Bool.{Bool, true, false}
-use mathlib.Core.List.{List, [], _∷_, _++_}
+use mathlib.Core.List.{List, _∷_, _++_}
 use mathlib.Core.Option.{Option, none, some}
-use Prim.Native.Nat.{ℕ, suc, _+_, _≤_, _<_}
+use Prim.Native.Nat.{ℕ, _+_, _≤_, _<_}
 use native.Mathlib.Nat.{zero-add}
-use native.Mathlib.Omega.{arith}
 use lib.ListN.{length}
 use Rattle.layout.specs.declared.Shape.{Shape}
-use Rattle.layout.specs.Place.{Key}
 use Rattle.plan.specs.Form.{planRows, planBytes}
 use Rattle.apply.specs.Apply.{applyNumber}
 use Rattle.journal.specs.Pick.{All, all-map, all-join}
-use Rattle.journal.specs.Store.{Covers, putAll}
+use Rattle.journal.specs.Store.{putAll}
 use Rattle.journal.specs.Change.{Change, plan, goal}
-use Rattle.journal.specs.Events.{Event, St, start, run}
-use Rattle.journal.specs.Obligations.{MayMark, OnTheWay, Opens, Settles, Cover, Ahead, Behind, Recovery, Orderly, Obligations}
+use Rattle.journal.specs.Events.{Event, start, run}
+use Rattle.journal.specs.Obligations.{OnTheWay, Opens, Settles, Cover, Ahead, Behind, Orderly, Obligations}
 use Rattle.journal.specs.Crash.{Safe, crash-safe}
-use Rattle.journal.specs.Order.{Permitted, any-order}
+use Rattle.journal.specs.Order.{Permitted, Sorted, sorted-permitted, any-order}
 use Rattle.journal.specs.Plan.{Plan, WellFormed, Recovers, aheadOf, decideRow, behindOf, writes, change}
 use Rattle.journal.specs.Planned.{orderly, journaled}
 use Rattle.crash.specs.Image.{Write, Ok, Fits, images, storeAll, puts-store}
 use Rattle.crash.specs.Job.{Job, Takes, Does, write, jobs, answers-zero}
-use Rattle.crash.specs.Rows.{jobsFrom, jobsIn, jobs-append, Do, do-all, do-any, do-join, do-split, planOf, plan-from, plan-jobs, plan-does}
+use Rattle.crash.specs.Rows.{jobsFrom, jobsIn, jobs-append, Do, do-all, do-any, do-sorted, do-join, do-split, planOf, plan-from, plan-jobs, plan-does}
 
 -- What a recovery in jobs owes: on an image of the layout, where the change's recovery answers with rows that fit, it answers with jobs that do them.
 pub record Answers (h : Shape) (s₀ : List ℕ) (𝓒 : Change (images h s₀)) (recover : List ℕ → Option (List Job)) : Type 0 where
@@ -34,16 +32,15 @@ abbrev pub answerIn : Shape → List ℕ → Option (List Write) → Option (Lis
 answerIn h buffer none = none
 answerIn h buffer (some ws) = some (jobsIn (planOf h buffer ws))
 
--- a recovery that fills a plan does, whichever buffer it is handed, if the plan has room for its rows
-pub plan-answers : (h : Shape) (s₀ : List ℕ) (𝓒 : Change (images h s₀)) (buffer : List ℕ → List ℕ) → ((s : List ℕ) → planBytes ≤ length (buffer s))
-    → ((s : List ℕ) (ws : List Write) → 𝓒 .recover s ≡ some ws → length ws ≤ planRows)
-    → Answers h s₀ 𝓒 (λ s. answerIn h (buffer s) (𝓒 .recover s))
-plan-answers h s₀ 𝓒 buffer long room = record {
-  answers = λ s ws o e f. (
-    jobsIn (planOf h (buffer s) ws),
-    ap (answerIn h (buffer s)) e,
-    plan-does h s (o .read) (buffer s) ws (long s) (room s ws e) f,
-  );
+-- a recovery that fills a plan with those rows does, whichever buffer it is handed
+pub plan-answers : (h : Shape) (s₀ : List ℕ) (𝓒 : Change (images h s₀)) (answer : List ℕ → Option (List Job))
+    → ((s : List ℕ) (ws : List Write) → Ok h s₀ s → 𝓒 .recover s ≡ some ws
+    → (buffer : List ℕ) × (planBytes ≤ length buffer) × (length ws ≤ planRows) × (answer s ≡ some (jobsIn (planOf h buffer ws))))
+    → Answers h s₀ 𝓒 answer
+plan-answers h s₀ 𝓒 answer fills = record {
+  answers = λ s ws o e f.
+      let (buffer, long, room, is) = fills s ws o e in
+      (jobsIn (planOf h buffer ws), is, plan-does h s (o .read) buffer ws long room f);
 }
 
 -- ---- a change with its rows as jobs
@@ -183,6 +180,12 @@ module _ (h : Shape) (s₀ : List ℕ) (𝓒 : Change (images h s₀)) (buffer :
     pub whole-landing : (js : List Job) → Permitted (jobs h s₀) (jobsIn bytes) js → putAll (jobs h s₀) (𝓒 .before) js ≡ 𝓒 .after
     whole-landing js o = any-order jobChange jobs-orderly {rs = js} (rw waiting-first o)
 
+    -- in the order of their numbers, if the operation's rows stand in the order of their groups
+    pub landing-in-order : Sorted (images h s₀) (plan 𝓒) → putAll (jobs h s₀) (𝓒 .before) (jobsIn bytes) ≡ 𝓒 .after
+    landing-in-order sorted =
+        let d = plan-does h (𝓒 .before) (𝓞 .before-ok .read) buffer (plan 𝓒) long room plan-fits in
+        whole-landing (jobsIn bytes) (sorted-permitted (jobs h s₀) (jobsIn bytes) (do-sorted h s₀ (jobsIn bytes) (plan 𝓒) d sorted))
+
   module _ (long : planBytes ≤ length buffer) (room : length (plan 𝓒) ≤ planRows) (𝓐 : Answers h s₀ 𝓒 recover) (𝓞 : Obligations 𝓒) where
     pub jobs-owed : Obligations jobChange
     jobs-owed =
@@ -214,6 +217,12 @@ module _ (h : Shape) (s₀ : List ℕ) (p : Plan (images h s₀)) where
         → putAll (jobs h s₀) (p .before) js ≡ storeAll h (p .before) (writes (images h s₀) p)
     planned-landing js o =
         whole-landing h s₀ (change (images h s₀) p (λ s. none)) buffer (λ s. none) long room (orderly p (λ s. none) 𝓦) js o
+        ∙ puts-store h s₀ (p .before) (writes (images h s₀) p) (𝓦 .fits)
+
+    -- the same for the plan as it stands
+    pub planned-in-order : Sorted (images h s₀) rowsIn → putAll (jobs h s₀) (p .before) (jobsIn (planOf h buffer rowsIn)) ≡ storeAll h (p .before) (writes (images h s₀) p)
+    planned-in-order sorted =
+        landing-in-order h s₀ (change (images h s₀) p (λ s. none)) buffer (λ s. none) long room (orderly p (λ s. none) 𝓦) sorted
         ∙ puts-store h s₀ (p .before) (writes (images h s₀) p) (𝓦 .fits)
 
     -- with crashes: what recovery does is the one thing left to supply

@@ -3,7 +3,7 @@ use mathlib.Core.Path.{_≡_, refl, sym, ap, ap₂, _∙_, subst}
 use mathlib.Core.Logic.{inl, inr}
 use mathlib.Core.List.{List, [], _∷_, _++_, map}
 use Prim.Native.Nat.{ℕ, zero, suc, _+_, _≤_, _<_}
-use native.Mathlib.Nat.{add-zero, zero-add}
+use native.Mathlib.Nat.{add-zero}
 use native.Mathlib.Omega.{arith}
 use lib.ListN.{length, getD, length-map}
 use Rattle.layout.specs.declared.Shape.{Shape}
@@ -16,6 +16,7 @@ use Rattle.plan.specs.Fit.{rowFor, image-small, written-formed}
 use Rattle.apply.specs.Apply.{appliedImage}
 use Rattle.journal.specs.Pick.{All, Any}
 use Rattle.journal.specs.Store.{putAll}
+use Rattle.journal.specs.Order.{Sorted}
 use Rattle.crash.specs.Image.{Write, Ok, Fits, images, putWrite, put-ok}
 use Rattle.crash.specs.Job.{Job, Takes, Does, write, jobs, takes-puts, takes-fits, written-does}
 
@@ -70,6 +71,17 @@ module _ (h : Shape) where
   do-any P (j ∷ js) (w ∷ ws) d (inl p) = inl (subst P (sym (d .0 .row)) p)
   do-any P (j ∷ js) (w ∷ ws) d (inr a) = inr (do-any P js ws (d .1) a)
 
+  -- rows in the order of their groups are jobs in the order of theirs
+  pub do-sorted : (s₀ : List ℕ) (js : List Job) (ws : List Write) → Do js ws → Sorted (images h s₀) ws → Sorted (jobs h s₀) js
+  do-sorted s₀ [] [] d a = tt
+  do-sorted s₀ [] (w ∷ ws) d a = absurd d
+  do-sorted s₀ (j ∷ js) [] d a = absurd d
+  do-sorted s₀ (j ∷ js) (w ∷ ws) d a = (
+    do-all (λ x. w .group ≤ x .group) (λ i. write h j .group ≤ write h i .group)
+        (λ i t l. subst (λ (x : Write). x .group ≤ write h i .group) (sym (d .0 .row)) l) js ws (d .1) (a .0),
+    do-sorted s₀ js ws (d .1) (a .1),
+  )
+
   -- applied one after another, they leave what the rows leave
   pub do-puts : (s₀ : List ℕ) (js : List Job) (ws : List Write) (s : List ℕ) → Ok h s₀ s → Do js ws → putAll (jobs h s₀) s js ≡ putAll (images h s₀) s ws
   do-puts s₀ [] [] s o d = refl
@@ -113,8 +125,8 @@ module _ (h : Shape) where
   stand-do some plan long d (w ∷ ws) i room f s = (
     written-does h some plan i w long (omega arith) (f .0) (rw add-zero at (s 0 (omega arith))),
     stand-do some plan long d ws (i + 1) (omega arith) (f .1) (λ k l.
-    let e : i + 1 + k ≡ i + suc k = omega arith in
-    rw e (s (suc k) (omega arith))),
+        let e : i + 1 + k ≡ i + suc k = omega arith in
+        rw e (s (suc k) (omega arith))),
   )
 
   module _ (s : List ℕ) (read : Read s h) where
