@@ -153,8 +153,8 @@ call-owed =
     (plan-answers shape image (change (images shape image) call recover) answered (λ s ws o e. (buffer, lit≤ tt, few s ws e, ap (answerIn shape buffer) e)))
 
 -- the plan applied as it stands, without a crash
-pub call-landed : putAll (jobs shape image) image (jobsIn bytes) ≡ storeAll shape image (row 2 entryKey 5 ∷ row 3 inodeKey 7 ∷ [])
-call-landed = planned-in-order shape image call call-formed buffer (lit≤ tt) (lit≤ tt) (
+pub call-applied : putAll (jobs shape image) image (jobsIn bytes) ≡ storeAll shape image (row 2 entryKey 5 ∷ row 3 inodeKey 7 ∷ [])
+call-applied = planned-in-order shape image call call-formed buffer (lit≤ tt) (lit≤ tt) (
   (lit≤ tt, (lit≤ tt, (lit≤ tt, tt))),
   ((lit≤ tt, (lit≤ tt, tt)), ((lit≤ tt, tt), (tt, tt))),
 )

@@ -114,7 +114,7 @@ ok-length h s₀ s r o = o .read .laid .long ∙ sym (r .laid .long)
 pub record Fits (h : Shape) (w : Write) : Type 0 where
   pub writes : Writes h (w .group) (w .key) (w .body)
 
--- rules L5 and L7: an image of shape h can take the row, by the test that the landing job makes
+-- rules L5 and L7: an image of shape h can take the row, by the test that apply makes
 unfoldable pub accepted : Shape → Write → Bool
 accepted h w = rowFits h (rowFor h (w .group) (w .key) (w .body))
 

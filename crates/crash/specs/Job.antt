@@ -1,4 +1,4 @@
--- The landing job as the writer of that store: a row is a plan's bytes and a number. Assumes nothing.
+-- Apply as the writer of that store: a row is a plan's bytes and a number. Assumes nothing.
 use mathlib.Core.Path.{_≡_, refl, sym, ap, _∙_, subst}
 use mathlib.Core.Logic.{_≢_}
 use mathlib.Core.Bool.{not}
@@ -22,7 +22,7 @@ use Rattle.journal.specs.Pick.{All, all-map}
 use Rattle.crash.specs.Image.{Write, Ok, Fits, same-key, recordOf, putWrite, put-is, put-ok, get-same, get-other, image-ext}
 use Rattle.crash.specs.Covered.{keyAt, key-covered, key-is}
 
--- A row as the landing job is given it: a plan's bytes, and which of its rows.
+-- A row as apply (the papers' landing) is given it: a plan's bytes, and which of its rows.
 pub record Job : Type 0 where
   pub plan : List ℕ
   pub number : ℕ
@@ -34,12 +34,12 @@ writeOf h r = record { group = r .group; key = keyAt h (r .offset) (r .bytes); b
 abbrev pub write : Shape → Job → Write
 write h j = writeOf h (rowAt (j .plan) (j .number))
 
--- The landing job takes the row on every image of shape h.
+-- Apply takes the row, on every image of shape h.
 pub record Takes (h : Shape) (j : Job) : Type 0 where
   pub long : planBytes ≤ length (j .plan)
   pub row : Applicable h (j .plan) (j .number)
 
--- ---- the job on such a row does what the row says
+-- ---- applying such a row does what the row says
 
 module _ (h : Shape) (s₀ s : List ℕ) (j : Job) (o : Ok h s₀ s) (t : Takes h j) where
   -- the record that it covers, by the key found
@@ -84,7 +84,7 @@ module _ (h : Shape) (s₀ s : List ℕ) (j : Job) (o : Ok h s₀ s) (t : Takes 
   pub job-other : (k : Key) → k ≢ write h j .key → recordOf h (appliedImage s (j .plan) (j .number)) k ≡ recordOf h s k
   job-other k n = ap (λ (x : List ℕ). recordOf h x k) takes-puts ∙ get-other h s₀ s (write h j) o takes-fits k n
 
--- The same images, written by the landing job alone: it accepts a row where its number is 0, and leaves what it says.
+-- The same images, written by apply alone: a row is accepted where apply answers 0, and leaves the image that apply leaves.
 abbrev pub jobs : Shape → List ℕ → Store
 jobs h s₀ = record {
   Img = List ℕ;
@@ -109,7 +109,7 @@ jobs h s₀ = record {
   ext = λ {X} {Y} o p e. image-ext h s₀ X Y o p e;
 }
 
--- so "each waiting row is accepted" says that the landing job answers 0 for each
+-- so "each waiting row is accepted" says that apply answers 0 for each
 pub answers-zero : (h : Shape) (s₀ s : List ℕ) (js : List Job) → All (λ j. T (jobs h s₀ .accepts s j)) js
     → All (λ j. applyNumber s (j .plan) (j .number) ≡ 0) js
 answers-zero h s₀ s js a =
@@ -117,7 +117,7 @@ answers-zero h s₀ s js a =
 
 -- ---- rows that an operation wrote
 
--- The job does what the row w says, and the landing job takes it.
+-- Apply takes the job, which does what the row w says.
 pub record Does (h : Shape) (j : Job) (w : Write) : Type 0 where
   pub takes : Takes h j
   pub row : write h j ≡ w

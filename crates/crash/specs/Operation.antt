@@ -13,11 +13,11 @@ use Rattle.apply.specs.Apply.{applyNumber}
 use Rattle.journal.specs.Pick.{All, all-map, all-join}
 use Rattle.journal.specs.Store.{putAll}
 use Rattle.journal.specs.Change.{Change, plan, goal}
-use Rattle.journal.specs.Events.{Event, start, run}
+use Rattle.journal.specs.Events.{Event, State, start, run}
 use Rattle.journal.specs.Obligations.{OnTheWay, Opens, Settles, Cover, Ahead, Behind, Orderly, Obligations}
 use Rattle.journal.specs.Crash.{Safe, crash-safe}
 use Rattle.journal.specs.Order.{Permitted, Sorted, sorted-permitted, any-order}
-use Rattle.journal.specs.Plan.{Plan, WellFormed, Recovers, aheadOf, decideRow, behindOf, writes, change}
+use Rattle.journal.specs.Plan.{Plan, WellFormed, Recovers, aheadOf, decideRow, behindOf, writes, afterOf, change}
 use Rattle.journal.specs.Planned.{orderly, journaled}
 use Rattle.crash.specs.Image.{Write, Ok, Fits, images, storeAll, puts-store}
 use Rattle.crash.specs.Job.{Job, Takes, Does, write, jobs, answers-zero}
@@ -46,7 +46,7 @@ plan-answers h s₀ 𝓒 answer fills = record {
 -- ---- a change with its rows as jobs
 
 module _ (h : Shape) (s₀ : List ℕ) (𝓒 : Change (images h s₀)) (ahead : List Job) (decide : Job) (behind : List Job) (recover : List ℕ → Option (List Job)) where
-  -- the same change, whose rows the landing job applies, and whose recovery answers such rows
+  -- the same change, whose rows apply is given, and whose recovery answers with such rows
   abbrev pub asJobs : Change (jobs h s₀)
   asJobs = record {
     before = 𝓒 .before;
@@ -176,15 +176,15 @@ module _ (h : Shape) (s₀ : List ℕ) (𝓒 : Change (images h s₀)) (buffer :
     pub jobs-orderly : Orderly jobChange
     jobs-orderly = orderly-jobs h s₀ 𝓒 _ _ _ recover (parts .0) (parts .1) (parts .2) 𝓞
 
-    -- Without a crash: the rows of the plan's bytes, applied by the landing job in any permitted order, give the image after.
-    pub whole-landing : (js : List Job) → Permitted (jobs h s₀) (jobsIn bytes) js → putAll (jobs h s₀) (𝓒 .before) js ≡ 𝓒 .after
-    whole-landing js o = any-order jobChange jobs-orderly {rs = js} (rw waiting-first o)
+    -- Without a crash: the rows of the plan's bytes, applied in any permitted order, give the image after.
+    pub whole-plan : (js : List Job) → Permitted (jobs h s₀) (jobsIn bytes) js → putAll (jobs h s₀) (𝓒 .before) js ≡ 𝓒 .after
+    whole-plan js o = any-order jobChange jobs-orderly {rs = js} (rw waiting-first o)
 
     -- in the order of their numbers, if the operation's rows stand in the order of their groups
-    pub landing-in-order : Sorted (images h s₀) (plan 𝓒) → putAll (jobs h s₀) (𝓒 .before) (jobsIn bytes) ≡ 𝓒 .after
-    landing-in-order sorted =
+    pub whole-in-order : Sorted (images h s₀) (plan 𝓒) → putAll (jobs h s₀) (𝓒 .before) (jobsIn bytes) ≡ 𝓒 .after
+    whole-in-order sorted =
         let d = plan-does h (𝓒 .before) (𝓞 .before-ok .read) buffer (plan 𝓒) long room plan-fits in
-        whole-landing (jobsIn bytes) (sorted-permitted (jobs h s₀) (jobsIn bytes) (do-sorted h s₀ (jobsIn bytes) (plan 𝓒) d sorted))
+        whole-plan (jobsIn bytes) (sorted-permitted (jobs h s₀) (jobsIn bytes) (do-sorted h s₀ (jobsIn bytes) (plan 𝓒) d sorted))
 
   module _ (long : planBytes ≤ length buffer) (room : length (plan 𝓒) ≤ planRows) (𝓐 : Answers h s₀ 𝓒 recover) (𝓞 : Obligations 𝓒) where
     pub jobs-owed : Obligations jobChange
@@ -196,7 +196,7 @@ module _ (h : Shape) (s₀ : List ℕ) (𝓒 : Change (images h s₀)) (buffer :
     pub jobs-safe : (es : List (Event Job)) → Safe jobChange (run jobChange (start jobChange) es)
     jobs-safe es = crash-safe jobChange jobs-owed es
 
-    -- and the landing job answers 0 for each row that waits
+    -- and apply answers 0 for each row that waits
     pub jobs-zero : (es : List (Event Job)) → All (λ j. applyNumber (run jobChange (start jobChange) es .img) (j .plan) (j .number) ≡ 0) (run jobChange (start jobChange) es .waiting)
     jobs-zero es = let s = run jobChange (start jobChange) es in answers-zero h s₀ (s .img) (s .waiting) (jobs-safe es .accepted)
 
@@ -211,19 +211,27 @@ module _ (h : Shape) (s₀ : List ℕ) (p : Plan (images h s₀)) where
   abbrev pub planned : List ℕ → (List ℕ → Option (List Write)) → (List ℕ → Option (List Job)) → Change (jobs h s₀)
   planned buffer recover answer = jobChange h s₀ (change (images h s₀) p recover) buffer answer
 
+  -- where it stands after a list of events
+  abbrev pub stateAfter : List ℕ → (List ℕ → Option (List Write)) → (List ℕ → Option (List Job)) → List (Event Job) → State (List ℕ) Job
+  stateAfter buffer recover answer es = run (planned buffer recover answer) (start (planned buffer recover answer)) es
+
+  -- the image after is the one before with every record stored that the rows write
+  pub after-stored : WellFormed (images h s₀) p → afterOf (images h s₀) p ≡ storeAll h (p .before) (writes (images h s₀) p)
+  after-stored 𝓦 = puts-store h s₀ (p .before) (writes (images h s₀) p) (𝓦 .fits)
+
   module _ (𝓦 : WellFormed (images h s₀) p) (buffer : List ℕ) (long : planBytes ≤ length buffer) (room : length rowsIn ≤ planRows) where
-    -- without a crash, in any permitted order: the image before with every record stored that the rows write
-    pub planned-landing : (js : List Job) → Permitted (jobs h s₀) (jobsIn (planOf h buffer rowsIn)) js
+    -- without a crash, in any permitted order of the jobs
+    pub planned-whole : (js : List Job) → Permitted (jobs h s₀) (jobsIn (planOf h buffer rowsIn)) js
         → putAll (jobs h s₀) (p .before) js ≡ storeAll h (p .before) (writes (images h s₀) p)
-    planned-landing js o =
-        whole-landing h s₀ (change (images h s₀) p (λ s. none)) buffer (λ s. none) long room (orderly p (λ s. none) 𝓦) js o
-        ∙ puts-store h s₀ (p .before) (writes (images h s₀) p) (𝓦 .fits)
+    planned-whole js o =
+        whole-plan h s₀ (change (images h s₀) p (λ s. none)) buffer (λ s. none) long room (orderly p (λ s. none) 𝓦) js o
+        ∙ after-stored 𝓦
 
     -- the same for the plan as it stands
     pub planned-in-order : Sorted (images h s₀) rowsIn → putAll (jobs h s₀) (p .before) (jobsIn (planOf h buffer rowsIn)) ≡ storeAll h (p .before) (writes (images h s₀) p)
     planned-in-order sorted =
-        landing-in-order h s₀ (change (images h s₀) p (λ s. none)) buffer (λ s. none) long room (orderly p (λ s. none) 𝓦) sorted
-        ∙ puts-store h s₀ (p .before) (writes (images h s₀) p) (𝓦 .fits)
+        whole-in-order h s₀ (change (images h s₀) p (λ s. none)) buffer (λ s. none) long room (orderly p (λ s. none) 𝓦) sorted
+        ∙ after-stored 𝓦
 
     -- with crashes: what recovery does is the one thing left to supply
     module _ (recover : List ℕ → Option (List Write)) (ρ : Recovers (images h s₀) p recover) (answer : List ℕ → Option (List Job))
@@ -235,5 +243,11 @@ module _ (h : Shape) (s₀ : List ℕ) (p : Plan (images h s₀)) where
       pub planned-owed : Obligations (planned buffer recover answer)
       planned-owed = jobs-owed h s₀ (change (images h s₀) p recover) buffer answer long room 𝓐 (journaled p recover 𝓦 ρ)
 
-      pub planned-safe : (es : List (Event Job)) → Safe (planned buffer recover answer) (run (planned buffer recover answer) (start (planned buffer recover answer)) es)
+      -- The crash theorem for the operation, on bytes: after every list of events,
+      pub planned-safe : (es : List (Event Job)) → Safe (planned buffer recover answer) (stateAfter buffer recover answer es)
       planned-safe es = crash-safe (planned buffer recover answer) planned-owed es
+
+      -- and apply answers 0 for each row that waits.
+      pub planned-zero : (es : List (Event Job))
+          → All (λ j. applyNumber (stateAfter buffer recover answer es .img) (j .plan) (j .number) ≡ 0) (stateAfter buffer recover answer es .waiting)
+      planned-zero es = jobs-zero h s₀ (change (images h s₀) p recover) buffer answer long room 𝓐 (journaled p recover 𝓦 ρ) es
