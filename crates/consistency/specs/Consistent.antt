@@ -7,16 +7,24 @@ use native.Mathlib.Omega.{arith}
 use Rattle.seq.specs.Search.{all}
 use Rattle.layout.specs.declared.Shape.{Shape}
 use Rattle.layout.specs.Contents.{layoutGood, shapeOf, Read}
-use Rattle.layout.specs.View.{viewOf, isDirectory}
+use Rattle.layout.specs.View.{View, viewOf, isDirectory}
 use Rattle.consistency.specs.Name.{hasDuplicate}
 use Rattle.consistency.specs.Inode.{inodeGood}
 use Rattle.consistency.specs.Entry.{entryGood}
 use Rattle.consistency.specs.Others.{textGood, handleGood, journalClear}
 
--- The records in front of the journal record. Rule 27: inode 0 is a directory. Rule 33: no two entries share parent and name.
+-- rule 27: inode 0 is a directory
+abbrev pub rootGood : View → Bool
+rootGood v = isDirectory v 0
+
+-- rule 33: no two entries share parent and name
+abbrev pub namesDistinct : View → Bool
+namesDistinct v = not (hasDuplicate v)
+
+-- the records in front of the journal record
 unfoldable pub bodiesGood : Shape → List ℕ → Bool
 bodiesGood h s =
-    isDirectory (viewOf h s) 0 && all (inodeGood h s) (h .inodes) && all (entryGood h s) (h .entries) && not (hasDuplicate (viewOf h s))
+    rootGood (viewOf h s) && all (inodeGood h s) (h .inodes) && all (entryGood h s) (h .entries) && namesDistinct (viewOf h s)
     && all (textGood h s) (h .texts) && all (handleGood h s) (h .handles)
 
 -- A consistent image: layout, journal record and bodies.

@@ -14,25 +14,55 @@ use Rattle.layout.specs.Contents.{Laid}
 use Rattle.layout.specs.View.{View, viewOf, nameRoom, entryAt, isDirectory, isUsed}
 use Rattle.consistency.specs.Name.{nameGood, Named}
 
--- rule 18: a name fits its room; rule 19: the three bytes behind the length and the rest of the room are zero
-unfoldable pub entryFormed : Shape → List ℕ → ℕ → Bool
-entryFormed h s j =
-    leb (viewOf h s .nameLength j) (nameRoom h) && zeros (entryAt h s j) 5 3
-    && zeros (entryAt h s j) (8 + viewOf h s .nameLength j) (nameRoom h - viewOf h s .nameLength j)
-
--- rule 35: a directory's field is the parent of its entry; rule 41: anything else is on its directory's file system
-abbrev pub held : View → ℕ → ℕ → Bool
-held v target parent = cond (isDirectory v target) (eqb (v .field target) parent) (eqb (v .system target) (v .system parent))
-
--- rules 28 to 30, 35 and 41: what an entry in use names
-unfoldable pub entryLinked : View → ℕ → Bool
-entryLinked v j = isDirectory v (v .parent j) && isUsed v (v .target j) && not (eqb (v .target j) 0) && held v (v .target j) (v .parent j)
-
 -- rule 17: a free entry is all zero
+abbrev pub entryFree : Shape → List ℕ → ℕ → Bool
+entryFree h s j = zeros (entryAt h s j) 0 (h .width)
+
+-- rule 18: a name fits its room
+abbrev pub nameFits : Shape → List ℕ → ℕ → Bool
+nameFits h s j = leb (viewOf h s .nameLength j) (nameRoom h)
+
+-- rule 19: the three bytes behind the length, and the rest of the room, are zero
+abbrev pub lengthPadded : Shape → List ℕ → ℕ → Bool
+lengthPadded h s j = zeros (entryAt h s j) 5 3
+
+abbrev pub namePadded : Shape → List ℕ → ℕ → Bool
+namePadded h s j = zeros (entryAt h s j) (8 + viewOf h s .nameLength j) (nameRoom h - viewOf h s .nameLength j)
+
+unfoldable pub entryFormed : Shape → List ℕ → ℕ → Bool
+entryFormed h s j = nameFits h s j && lengthPadded h s j && namePadded h s j
+
+-- rule 29: the parent is a directory
+abbrev pub parentGood : View → ℕ → Bool
+parentGood v j = isDirectory v (v .parent j)
+
+-- rule 30: the target is an inode in use
+abbrev pub targetGood : View → ℕ → Bool
+targetGood v j = isUsed v (v .target j)
+
+-- rule 28: and it is not the root
+abbrev pub belowRoot : View → ℕ → Bool
+belowRoot v j = not (eqb (v .target j) 0)
+
+-- rule 35: a directory's field is the parent of its entry
+abbrev pub fieldIsParent : View → ℕ → ℕ → Bool
+fieldIsParent v target parent = eqb (v .field target) parent
+
+-- rule 41: anything else is on its directory's file system
+abbrev pub sameSystem : View → ℕ → ℕ → Bool
+sameSystem v target parent = eqb (v .system target) (v .system parent)
+
+abbrev pub held : View → ℕ → ℕ → Bool
+held v target parent = cond (isDirectory v target) (fieldIsParent v target parent) (sameSystem v target parent)
+
+-- what an entry in use names
+unfoldable pub entryLinked : View → ℕ → Bool
+entryLinked v j = parentGood v j && targetGood v j && belowRoot v j && held v (v .target j) (v .parent j)
+
+-- an entry is free, or it is formed, named and linked as it should be
 unfoldable pub entryGood : Shape → List ℕ → ℕ → Bool
 entryGood h s j =
-    cond (eqb (viewOf h s .nameLength j) 0) (zeros (entryAt h s j) 0 (h .width))
-    (entryFormed h s j && nameGood (viewOf h s .name j) && entryLinked (viewOf h s) j)
+    cond (eqb (viewOf h s .nameLength j) 0) (entryFree h s j) (entryFormed h s j && nameGood (viewOf h s .name j) && entryLinked (viewOf h s) j)
 
 -- a name of a consistent entry lies within its record
 module _ (h : Shape) (s : List ℕ) (laid : Laid h s) where

@@ -39,12 +39,23 @@ unfoldable pub leafGood : View → ℕ → Bool
 leafGood v i = modeGood v i && linksWithin v i && linked v i && linksCounted v i
 
 -- rule 15: a file's field is 0
-unfoldable pub fileGood : View → ℕ → Bool
-fileGood v i = leafGood v i && eqb (v .field i) 0
+abbrev pub fieldZero : View → ℕ → Bool
+fieldZero v i = eqb (v .field i) 0
 
--- rule 16: the root is its own parent; rules 34 and 36: any other directory has one entry, and its parents lead to the root
+unfoldable pub fileGood : View → ℕ → Bool
+fileGood v i = leafGood v i && fieldZero v i
+
+-- rule 34: a directory has one entry
+abbrev pub oneEntry : View → ℕ → Bool
+oneEntry v i = eqb (entriesOf v i) 1
+
+-- rule 36: its parents lead to the root
+abbrev pub leadsUp : View → ℕ → Bool
+leadsUp v i = leads v (v .inodes) i
+
+-- rule 16: but the root is its own parent
 abbrev pub placed : View → ℕ → Bool
-placed v i = cond (eqb i 0) (eqb (v .field i) 0) (eqb (entriesOf v i) 1 && leads v (v .inodes) i)
+placed v i = cond (eqb i 0) (fieldZero v i) (oneEntry v i && leadsUp v i)
 
 unfoldable pub directoryGood : View → ℕ → Bool
 directoryGood v i = modeGood v i && linksWithin v i && childrenCounted v i && placed v i
@@ -57,9 +68,18 @@ hasText v t i = isSymlink v i && eqb (v .field i) t
 unfoldable pub textShared : View → ℕ → Bool
 textShared v i = any (hasText v (v .field i)) i
 
--- rule 42: a symlink has a text in use
+abbrev pub textOwn : View → ℕ → Bool
+textOwn v i = not (textShared v i)
+
+-- rule 42: a symlink's field is a text, and one in use
+abbrev pub textThere : View → ℕ → Bool
+textThere v i = ltb (v .field i) (v .texts)
+
+abbrev pub textInUse : View → ℕ → Bool
+textInUse v i = textUsed v (v .field i)
+
 unfoldable pub symlinkGood : View → ℕ → Bool
-symlinkGood v i = leafGood v i && ltb (v .field i) (v .texts) && textUsed v (v .field i) && not (textShared v i)
+symlinkGood v i = leafGood v i && textThere v i && textInUse v i && textOwn v i
 
 -- rule 13: the type number decides, and there is no fifth
 abbrev pub byKind : ℕ → Bool → Bool → Bool → Bool → Bool
@@ -67,9 +87,12 @@ byKind k free file directory symlink =
     cond (eqb k 0) free (cond (eqb k 1) file (cond (eqb k 2) directory (cond (eqb k 3) symlink false)))
 
 -- rule 14: a free inode is all zero
+abbrev pub inodeFree : Shape → List ℕ → ℕ → Bool
+inodeFree h s i = zeros (inodeAt h s i) 0 32
+
 unfoldable pub inodeGood : Shape → List ℕ → ℕ → Bool
 inodeGood h s i =
-    byKind (viewOf h s .kind i) (zeros (inodeAt h s i) 0 32) (fileGood (viewOf h s) i) (directoryGood (viewOf h s) i) (symlinkGood (viewOf h s) i)
+    byKind (viewOf h s .kind i) (inodeFree h s i) (fileGood (viewOf h s) i) (directoryGood (viewOf h s) i) (symlinkGood (viewOf h s) i)
 
 -- what each type number picks
 module _ (k : ℕ) (free file directory symlink : Bool) where

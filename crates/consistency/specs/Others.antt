@@ -19,26 +19,53 @@ use Rattle.consistency.specs.Inode.{hasText}
 abbrev pub textRoom : ℕ
 textRoom = 63
 
--- rule 45: some symlink has text t
+-- some symlink has text t
 unfoldable pub textLinked : View → ℕ → Bool
 textLinked v t = any (hasText v t) (v .inodes)
 
--- rule 20: a text fits its room; rule 21: what follows it is zero, so a free record is all zero; rule 44: no byte of it is 0
+-- rule 20: a text fits its room
+abbrev pub textFits : Shape → List ℕ → ℕ → Bool
+textFits h s t = leb (viewOf h s .textLength t) textRoom
+
+-- rule 21: what follows it is zero, so a free record is all zero
+abbrev pub textPadded : Shape → List ℕ → ℕ → Bool
+textPadded h s t = zeros (textAt h s t) (1 + viewOf h s .textLength t) (textRoom - viewOf h s .textLength t)
+
+-- rule 44: no byte of it is zero
+abbrev pub textBytesGood : View → ℕ → Bool
+textBytesGood v t = noZero (v .text t)
+
+-- rule 45: a text in use belongs to a symlink
+abbrev pub textOwned : View → ℕ → Bool
+textOwned v t = implies (textUsed v t) (textLinked v t)
+
 unfoldable pub textGood : Shape → List ℕ → ℕ → Bool
-textGood h s t =
-    leb (viewOf h s .textLength t) textRoom && zeros (textAt h s t) (1 + viewOf h s .textLength t) (textRoom - viewOf h s .textLength t)
-    && noZero (viewOf h s .text t) && implies (textUsed (viewOf h s) t) (textLinked (viewOf h s) t)
+textGood h s t = textFits h s t && textPadded h s t && textBytesGood (viewOf h s) t && textOwned (viewOf h s) t
 
--- rule 22: the state decides, and there is no fourth; rule 23: the unused bytes of an open handle are zero; rule 24: a closed handle is all zero;
+-- rule 23: the unused bytes of an open handle are zero
+abbrev pub secondZero : Shape → List ℕ → ℕ → Bool
+secondZero h s n = zeros (handleAt h s n) 1 1
+
+abbrev pub restZero : Shape → List ℕ → ℕ → Bool
+restZero h s n = zeros (handleAt h s n) 4 4
+
 -- rule 46: an open handle names an inode in use
-unfoldable pub openGood : Shape → List ℕ → ℕ → Bool
-openGood h s n = zeros (handleAt h s n) 1 1 && zeros (handleAt h s n) 4 4 && isUsed (viewOf h s) (viewOf h s .opened n)
+abbrev pub openedGood : View → ℕ → Bool
+openedGood v n = isUsed v (v .opened n)
 
+unfoldable pub openGood : Shape → List ℕ → ℕ → Bool
+openGood h s n = secondZero h s n && restZero h s n && openedGood (viewOf h s) n
+
+-- rule 24: a closed handle is all zero
+abbrev pub closedGood : Shape → List ℕ → ℕ → Bool
+closedGood h s n = zeros (handleAt h s n) 0 8
+
+-- rule 22: the state decides, and there is no fourth
 abbrev pub byState : ℕ → Bool → Bool → Bool
 byState k closed opened = cond (eqb k 0) closed (cond (eqb k 1) opened (cond (eqb k 2) opened false))
 
 unfoldable pub handleGood : Shape → List ℕ → ℕ → Bool
-handleGood h s n = byState (viewOf h s .state n) (zeros (handleAt h s n) 0 8) (openGood h s n)
+handleGood h s n = byState (viewOf h s .state n) (closedGood h s n) (openGood h s n)
 
 -- rule 25: the journal record is all zero
 unfoldable pub journalClear : Shape → List ℕ → Bool
