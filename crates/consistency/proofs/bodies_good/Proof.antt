@@ -38,15 +38,23 @@ returns-3 c =
     )
 
 has-duplicate-requires : tie.Need-has-duplicate-requires
-has-duplicate-requires c κs = (search needs, entries-named (c .before .before .before .before .before .before .before .args .h) (c .before .before .before .before .before .before .before .args .s .now) (c .before .before .before .before .before .before .before .pre) (holds (c .before .all-good2 .ensures) (c .if3 .left)))
+has-duplicate-requires c κs =
+    let args = c .before .before .before .before .before .before .before .args in
+    let pre = c .before .before .before .before .before .before .before .pre in
+    (search needs, entries-named (args .h) (args .s .now) (pre) (holds (c .before .all-good2 .ensures) (c .if3 .left)))
 
 returns-4 : tie.Need-returns-4
 unfolding bodiesGood
 returns-4 c =
+    let is-directory = c .before .before .before .before .before .before .before .is-directory in
+    let if1 = c .before .before .before .before .before .before .if1 in
+    let all-good = c .before .before .before .before .before .all-good in
+    let if2 = c .before .before .before .before .if2 in
+    let all-good2 = c .before .before .before .all-good2 in
     simp (
-      holds (c .before .before .before .before .before .before .before .is-directory .ensures) (c .before .before .before .before .before .before .if1 .left),
-      holds (c .before .before .before .before .before .all-good .ensures) (c .before .before .before .before .if2 .left),
-      holds (c .before .before .before .all-good2 .ensures) (c .before .before .if3 .left),
+      holds (is-directory .ensures) (if1 .left),
+      holds (all-good .ensures) (if2 .left),
+      holds (all-good2 .ensures) (c .before .before .if3 .left),
       sym (c .before .has-duplicate .ensures) ∙ c .if4 .taken,
     )
 
@@ -55,27 +63,44 @@ all-good-requires-3 c κs = search needs
 
 returns-5 : tie.Need-returns-5
 unfolding bodiesGood
-returns-5 c = simp (
-  holds (c .before .before .before .before .before .before .before .before .before .is-directory .ensures) (c .before .before .before .before .before .before .before .before .if1 .left),
-  holds (c .before .before .before .before .before .before .before .all-good .ensures) (c .before .before .before .before .before .before .if2 .left),
-  holds (c .before .before .before .before .before .all-good2 .ensures) (c .before .before .before .before .if3 .left),
-  sym (c .before .before .before .has-duplicate .ensures) ∙ c .before .before .if4 .left,
-  fails (c .before .all-good3 .ensures) (c .if5 .taken),
-)
+returns-5 c =
+    let is-directory = c .before .before .before .before .before .before .before .before .before .is-directory in
+    let if1 = c .before .before .before .before .before .before .before .before .if1 in
+    let all-good = c .before .before .before .before .before .before .before .all-good in
+    let if2 = c .before .before .before .before .before .before .if2 in
+    let all-good2 = c .before .before .before .before .before .all-good2 in
+    let if3 = c .before .before .before .before .if3 in
+    let has-duplicate = c .before .before .before .has-duplicate in
+    simp (
+      holds (is-directory .ensures) (if1 .left),
+      holds (all-good .ensures) (if2 .left),
+      holds (all-good2 .ensures) (if3 .left),
+      sym (has-duplicate .ensures) ∙ c .before .before .if4 .left,
+      fails (c .before .all-good3 .ensures) (c .if5 .taken),
+    )
 
 all-good-requires-4 : tie.Need-all-good-requires-4
 all-good-requires-4 c κs = search needs
 
 returns-6 : tie.Need-returns-6
 unfolding bodiesGood
-returns-6 c = simp (
-  holds (c .before .before .before .before .before .before .before .before .before .before .is-directory .ensures) (c .before .before .before .before .before .before .before .before .before .if1 .left),
-  holds (c .before .before .before .before .before .before .before .before .all-good .ensures) (c .before .before .before .before .before .before .before .if2 .left),
-  holds (c .before .before .before .before .before .before .all-good2 .ensures) (c .before .before .before .before .before .if3 .left),
-  sym (c .before .before .before .before .has-duplicate .ensures) ∙ c .before .before .before .if4 .left,
-  holds (c .before .before .all-good3 .ensures) (c .before .if5 .left),
-  c .all-good4 .ensures,
-)
+returns-6 c =
+    let is-directory = c .before .before .before .before .before .before .before .before .before .before .is-directory in
+    let if1 = c .before .before .before .before .before .before .before .before .before .if1 in
+    let all-good = c .before .before .before .before .before .before .before .before .all-good in
+    let if2 = c .before .before .before .before .before .before .before .if2 in
+    let all-good2 = c .before .before .before .before .before .before .all-good2 in
+    let if3 = c .before .before .before .before .before .if3 in
+    let has-duplicate = c .before .before .before .before .has-duplicate in
+    let if4 = c .before .before .before .if4 in
+    simp (
+      holds (is-directory .ensures) (if1 .left),
+      holds (all-good .ensures) (if2 .left),
+      holds (all-good2 .ensures) (if3 .left),
+      sym (has-duplicate .ensures) ∙ if4 .left,
+      holds (c .before .before .all-good3 .ensures) (c .before .if5 .left),
+      c .all-good4 .ensures,
+    )
 
 pub bodies-good-spec : {M : Type 1} → statement M
 bodies-good-spec =

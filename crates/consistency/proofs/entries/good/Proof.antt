@@ -24,8 +24,11 @@ all-zero-requires c κs = search needs
 
 returns : tie.Need-returns
 unfolding entryGood viewOf
-returns c = c .all-zero .ensures ∙ ap (λ x. zeros x 0 (c .before .before .before .before .before .args .h .width)) (c .before .before .before .entry .ensures .is)
-    ∙ simp (eq-eqb _ _ (sym (field-of entryNameLength (c .before .before .before .entry .ensures) (c .before .before .name-length .ensures .0)) ∙ c .before .if1 .taken))
+returns c =
+    let args = c .before .before .before .before .before .args in
+    let entry = c .before .before .before .entry in
+    c .all-zero .ensures ∙ ap (λ x. zeros x 0 (args .h .width)) (entry .ensures .is)
+    ∙ simp (eq-eqb _ _ (sym (field-of entryNameLength (entry .ensures) (c .before .before .name-length .ensures .0)) ∙ c .before .if1 .taken))
 
 formed-requires : tie.Need-formed-requires
 formed-requires c κs = search needs
@@ -33,16 +36,22 @@ formed-requires c κs = search needs
 returns-2 : tie.Need-returns-2
 unfolding entryGood viewOf
 returns-2 c =
+    let entry = c .before .before .before .before .entry in
+    let name-length = c .before .before .before .name-length in
     simp (
-      ne-eqb _ _ (λ e. c .before .before .if1 .left (field-of entryNameLength (c .before .before .before .before .entry .ensures) (c .before .before .before .name-length .ensures .0) ∙ e)),
+      ne-eqb _ _ (λ e. c .before .before .if1 .left (field-of entryNameLength (entry .ensures) (name-length .ensures .0) ∙ e)),
       fails (c .before .formed .ensures) (c .if2 .taken),
     )
 
 name-requires : tie.Need-name-requires
 unfolding viewOf
-name-requires c κs = let n = ap entryNameLength (c .before .before .before .before .entry .ensures .is) in
-    let f = formed-fits (c .before .before .before .before .before .before .args .h) (c .before .before .before .before .before .before .args .s .now) (c .before .before .before .before .before .before .pre .0) (c .before .before .before .before .before .before .args .j) (holds (c .before .formed .ensures) (c .if2 .left)) in
-    omega (arith, c .before .before .before .before .entry .ensures .long, c .before .before .before .before .before .before .pre .0 .width-least)
+name-requires c κs =
+    let args = c .before .before .before .before .before .before .args in
+    let pre = c .before .before .before .before .before .before .pre in
+    let entry = c .before .before .before .before .entry in
+    let n = ap entryNameLength (entry .ensures .is) in
+    let f = formed-fits (args .h) (args .s .now) (pre .0) (args .j) (holds (c .before .formed .ensures) (c .if2 .left)) in
+    omega (arith, entry .ensures .long, pre .0 .width-least)
 
 good-requires : tie.Need-good-requires
 good-requires c κs = search needs
@@ -50,10 +59,15 @@ good-requires c κs = search needs
 returns-3 : tie.Need-returns-3
 unfolding entryGood viewOf
 returns-3 c =
+    let entry = c .before .before .before .before .before .before .before .entry in
+    let name-length = c .before .before .before .before .before .before .name-length in
+    let if1 = c .before .before .before .before .before .if1 in
+    let formed = c .before .before .before .before .formed in
+    let if2 = c .before .before .before .if2 in
     simp (
-      ne-eqb _ _ (λ e. c .before .before .before .before .before .if1 .left (field-of entryNameLength (c .before .before .before .before .before .before .before .entry .ensures) (c .before .before .before .before .before .before .name-length .ensures .0) ∙ e)),
-      holds (c .before .before .before .before .formed .ensures) (c .before .before .before .if2 .left),
-      ap nameGood (sym (c .before .before .name .ensures ∙ ap entryName (c .before .before .before .before .before .before .before .entry .ensures .is))) ∙ fails (c .before .good2 .ensures) (c .if3 .taken),
+      ne-eqb _ _ (λ e. if1 .left (field-of entryNameLength (entry .ensures) (name-length .ensures .0) ∙ e)),
+      holds (formed .ensures) (if2 .left),
+      ap nameGood (sym (c .before .before .name .ensures ∙ ap entryName (entry .ensures .is))) ∙ fails (c .before .good2 .ensures) (c .if3 .taken),
     )
 
 linked-requires : tie.Need-linked-requires
@@ -62,10 +76,16 @@ linked-requires c κs = search needs
 returns-4 : tie.Need-returns-4
 unfolding entryGood viewOf
 returns-4 c =
+    let entry = c .before .before .before .before .before .before .before .before .entry in
+    let name-length = c .before .before .before .before .before .before .before .name-length in
+    let if1 = c .before .before .before .before .before .before .if1 in
+    let formed = c .before .before .before .before .before .formed in
+    let if2 = c .before .before .before .before .if2 in
+    let name = c .before .before .before .name in
     simp (
-      ne-eqb _ _ (λ e. c .before .before .before .before .before .before .if1 .left (field-of entryNameLength (c .before .before .before .before .before .before .before .before .entry .ensures) (c .before .before .before .before .before .before .before .name-length .ensures .0) ∙ e)),
-      holds (c .before .before .before .before .before .formed .ensures) (c .before .before .before .before .if2 .left),
-      ap nameGood (sym (c .before .before .before .name .ensures ∙ ap entryName (c .before .before .before .before .before .before .before .before .entry .ensures .is))) ∙ holds (c .before .before .good2 .ensures) (c .before .if3 .left),
+      ne-eqb _ _ (λ e. if1 .left (field-of entryNameLength (entry .ensures) (name-length .ensures .0) ∙ e)),
+      holds (formed .ensures) (if2 .left),
+      ap nameGood (sym (name .ensures ∙ ap entryName (entry .ensures .is))) ∙ holds (c .before .before .good2 .ensures) (c .before .if3 .left),
       c .linked .ensures,
     )
 

@@ -29,20 +29,28 @@ symlink-good-requires c κs = search needs
 
 returns : tie.Need-returns
 unfolding inodeGood viewOf
-returns c = c .all-zero .ensures ∙ ap (λ x. zeros x 0 32) (c .before .before .before .inode .ensures .is)
-    ∙ sym (kind-free _ _ _ _ _ (sym (field-of inodeKind (c .before .before .before .inode .ensures) (c .before .before .kind .ensures)) ∙ c .before .match .keys1))
+returns c =
+    let inode = c .before .before .before .inode in
+    c .all-zero .ensures ∙ ap (λ x. zeros x 0 32) (inode .ensures .is)
+    ∙ sym (kind-free _ _ _ _ _ (sym (field-of inodeKind (inode .ensures) (c .before .before .kind .ensures)) ∙ c .before .match .keys1))
 
 returns-2 : tie.Need-returns-2
 unfolding inodeGood viewOf
-returns-2 c = c .file-good .ensures ∙ sym (kind-file _ _ _ _ _ (sym (field-of inodeKind (c .before .before .before .inode .ensures) (c .before .before .kind .ensures)) ∙ c .before .match .keys2))
+returns-2 c =
+    let inode = c .before .before .before .inode in
+    c .file-good .ensures ∙ sym (kind-file _ _ _ _ _ (sym (field-of inodeKind (inode .ensures) (c .before .before .kind .ensures)) ∙ c .before .match .keys2))
 
 returns-3 : tie.Need-returns-3
 unfolding inodeGood viewOf
-returns-3 c = c .directory-good .ensures ∙ sym (kind-directory _ _ _ _ _ (sym (field-of inodeKind (c .before .before .before .inode .ensures) (c .before .before .kind .ensures)) ∙ c .before .match .keys3))
+returns-3 c =
+    let inode = c .before .before .before .inode in
+    c .directory-good .ensures ∙ sym (kind-directory _ _ _ _ _ (sym (field-of inodeKind (inode .ensures) (c .before .before .kind .ensures)) ∙ c .before .match .keys3))
 
 returns-4 : tie.Need-returns-4
 unfolding inodeGood viewOf
-returns-4 c = c .symlink-good .ensures ∙ sym (kind-symlink _ _ _ _ _ (sym (field-of inodeKind (c .before .before .before .inode .ensures) (c .before .before .kind .ensures)) ∙ c .before .match .keys4))
+returns-4 c =
+    let inode = c .before .before .before .inode in
+    c .symlink-good .ensures ∙ sym (kind-symlink _ _ _ _ _ (sym (field-of inodeKind (inode .ensures) (c .before .before .kind .ensures)) ∙ c .before .match .keys4))
 
 returns-5 : tie.Need-returns-5
 unfolding inodeGood viewOf

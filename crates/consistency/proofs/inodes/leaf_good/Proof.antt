@@ -24,18 +24,24 @@ links-requires c κs = search needs
 returns-2 : tie.Need-returns-2
 unfolding leafGood viewOf
 returns-2 c =
+    let inode = c .before .before .before .before .inode in
+    let mode = c .before .before .before .mode in
     simp (
-      lt-ltb _ _ (rw (field-of inodeMode (c .before .before .before .before .inode .ensures) (c .before .before .before .mode .ensures .0)) at (c .before .before .if1 .left)),
-      lt-leb _ _ (rw (field-of inodeLinks (c .before .before .before .before .inode .ensures) (c .before .links .ensures .0)) at (c .if2 .taken)),
+      lt-ltb _ _ (rw (field-of inodeMode (inode .ensures) (mode .ensures .0)) at (c .before .before .if1 .left)),
+      lt-leb _ _ (rw (field-of inodeLinks (inode .ensures) (c .before .links .ensures .0)) at (c .if2 .taken)),
     )
 
 returns-3 : tie.Need-returns-3
 unfolding leafGood viewOf
 returns-3 c =
+    let inode = c .before .before .before .before .before .inode in
+    let mode = c .before .before .before .before .mode in
+    let if1 = c .before .before .before .if1 in
+    let links = c .before .before .links in
     simp (
-      lt-ltb _ _ (rw (field-of inodeMode (c .before .before .before .before .before .inode .ensures) (c .before .before .before .before .mode .ensures .0)) at (c .before .before .before .if1 .left)),
-      le-leb _ _ (rw (field-of inodeLinks (c .before .before .before .before .before .inode .ensures) (c .before .before .links .ensures .0)) at (c .before .if2 .left)),
-      lt-leb _ _ (rw (field-of inodeLinks (c .before .before .before .before .before .inode .ensures) (c .before .before .links .ensures .0)) at (c .if3 .taken)),
+      lt-ltb _ _ (rw (field-of inodeMode (inode .ensures) (mode .ensures .0)) at (if1 .left)),
+      le-leb _ _ (rw (field-of inodeLinks (inode .ensures) (links .ensures .0)) at (c .before .if2 .left)),
+      lt-leb _ _ (rw (field-of inodeLinks (inode .ensures) (links .ensures .0)) at (c .if3 .taken)),
     )
 
 entries-of-requires : tie.Need-entries-of-requires
@@ -44,12 +50,16 @@ entries-of-requires c κs = search needs
 returns-4 : tie.Need-returns-4
 unfolding leafGood viewOf
 returns-4 c =
+    let inode = c .before .before .before .before .before .before .inode in
+    let mode = c .before .before .before .before .before .mode in
+    let if1 = c .before .before .before .before .if1 in
+    let links = c .before .before .before .links in
     simp (
-      lt-ltb _ _ (rw (field-of inodeMode (c .before .before .before .before .before .before .inode .ensures) (c .before .before .before .before .before .mode .ensures .0)) at (c .before .before .before .before .if1 .left)),
-      le-leb _ _ (rw (field-of inodeLinks (c .before .before .before .before .before .before .inode .ensures) (c .before .before .before .links .ensures .0)) at (c .before .before .if2 .left)),
-      le-leb _ _ (rw (field-of inodeLinks (c .before .before .before .before .before .before .inode .ensures) (c .before .before .before .links .ensures .0)) at (c .before .if3 .left)),
+      lt-ltb _ _ (rw (field-of inodeMode (inode .ensures) (mode .ensures .0)) at (if1 .left)),
+      le-leb _ _ (rw (field-of inodeLinks (inode .ensures) (links .ensures .0)) at (c .before .before .if2 .left)),
+      le-leb _ _ (rw (field-of inodeLinks (inode .ensures) (links .ensures .0)) at (c .before .if3 .left)),
       c .entries-of .ensures,
-      field-of inodeLinks (c .before .before .before .before .before .before .inode .ensures) (c .before .before .before .links .ensures .0),
+      field-of inodeLinks (inode .ensures) (links .ensures .0),
     )
 
 pub leaf-good-spec : {M : Type 1} → statement M

@@ -26,9 +26,12 @@ field-requires c κs = search needs
 returns-2 : tie.Need-returns-2
 unfolding symlinkGood viewOf
 returns-2 c =
+    let leaf-good = c .before .before .before .before .before .leaf-good in
+    let if1 = c .before .before .before .before .if1 in
+    let inode = c .before .before .before .inode in
     simp (
-      holds (c .before .before .before .before .before .leaf-good .ensures) (c .before .before .before .before .if1 .left),
-      le-ltb _ _ (rw (field-of inodeField (c .before .before .before .inode .ensures) (c .before .before .field .ensures .0)) at (c .if2 .taken)),
+      holds (leaf-good .ensures) (if1 .left),
+      le-ltb _ _ (rw (field-of inodeField (inode .ensures) (c .before .before .field .ensures .0)) at (c .if2 .taken)),
     )
 
 text-used-requires : tie.Need-text-used-requires
@@ -37,10 +40,15 @@ text-used-requires c κs = search needs
 returns-3 : tie.Need-returns-3
 unfolding symlinkGood viewOf
 returns-3 c =
+    let args = c .before .before .before .before .before .before .before .before .before .args in
+    let leaf-good = c .before .before .before .before .before .before .before .leaf-good in
+    let if1 = c .before .before .before .before .before .before .if1 in
+    let inode = c .before .before .before .before .before .inode in
+    let field = c .before .before .before .before .field in
     simp (
-      holds (c .before .before .before .before .before .before .before .leaf-good .ensures) (c .before .before .before .before .before .before .if1 .left),
-      lt-ltb _ _ (rw (field-of inodeField (c .before .before .before .before .before .inode .ensures) (c .before .before .before .before .field .ensures .0)) at (c .before .before .if2 .left)),
-      ap (λ x. textUsed (viewOf (c .before .before .before .before .before .before .before .before .before .args .h) (c .before .before .before .before .before .before .before .before .before .args .s .now)) x) (sym (field-of inodeField (c .before .before .before .before .before .inode .ensures) (c .before .before .before .before .field .ensures .0))) ∙ fails (c .before .text-used .ensures) (c .if3 .taken),
+      holds (leaf-good .ensures) (if1 .left),
+      lt-ltb _ _ (rw (field-of inodeField (inode .ensures) (field .ensures .0)) at (c .before .before .if2 .left)),
+      ap (λ x. textUsed (viewOf (args .h) (args .s .now)) x) (sym (field-of inodeField (inode .ensures) (field .ensures .0))) ∙ fails (c .before .text-used .ensures) (c .if3 .taken),
     )
 
 text-shared-requires : tie.Need-text-shared-requires
@@ -49,10 +57,16 @@ text-shared-requires c κs = search needs
 returns-4 : tie.Need-returns-4
 unfolding symlinkGood viewOf
 returns-4 c =
+    let args = c .before .before .before .before .before .before .before .before .before .before .args in
+    let leaf-good = c .before .before .before .before .before .before .before .before .leaf-good in
+    let if1 = c .before .before .before .before .before .before .before .if1 in
+    let inode = c .before .before .before .before .before .before .inode in
+    let field = c .before .before .before .before .before .field in
+    let if2 = c .before .before .before .if2 in
     simp (
-      holds (c .before .before .before .before .before .before .before .before .leaf-good .ensures) (c .before .before .before .before .before .before .before .if1 .left),
-      lt-ltb _ _ (rw (field-of inodeField (c .before .before .before .before .before .before .inode .ensures) (c .before .before .before .before .before .field .ensures .0)) at (c .before .before .before .if2 .left)),
-      ap (λ x. textUsed (viewOf (c .before .before .before .before .before .before .before .before .before .before .args .h) (c .before .before .before .before .before .before .before .before .before .before .args .s .now)) x) (sym (field-of inodeField (c .before .before .before .before .before .before .inode .ensures) (c .before .before .before .before .before .field .ensures .0))) ∙ holds (c .before .before .text-used .ensures) (c .before .if3 .left),
+      holds (leaf-good .ensures) (if1 .left),
+      lt-ltb _ _ (rw (field-of inodeField (inode .ensures) (field .ensures .0)) at (if2 .left)),
+      ap (λ x. textUsed (viewOf (args .h) (args .s .now)) x) (sym (field-of inodeField (inode .ensures) (field .ensures .0))) ∙ holds (c .before .before .text-used .ensures) (c .before .if3 .left),
       c .text-shared .ensures,
     )
 

@@ -32,8 +32,12 @@ has-text-requires c κs = search needs
 
 returns : tie.Need-returns Inv-loop μ-loop
 unfolding textShared viewOf
-returns c = let f = field-of inodeField (c .before .before .before .before .before .inode .ensures) (c .before .before .before .before .field .ensures .0) in
-    sym (rw f at (any-hit (hasText (viewOf (c .before .before .before .before .before .before .before .args .h) (c .before .before .before .before .before .before .before .args .s .now)) (c .before .before .before .before .field .result)) _ _ (c .before .before .loop-test .taken) (sym (c .before .has-text .ensures) ∙ c .if1 .taken)))
+returns c =
+    let args = c .before .before .before .before .before .before .before .args in
+    let inode = c .before .before .before .before .before .inode in
+    let field = c .before .before .before .before .field in
+    let f = field-of inodeField (inode .ensures) (field .ensures .0) in
+    sym (rw f at (any-hit (hasText (viewOf (args .h) (args .s .now)) (field .result)) _ _ (c .before .before .loop-test .taken) (sym (c .before .has-text .ensures) ∙ c .if1 .taken)))
 
 add-k : tie.Need-add-k Inv-loop μ-loop
 add-k c = search needs

@@ -29,8 +29,11 @@ name-length-requires-2 c κs = search needs
 returns-2 : tie.Need-returns-2
 unfolding clash viewOf
 returns-2 c =
+    let entry = c .before .before .before .before .before .entry in
+    let name-length = c .before .before .before .before .name-length in
+    let if1 = c .before .before .before .if1 in
     simp (
-      ne-eqb _ _ (λ e. c .before .before .before .if1 .left (field-of entryNameLength (c .before .before .before .before .before .entry .ensures) (c .before .before .before .before .name-length .ensures .0) ∙ e)),
+      ne-eqb _ _ (λ e. if1 .left (field-of entryNameLength (entry .ensures) (name-length .ensures .0) ∙ e)),
       eq-eqb _ _ (sym (field-of entryNameLength (c .before .before .entry2 .ensures) (c .before .name-length2 .ensures .0)) ∙ c .if2 .taken),
     )
 
@@ -43,33 +46,57 @@ parent-requires-2 c κs = search needs
 returns-3 : tie.Need-returns-3
 unfolding clash viewOf
 returns-3 c =
+    let entry = c .before .before .before .before .before .before .before .before .entry in
+    let name-length = c .before .before .before .before .before .before .before .name-length in
+    let if1 = c .before .before .before .before .before .before .if1 in
+    let entry2 = c .before .before .before .before .before .entry2 in
+    let name-length2 = c .before .before .before .before .name-length2 in
+    let if2 = c .before .before .before .if2 in
     simp (
-      ne-eqb _ _ (λ e. c .before .before .before .before .before .before .if1 .left (field-of entryNameLength (c .before .before .before .before .before .before .before .before .entry .ensures) (c .before .before .before .before .before .before .before .name-length .ensures .0) ∙ e)),
-      ne-eqb _ _ (λ e. c .before .before .before .if2 .left (field-of entryNameLength (c .before .before .before .before .before .entry2 .ensures) (c .before .before .before .before .name-length2 .ensures .0) ∙ e)),
-      ne-eqb _ _ (λ e. c .if3 .taken (field-of entryParent (c .before .before .before .before .before .before .before .before .entry .ensures) (c .before .before .parent .ensures .0) ∙ e ∙ sym (field-of entryParent (c .before .before .before .before .before .entry2 .ensures) (c .before .parent2 .ensures .0)))),
+      ne-eqb _ _ (λ e. if1 .left (field-of entryNameLength (entry .ensures) (name-length .ensures .0) ∙ e)),
+      ne-eqb _ _ (λ e. if2 .left (field-of entryNameLength (entry2 .ensures) (name-length2 .ensures .0) ∙ e)),
+      ne-eqb _ _ (λ e. c .if3 .taken (field-of entryParent (entry .ensures) (c .before .before .parent .ensures .0) ∙ e ∙ sym (field-of entryParent (entry2 .ensures) (c .before .parent2 .ensures .0)))),
     )
 
 name-requires : tie.Need-name-requires
 unfolding viewOf
-name-requires c κs = let n = ap entryNameLength (c .before .before .before .before .before .before .before .before .entry .ensures .is) in
-    omega (arith, c .before .before .before .before .before .before .before .before .before .before .pre .1 .fits (c .before .before .before .before .before .before .before .before .before .before .args .i) (c .before .before .before .before .before .before .before .before .before .before .pre .2), c .before .before .before .before .before .before .before .before .entry .ensures .long, c .before .before .before .before .before .before .before .before .before .before .pre .0 .width-least)
+name-requires c κs =
+    let args = c .before .before .before .before .before .before .before .before .before .before .args in
+    let pre = c .before .before .before .before .before .before .before .before .before .before .pre in
+    let entry = c .before .before .before .before .before .before .before .before .entry in
+    let n = ap entryNameLength (entry .ensures .is) in
+    omega (arith, pre .1 .fits (args .i) (pre .2), entry .ensures .long, pre .0 .width-least)
 
 name-requires-2 : tie.Need-name-requires-2
 unfolding viewOf
-name-requires-2 c κs = let n = ap entryNameLength (c .before .before .before .before .before .before .entry2 .ensures .is) in
-    omega (arith, c .before .before .before .before .before .before .before .before .before .before .before .pre .1 .fits (c .before .before .before .before .before .before .before .before .before .before .before .args .j) (c .before .before .before .before .before .before .before .before .before .before .before .pre .3), c .before .before .before .before .before .before .entry2 .ensures .long, c .before .before .before .before .before .before .before .before .before .before .before .pre .0 .width-least)
+name-requires-2 c κs =
+    let args = c .before .before .before .before .before .before .before .before .before .before .before .args in
+    let pre = c .before .before .before .before .before .before .before .before .before .before .before .pre in
+    let entry2 = c .before .before .before .before .before .before .entry2 in
+    let n = ap entryNameLength (entry2 .ensures .is) in
+    omega (arith, pre .1 .fits (args .j) (pre .3), entry2 .ensures .long, pre .0 .width-least)
 
 same-requires : tie.Need-same-requires
 same-requires c κs = search needs
 
 returns-4 : tie.Need-returns-4
 unfolding clash viewOf
-returns-4 c = let a = c .before .before .name .ensures ∙ ap entryName (c .before .before .before .before .before .before .before .before .before .before .before .entry .ensures .is) in
-    let b = c .before .name2 .ensures ∙ ap entryName (c .before .before .before .before .before .before .before .before .entry2 .ensures .is) in
+returns-4 c =
+    let entry = c .before .before .before .before .before .before .before .before .before .before .before .entry in
+    let name-length = c .before .before .before .before .before .before .before .before .before .before .name-length in
+    let if1 = c .before .before .before .before .before .before .before .before .before .if1 in
+    let entry2 = c .before .before .before .before .before .before .before .before .entry2 in
+    let name-length2 = c .before .before .before .before .before .before .before .name-length2 in
+    let if2 = c .before .before .before .before .before .before .if2 in
+    let parent = c .before .before .before .before .before .parent in
+    let parent2 = c .before .before .before .before .parent2 in
+    let if3 = c .before .before .before .if3 in
+    let a = c .before .before .name .ensures ∙ ap entryName (entry .ensures .is) in
+    let b = c .before .name2 .ensures ∙ ap entryName (entry2 .ensures .is) in
     simp (
-      ne-eqb _ _ (λ e. c .before .before .before .before .before .before .before .before .before .if1 .left (field-of entryNameLength (c .before .before .before .before .before .before .before .before .before .before .before .entry .ensures) (c .before .before .before .before .before .before .before .before .before .before .name-length .ensures .0) ∙ e)),
-      ne-eqb _ _ (λ e. c .before .before .before .before .before .before .if2 .left (field-of entryNameLength (c .before .before .before .before .before .before .before .before .entry2 .ensures) (c .before .before .before .before .before .before .before .name-length2 .ensures .0) ∙ e)),
-      eq-eqb _ _ (sym (field-of entryParent (c .before .before .before .before .before .before .before .before .before .before .before .entry .ensures) (c .before .before .before .before .before .parent .ensures .0)) ∙ c .before .before .before .if3 .left ∙ field-of entryParent (c .before .before .before .before .before .before .before .before .entry2 .ensures) (c .before .before .before .before .parent2 .ensures .0)),
+      ne-eqb _ _ (λ e. if1 .left (field-of entryNameLength (entry .ensures) (name-length .ensures .0) ∙ e)),
+      ne-eqb _ _ (λ e. if2 .left (field-of entryNameLength (entry2 .ensures) (name-length2 .ensures .0) ∙ e)),
+      eq-eqb _ _ (sym (field-of entryParent (entry .ensures) (parent .ensures .0)) ∙ if3 .left ∙ field-of entryParent (entry2 .ensures) (parent2 .ensures .0)),
       c .same .ensures,
       a,
       b,

@@ -38,7 +38,9 @@ loop-less : tie.Need-loop-less Inv-loop μ-loop Inv-pairs μ-pairs
 loop-less c = search needs
 
 loop-again : tie.Need-loop-again Inv-loop μ-loop Inv-pairs μ-pairs
-loop-again c = (search needs, search needs, any-miss _ _ (c .before .before .before .loop .inv .2) (sym (c .before .entries-clash .ensures) ∙ c .if1 .left))
+loop-again c =
+    let loop′ = c .before .before .before .loop in
+    (search needs, search needs, any-miss _ _ (loop′ .inv .2) (sym (c .before .entries-clash .ensures) ∙ c .if1 .left))
 
 add-j : tie.Need-add-j Inv-loop μ-loop Inv-pairs μ-pairs
 add-j c = search needs
@@ -57,7 +59,9 @@ returns c = let e : c .before .pairs .j ≡ c .before .before .before .args .h .
 
 returns-2 : tie.Need-returns-2 Inv-loop μ-loop Inv-pairs μ-pairs
 unfolding hasDuplicate viewOf
-returns-2 c = sym (any-hit _ _ _ (c .before .before .before .before .pairs-test .taken) (any-hit _ _ _ (c .before .before .loop-test .taken) (sym (c .before .entries-clash .ensures) ∙ c .if1 .taken)))
+returns-2 c =
+    let pairs-test = c .before .before .before .before .pairs-test in
+    sym (any-hit _ _ _ (pairs-test .taken) (any-hit _ _ _ (c .before .before .loop-test .taken) (sym (c .before .entries-clash .ensures) ∙ c .if1 .taken)))
 
 pub has-duplicate-spec : {M : Type 1} → statement M
 has-duplicate-spec =

@@ -32,16 +32,22 @@ loop-less : tie.Need-loop-less Inv-loop μ-loop
 loop-less c = search needs
 
 loop-again : tie.Need-loop-again Inv-loop μ-loop
-loop-again c = let i = c .before .before .before .loop .inv in
+loop-again c =
+    let loop′ = c .before .before .before .loop in
+    let entry-targets = c .before .entry-targets in
+    let i = loop′ .inv in
     ⊎-elim
-    (λ w. (omega arith, omega arith, w .1 ∙ ap (λ m. m + 1) (i .2) ∙ sym (count-hit _ _ (sym (c .before .entry-targets .ensures) ∙ w .0 .taken))))
-    (λ w. (omega arith, omega arith, w .1 ∙ i .2 ∙ sym (count-miss _ _ (sym (c .before .entry-targets .ensures) ∙ w .0 .left))))
+    (λ w. (omega arith, omega arith, w .1 ∙ ap (λ m. m + 1) (i .2) ∙ sym (count-hit _ _ (sym (entry-targets .ensures) ∙ w .0 .taken))))
+    (λ w. (omega arith, omega arith, w .1 ∙ i .2 ∙ sym (count-miss _ _ (sym (entry-targets .ensures) ∙ w .0 .left))))
     (c .if1 .came)
 
 returns : tie.Need-returns Inv-loop μ-loop
 unfolding entriesOf viewOf
-returns c = let e : c .before .loop .j ≡ c .before .before .before .args .h .entries = omega arith in
-    c .before .loop .inv .2 ∙ ap (λ m. count (targets (viewOf (c .before .before .before .args .h) (c .before .before .before .args .s .now)) (c .before .before .before .args .i)) m) e
+returns c =
+    let args = c .before .before .before .args in
+    let loop′ = c .before .loop in
+    let e : loop′ .j ≡ args .h .entries = omega arith in
+    loop′ .inv .2 ∙ ap (λ m. count (targets (viewOf (args .h) (args .s .now)) (args .i)) m) e
 
 pub entries-of-spec : {M : Type 1} → statement M
 entries-of-spec =

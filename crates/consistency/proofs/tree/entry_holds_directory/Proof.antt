@@ -24,9 +24,11 @@ parent-requires c κs = search needs
 returns-2 : tie.Need-returns-2
 unfolding viewOf
 returns-2 c =
+    let entry = c .before .before .before .before .entry in
+    let name-length = c .before .before .before .name-length in
     simp (
-      ne-eqb _ _ (λ e. c .before .before .if1 .left (field-of entryNameLength (c .before .before .before .before .entry .ensures) (c .before .before .before .name-length .ensures .0) ∙ e)),
-      ne-eqb _ _ (λ e. c .if2 .taken (field-of entryParent (c .before .before .before .before .entry .ensures) (c .before .parent .ensures .0) ∙ e)),
+      ne-eqb _ _ (λ e. c .before .before .if1 .left (field-of entryNameLength (entry .ensures) (name-length .ensures .0) ∙ e)),
+      ne-eqb _ _ (λ e. c .if2 .taken (field-of entryParent (entry .ensures) (c .before .parent .ensures .0) ∙ e)),
     )
 
 target-requires : tie.Need-target-requires
@@ -37,10 +39,15 @@ is-directory-requires c κs = search needs
 
 returns-3 : tie.Need-returns-3
 unfolding viewOf
-returns-3 c = let t = field-of entryTarget (c .before .before .before .before .before .before .entry .ensures) (c .before .target .ensures .0) in
+returns-3 c =
+    let entry = c .before .before .before .before .before .before .entry in
+    let name-length = c .before .before .before .before .before .name-length in
+    let if1 = c .before .before .before .before .if1 in
+    let parent = c .before .before .before .parent in
+    let t = field-of entryTarget (entry .ensures) (c .before .target .ensures .0) in
     simp (
-      ne-eqb _ _ (λ e. c .before .before .before .before .if1 .left (field-of entryNameLength (c .before .before .before .before .before .before .entry .ensures) (c .before .before .before .before .before .name-length .ensures .0) ∙ e)),
-      eq-eqb _ _ (sym (field-of entryParent (c .before .before .before .before .before .before .entry .ensures) (c .before .before .before .parent .ensures .0)) ∙ c .before .before .if2 .left),
+      ne-eqb _ _ (λ e. if1 .left (field-of entryNameLength (entry .ensures) (name-length .ensures .0) ∙ e)),
+      eq-eqb _ _ (sym (field-of entryParent (entry .ensures) (parent .ensures .0)) ∙ c .before .before .if2 .left),
       c .is-directory .ensures,
       t,
     )

@@ -24,9 +24,10 @@ target-requires c κs = search needs
 returns-2 : tie.Need-returns-2
 unfolding viewOf
 returns-2 c =
+    let entry = c .before .before .before .entry in
     simp (
-      ne-eqb _ _ (λ e. c .before .if1 .left (field-of entryNameLength (c .before .before .before .entry .ensures) (c .before .before .name-length .ensures .0) ∙ e)),
-      field-of entryTarget (c .before .before .before .entry .ensures) (c .target .ensures .0),
+      ne-eqb _ _ (λ e. c .before .if1 .left (field-of entryNameLength (entry .ensures) (c .before .before .name-length .ensures .0) ∙ e)),
+      field-of entryTarget (entry .ensures) (c .target .ensures .0),
     )
 
 pub entry-targets-spec : {M : Type 1} → statement M

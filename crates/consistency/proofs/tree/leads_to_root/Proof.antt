@@ -30,8 +30,12 @@ field-requires c κs = search needs
 
 returns-2 : tie.Need-returns-2 Inv-loop μ-loop
 unfolding viewOf
-returns-2 c = let f = field-of inodeField (c .before .before .inode .ensures) (c .before .field .ensures .0) in
-    sym (leads-out _ _ _ (c .before .before .before .before .loop-test .taken) (c .before .before .before .if1 .left) (rw f at (c .if2 .taken))) ∙ c .before .before .before .before .before .loop .inv .2
+returns-2 c =
+    let loop′ = c .before .before .before .before .before .loop in
+    let loop-test = c .before .before .before .before .loop-test in
+    let if1 = c .before .before .before .if1 in
+    let f = field-of inodeField (c .before .before .inode .ensures) (c .before .field .ensures .0) in
+    sym (leads-out _ _ _ (loop-test .taken) (if1 .left) (rw f at (c .if2 .taken))) ∙ loop′ .inv .2
 
 sub-left : tie.Need-sub-left Inv-loop μ-loop
 sub-left c = search needs
@@ -41,16 +45,24 @@ loop-less c = search needs
 
 loop-again : tie.Need-loop-again Inv-loop μ-loop
 unfolding viewOf
-loop-again c = let f = field-of inodeField (c .before .before .inode .ensures) (c .before .field .ensures .0) in (
-  search needs,
-  search needs,
-  ap (λ x. leads (viewOf (c .before .before .before .before .before .before .before .args .h) (c .before .before .before .before .before .before .before .args .s .now)) (c .before .before .before .before .before .loop .left - 1) x) f
-      ∙ sym (leads-on _ _ _ (c .before .before .before .before .loop-test .taken) (c .before .before .before .if1 .left) (rw f at (c .if2 .left))) ∙ c .before .before .before .before .before .loop .inv .2,
-)
+loop-again c =
+    let args = c .before .before .before .before .before .before .before .args in
+    let loop′ = c .before .before .before .before .before .loop in
+    let loop-test = c .before .before .before .before .loop-test in
+    let if1 = c .before .before .before .if1 in
+    let f = field-of inodeField (c .before .before .inode .ensures) (c .before .field .ensures .0) in (
+      search needs,
+      search needs,
+      ap (λ x. leads (viewOf (args .h) (args .s .now)) (loop′ .left - 1) x) f
+          ∙ sym (leads-on _ _ _ (loop-test .taken) (if1 .left) (rw f at (c .if2 .left))) ∙ loop′ .inv .2,
+    )
 
 returns-3 : tie.Need-returns-3 Inv-loop μ-loop
-returns-3 c = let e : c .before .loop .left ≡ 0 = omega arith in
-    sym (leads-end _ _) ∙ ap (λ n. leads (viewOf (c .before .before .before .args .h) (c .before .before .before .args .s .now)) n (c .before .loop .at)) (sym e) ∙ c .before .loop .inv .2
+returns-3 c =
+    let args = c .before .before .before .args in
+    let loop′ = c .before .loop in
+    let e : loop′ .left ≡ 0 = omega arith in
+    sym (leads-end _ _) ∙ ap (λ n. leads (viewOf (args .h) (args .s .now)) n (loop′ .at)) (sym e) ∙ loop′ .inv .2
 
 pub leads-to-root-spec : {M : Type 1} → statement M
 leads-to-root-spec =
