@@ -28,14 +28,21 @@ add-if3 c = search needs
 
 returns-3 : tie.Need-returns-3
 unfolding applicable
-returns-3 c = simp (lt-ltb _ _ (c .before .before .before .before .if1 .left), eq-eqb _ _ (sym (c .before .before .before .blank .ensures) ∙ c .before .before .if2 .left), ne-eqb _ _ (λ e. c .if3 .taken (c .before .position .ensures .0 ∙ e)))
+returns-3 c =
+    let if1 = c .before .before .before .before .if1 in
+    let blank = c .before .before .before .blank in
+    simp (lt-ltb _ _ (if1 .left), eq-eqb _ _ (sym (blank .ensures) ∙ c .before .before .if2 .left), ne-eqb _ _ (λ e. c .if3 .taken (c .before .position .ensures .0 ∙ e)))
 
 row-fits-requires : tie.Need-row-fits-requires
 row-fits-requires c κs = search needs
 
 returns-4 : tie.Need-returns-4
 unfolding applicable
-returns-4 c = simp (lt-ltb _ _ (c .before .before .before .before .before .if1 .left), eq-eqb _ _ (sym (c .before .before .before .before .blank .ensures) ∙ c .before .before .before .if2 .left), eq-eqb _ _ (sym (c .before .before .position .ensures .0) ∙ c .before .if3 .left), c .row-fits .ensures)
+returns-4 c =
+    let if1 = c .before .before .before .before .before .if1 in
+    let blank = c .before .before .before .before .blank in
+    let if2 = c .before .before .before .if2 in
+    simp (lt-ltb _ _ (if1 .left), eq-eqb _ _ (sym (blank .ensures) ∙ if2 .left), eq-eqb _ _ (sym (c .before .before .position .ensures .0) ∙ c .before .if3 .left), c .row-fits .ensures)
 
 pub applicable-spec : {M : Type 1} → statement M
 applicable-spec =

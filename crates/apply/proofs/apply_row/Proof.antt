@@ -21,7 +21,10 @@ good : (c : tie.Else1) → Applicable (c .before .before .before .before .args .
 good c = applicable-is _ _ _ (passed c)
 
 fits : (c : tie.Else1) → (rowLength (c .before .before .before .before .args .plan .now) (c .before .before .before .before .args .row) ≤ bodyBytes) × (rowOffset (c .before .before .before .before .args .plan .now) (c .before .before .before .before .args .row) + rowLength (c .before .before .before .before .args .plan .now) (c .before .before .before .before .args .row) ≤ length (c .before .before .before .before .args .image .now))
-fits c = applicable-fits (c .before .before .before .before .args .h) (c .before .before .before .before .args .image .now) _ _ (c .before .before .before .before .pre .0) (good c)
+fits c =
+    let args = c .before .before .before .before .args in
+    let pre = c .before .before .before .before .pre in
+    applicable-fits (args .h) (args .image .now) _ _ (pre .0) (good c)
 
 applicable-requires : tie.Need-applicable-requires
 applicable-requires c κs = (laid-bounded _ _ (c .before .before .pre .0), c .before .before .pre .1)
@@ -33,7 +36,9 @@ offset-requires : tie.Need-offset-requires
 offset-requires c κs = (c .before .before .before .before .before .pre .1, good (c .before) .below)
 
 body-requires : tie.Need-body-requires
-body-requires c κs = (c .before .before .before .before .before .before .pre .1, good (c .before .before) .below, fits (c .before .before) .0)
+body-requires c κs =
+    let pre = c .before .before .before .before .before .before .pre in
+    (pre .1, good (c .before .before) .below, fits (c .before .before) .0)
 
 copy-requires : tie.Need-copy-requires
 copy-requires c κs = omega (arith, fits (c .before .before .before) .1, c .before .offset .ensures .0, c .body .ensures .long)
@@ -42,8 +47,11 @@ same-length : tie.Need-same-length
 same-length c = search needs
 
 returns-2 : tie.Need-returns-2
-returns-2 c = let p = passed (c .before .before .before .before .before .before) in
-    (rw p, c .before .before .copy .ensures ∙ row-copied _ _ _ _ _ _ p (c .before .before .before .before .offset .ensures .0) (c .before .before .before .body .ensures .is))
+returns-2 c =
+    let offset = c .before .before .before .before .offset in
+    let body′ = c .before .before .before .body in
+    let p = passed (c .before .before .before .before .before .before) in
+    (rw p, c .before .before .copy .ensures ∙ row-copied _ _ _ _ _ _ p (offset .ensures .0) (body′ .ensures .is))
 
 pub apply-row-spec : {M : Type 1} → statement M
 apply-row-spec =

@@ -15,7 +15,9 @@ returns c = simp (lt-leb _ _ (rw (c .before .group .ensures) at (c .if1 .taken))
 
 returns-2 : tie.Need-returns-2
 unfolding rowFits rowAt
-returns-2 c = simp (le-leb _ _ (rw (c .before .before .group .ensures) at (c .before .if1 .left)), lt-leb _ _ (rw (c .before .before .group .ensures) at (c .if2 .taken)))
+returns-2 c =
+    let group = c .before .before .group in
+    simp (le-leb _ _ (rw (group .ensures) at (c .before .if1 .left)), lt-leb _ _ (rw (group .ensures) at (c .if2 .taken)))
 
 offset-requires : tie.Need-offset-requires
 offset-requires c κs = search needs
@@ -28,7 +30,11 @@ covers-requires c κs = search needs
 
 returns-3 : tie.Need-returns-3
 unfolding rowFits rowAt
-returns-3 c = simp (le-leb _ _ (rw (c .before .before .before .before .before .group .ensures) at (c .before .before .before .before .if1 .left)), le-leb _ _ (rw (c .before .before .before .before .before .group .ensures) at (c .before .before .before .if2 .left)), c .covers .ensures, c .before .before .offset .ensures .0, c .before .length .ensures .0)
+returns-3 c =
+    let group = c .before .before .before .before .before .group in
+    let if1 = c .before .before .before .before .if1 in
+    let if2 = c .before .before .before .if2 in
+    simp (le-leb _ _ (rw (group .ensures) at (if1 .left)), le-leb _ _ (rw (group .ensures) at (if2 .left)), c .covers .ensures, c .before .before .offset .ensures .0, c .before .length .ensures .0)
 
 pub row-fits-spec : {M : Type 1} → statement M
 row-fits-spec =

@@ -27,8 +27,12 @@ part-result-end : tie.Need-part-result-end
 part-result-end c = search needs
 
 returns : tie.Need-returns
-returns c = let e = c .before .length .ensures .0 in
-    reads-body (c .before .before .before .args .plan .now) (c .before .before .before .args .i) (c .before .length .result) (c .before .before .before .pre .0) (c .before .before .before .pre .1) (omega (arith, c .before .before .before .pre .2)) e
+returns c =
+    let args = c .before .before .before .args in
+    let pre = c .before .before .before .pre in
+    let length = c .before .length in
+    let e = length .ensures .0 in
+    reads-body (args .plan .now) (args .i) (length .result) (pre .0) (pre .1) (omega (arith, pre .2)) e
 
 pub body-spec : {M : Type 1} → statement M
 body-spec =

@@ -49,7 +49,10 @@ same-length c = search needs
 
 returns : tie.Need-returns
 unfolding rowPut headerOf bytesOf
-returns c = c .before .before .copy2 .ensures ∙ ap (λ l. put l (72 + 64 * c .before .before .before .before .before .before .before .before .before .before .before .args .i) (c .before .before .before .before .before .before .before .before .before .before .before .args .body .now)) (c .before .before .before .before .before .before .copy .ensures)
+returns c =
+    let args = c .before .before .before .before .before .before .before .before .before .before .before .args in
+    let copy = c .before .before .before .before .before .before .copy in
+    c .before .before .copy2 .ensures ∙ ap (λ l. put l (72 + 64 * args .i) (args .body .now)) (copy .ensures)
 
 pub put-row-spec : {M : Type 1} → statement M
 put-row-spec =

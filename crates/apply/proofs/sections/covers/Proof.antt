@@ -27,17 +27,38 @@ records-requires : tie.Need-records-requires Inv-loop μ-loop
 records-requires c κs = search needs
 
 one-of-section-requires : tie.Need-one-of-section-requires Inv-loop μ-loop
-one-of-section-requires c κs = rw (c .before .record-bytes .ensures) (record-some (c .before .before .before .before .args .h) (c .before .before .before .before .pre .width-least) (c .before .before .before .loop .k))
+one-of-section-requires c κs =
+    let args = c .before .before .before .before .args in
+    let pre = c .before .before .before .before .pre in
+    let loop′ = c .before .before .before .loop in
+    rw (c .before .record-bytes .ensures) (record-some (args .h) (pre .width-least) (loop′ .k))
 
 returns : tie.Need-returns Inv-loop μ-loop
 unfolding covers
-returns c = sym (any-hit _ _ _ (c .before .before .before .before .loop-test .taken) (sym (section-is (c .before .before .before .before .before .before .args .h) (c .before .before .before .before .before .loop .k) _ _ _ (c .before .before .before .before .before .loop .inv .1) (c .before .before .before .record-bytes .ensures) (c .before .before .records .ensures) _ _) ∙ sym (c .before .one-of-section .ensures) ∙ c .if1 .taken))
+returns c =
+    let args = c .before .before .before .before .before .before .args in
+    let loop′ = c .before .before .before .before .before .loop in
+    let loop-test = c .before .before .before .before .loop-test in
+    let record-bytes = c .before .before .before .record-bytes in
+    sym (any-hit _ _ _ (loop-test .taken) (sym (section-is (args .h) (loop′ .k) _ _ _ (loop′ .inv .1) (record-bytes .ensures) (c .before .before .records .ensures) _ _) ∙ sym (c .before .one-of-section .ensures) ∙ c .if1 .taken))
 
 mul-start : tie.Need-mul-start Inv-loop μ-loop
-mul-start c = omega (arith, section-room (c .before .before .before .before .before .before .args .h) (c .before .before .before .before .before .loop .k) _ _ _ (c .before .before .before .before .before .loop .inv .1) (c .before .before .before .record-bytes .ensures) (c .before .before .records .ensures) (c .before .before .before .before .before .before .pre) (c .before .before .before .before .loop-test .taken))
+mul-start c =
+    let args = c .before .before .before .before .before .before .args in
+    let pre = c .before .before .before .before .before .before .pre in
+    let loop′ = c .before .before .before .before .before .loop in
+    let loop-test = c .before .before .before .before .loop-test in
+    let record-bytes = c .before .before .before .record-bytes in
+    omega (arith, section-room (args .h) (loop′ .k) _ _ _ (loop′ .inv .1) (record-bytes .ensures) (c .before .before .records .ensures) (pre) (loop-test .taken))
 
 add-start : tie.Need-add-start Inv-loop μ-loop
-add-start c = omega (arith, section-room (c .before .before .before .before .before .before .args .h) (c .before .before .before .before .before .loop .k) _ _ _ (c .before .before .before .before .before .loop .inv .1) (c .before .before .before .record-bytes .ensures) (c .before .before .records .ensures) (c .before .before .before .before .before .before .pre) (c .before .before .before .before .loop-test .taken))
+add-start c =
+    let args = c .before .before .before .before .before .before .args in
+    let pre = c .before .before .before .before .before .before .pre in
+    let loop′ = c .before .before .before .before .before .loop in
+    let loop-test = c .before .before .before .before .loop-test in
+    let record-bytes = c .before .before .before .record-bytes in
+    omega (arith, section-room (args .h) (loop′ .k) _ _ _ (loop′ .inv .1) (record-bytes .ensures) (c .before .before .records .ensures) (pre) (loop-test .taken))
 
 add-k : tie.Need-add-k Inv-loop μ-loop
 add-k c = search needs
@@ -46,7 +67,12 @@ loop-less : tie.Need-loop-less Inv-loop μ-loop
 loop-less c = search needs
 
 loop-again : tie.Need-loop-again Inv-loop μ-loop
-loop-again c = (search needs, section-next (c .before .before .before .before .before .before .args .h) (c .before .before .before .before .before .loop .k) _ _ _ (c .before .before .before .before .before .loop .inv .1) (c .before .before .before .record-bytes .ensures) (c .before .before .records .ensures), any-miss _ _ (c .before .before .before .before .before .loop .inv .2) (sym (section-is (c .before .before .before .before .before .before .args .h) (c .before .before .before .before .before .loop .k) _ _ _ (c .before .before .before .before .before .loop .inv .1) (c .before .before .before .record-bytes .ensures) (c .before .before .records .ensures) _ _) ∙ sym (c .before .one-of-section .ensures) ∙ c .if1 .left))
+loop-again c =
+    let args = c .before .before .before .before .before .before .args in
+    let loop′ = c .before .before .before .before .before .loop in
+    let record-bytes = c .before .before .before .record-bytes in
+    let records = c .before .before .records in
+    (search needs, section-next (args .h) (loop′ .k) _ _ _ (loop′ .inv .1) (record-bytes .ensures) (records .ensures), any-miss _ _ (loop′ .inv .2) (sym (section-is (args .h) (loop′ .k) _ _ _ (loop′ .inv .1) (record-bytes .ensures) (records .ensures) _ _) ∙ sym (c .before .one-of-section .ensures) ∙ c .if1 .left))
 
 returns-2 : tie.Need-returns-2 Inv-loop μ-loop
 unfolding covers

@@ -21,7 +21,9 @@ div-result : tie.Need-div-result
 div-result c = search needs
 
 returns-4 : tie.Need-returns-4
-returns-4 c = sym (one-index _ _ _ _ _ (c .before .before .before .pre) (c .before .before .if1 .left) (c .before .if2 .left) (c .if3 .left))
+returns-4 c =
+    let pre = c .before .before .before .pre in
+    sym (one-index _ _ _ _ _ (pre) (c .before .before .if1 .left) (c .before .if2 .left) (c .if3 .left))
 
 pub one-of-spec : {M : Type 1} → statement M
 one-of-spec = tie.close (tie.spec returns returns-2 rem-if3 returns-3 div-result returns-4)

@@ -31,7 +31,11 @@ enum-known-found : tie.Need-enum-known-found
 enum-known-found c = search needs
 
 line-requires : tie.Need-line-requires
-line-requires c κs = checked-readable _ _ (contents-good _ _ (sym (c .before .before .before .read .ensures) ∙ c .before .found .given .1)) (sym (c .before .before .before .before .before .check .ensures) ∙ c .before .before .before .before .if1 .left)
+line-requires c κs =
+    let check = c .before .before .before .before .before .check in
+    let if1 = c .before .before .before .before .if1 in
+    let read = c .before .before .before .read in
+    checked-readable _ _ (contents-good _ _ (sym (read .ensures) ∙ c .before .found .given .1)) (sym (check .ensures) ∙ if1 .left)
 
 returns-3 : tie.Need-returns-3
 returns-3 c = search needs

@@ -24,7 +24,9 @@ is-named-requires c κs = search needs
 
 returns : tie.Need-returns Inv-loop μ-loop
 unfolding lookup viewOf
-returns c = (sym (first-hit _ _ _ (c .before .before .loop-test .taken) (c .before .before .before .loop .inv .1) (sym (c .before .is-named .ensures) ∙ c .if1 .taken)), search needs)
+returns c =
+    let loop′ = c .before .before .before .loop in
+    (sym (first-hit _ _ _ (c .before .before .loop-test .taken) (loop′ .inv .1) (sym (c .before .is-named .ensures) ∙ c .if1 .taken)), search needs)
 
 add-j : tie.Need-add-j Inv-loop μ-loop
 add-j c = search needs

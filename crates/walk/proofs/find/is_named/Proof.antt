@@ -26,25 +26,36 @@ parent-requires c κs = search needs
 returns-2 : tie.Need-returns-2
 unfolding isNamed viewOf
 returns-2 c =
+    let entry = c .before .before .before .before .entry in
+    let name-length = c .before .before .before .name-length in
     simp (
-      ne-eqb _ _ (λ e. c .before .before .if1 .left (field-of entryNameLength (c .before .before .before .before .entry .ensures) (c .before .before .before .name-length .ensures .0) ∙ e)),
-      ne-eqb _ _ (λ e. c .if2 .taken (field-of entryParent (c .before .before .before .before .entry .ensures) (c .before .parent .ensures .0) ∙ e)),
+      ne-eqb _ _ (λ e. c .before .before .if1 .left (field-of entryNameLength (entry .ensures) (name-length .ensures .0) ∙ e)),
+      ne-eqb _ _ (λ e. c .if2 .taken (field-of entryParent (entry .ensures) (c .before .parent .ensures .0) ∙ e)),
     )
 
 name-requires : tie.Need-name-requires
 unfolding viewOf
-name-requires c κs = let n = ap entryNameLength (c .before .before .before .before .entry .ensures .is) in
-    omega (arith, c .before .before .before .before .before .before .before .pre .0 .names (c .before .before .before .before .before .before .before .args .j) (c .before .before .before .before .before .before .before .pre .1), c .before .before .before .before .entry .ensures .long, c .before .before .before .before .before .before .before .pre .0 .laid .width-least)
+name-requires c κs =
+    let args = c .before .before .before .before .before .before .before .args in
+    let pre = c .before .before .before .before .before .before .before .pre in
+    let entry = c .before .before .before .before .entry in
+    let n = ap entryNameLength (entry .ensures .is) in
+    omega (arith, pre .0 .names (args .j) (pre .1), entry .ensures .long, pre .0 .laid .width-least)
 
 same-requires : tie.Need-same-requires
 same-requires c κs = search needs
 
 returns-3 : tie.Need-returns-3
 unfolding isNamed viewOf
-returns-3 c = let n = c .before .name .ensures ∙ ap entryName (c .before .before .before .before .before .before .entry .ensures .is) in
+returns-3 c =
+    let entry = c .before .before .before .before .before .before .entry in
+    let name-length = c .before .before .before .before .before .name-length in
+    let if1 = c .before .before .before .before .if1 in
+    let parent = c .before .before .before .parent in
+    let n = c .before .name .ensures ∙ ap entryName (entry .ensures .is) in
     simp (
-      ne-eqb _ _ (λ e. c .before .before .before .before .if1 .left (field-of entryNameLength (c .before .before .before .before .before .before .entry .ensures) (c .before .before .before .before .before .name-length .ensures .0) ∙ e)),
-      eq-eqb _ _ (sym (field-of entryParent (c .before .before .before .before .before .before .entry .ensures) (c .before .before .before .parent .ensures .0)) ∙ c .before .before .if2 .left),
+      ne-eqb _ _ (λ e. if1 .left (field-of entryNameLength (entry .ensures) (name-length .ensures .0) ∙ e)),
+      eq-eqb _ _ (sym (field-of entryParent (entry .ensures) (parent .ensures .0)) ∙ c .before .before .if2 .left),
       c .same .ensures,
       n,
     )

@@ -25,7 +25,9 @@ shared-slice-read-if1 c = search needs
 
 returns : tie.Need-returns Inv-loop μ-loop
 unfolding nameBytes
-returns c = (sym (first-hit _ _ _ (c .before .before .loop-test .taken) (c .before .before .before .loop .inv .1) (eq-eqb _ _ (c .if1 .taken))), search needs)
+returns c =
+    let loop′ = c .before .before .before .loop in
+    (sym (first-hit _ _ _ (c .before .before .loop-test .taken) (loop′ .inv .1) (eq-eqb _ _ (c .if1 .taken))), search needs)
 
 add-k : tie.Need-add-k Inv-loop μ-loop
 add-k c = search needs

@@ -23,8 +23,12 @@ copy-requires-2 c κs = search needs
 
 returns : tie.Need-returns
 unfolding filled
-returns c = c .before .copy2 .ensures ∙ ap (λ l. put l (length (c .before .before .before .before .before .before .before .before .args .text .now)) (c .before .before .before .before .before .before .before .before .args .rest .now)) (c .before .before .before .before .copy .ensures)
-    ∙ twice (c .before .before .before .before .before .before .before .before .args .text .now) (c .before .before .before .before .before .before .before .before .args .rest .now) 256 (omega (arith, c .before .before .before .before .before .before .before .before .pre))
+returns c =
+    let args = c .before .before .before .before .before .before .before .before .args in
+    let pre = c .before .before .before .before .before .before .before .before .pre in
+    let copy = c .before .before .before .before .copy in
+    c .before .copy2 .ensures ∙ ap (λ l. put l (length (args .text .now)) (args .rest .now)) (copy .ensures)
+    ∙ twice (args .text .now) (args .rest .now) 256 (omega (arith, pre))
 
 pub splice-spec : {M : Type 1} → statement M
 splice-spec =

@@ -30,9 +30,13 @@ div-result c = search needs
 
 returns-2 : tie.Need-returns-2
 unfolding allows viewOf
-returns-2 c = let m = field-of inodeMode (c .before .before .before .before .inode .ensures) (c .before .before .before .mode .ensures .0) in
-    let o = field-of inodeOwner (c .before .before .before .before .inode .ensures) (c .before .before .owner .ensures) in
-    simp (ne-eqb _ _ (c .before .before .before .before .before .if1 .left), eq-eqb _ _ (c .if2 .taken ∙ o), m)
+returns-2 c =
+    let if1 = c .before .before .before .before .before .if1 in
+    let inode = c .before .before .before .before .inode in
+    let mode = c .before .before .before .mode in
+    let m = field-of inodeMode (inode .ensures) (mode .ensures .0) in
+    let o = field-of inodeOwner (inode .ensures) (c .before .before .owner .ensures) in
+    simp (ne-eqb _ _ (if1 .left), eq-eqb _ _ (c .if2 .taken ∙ o), m)
 
 group-requires : tie.Need-group-requires
 group-requires c κs = search needs
@@ -45,12 +49,18 @@ div-result-2 c = search needs
 
 returns-3 : tie.Need-returns-3
 unfolding allows viewOf
-returns-3 c = let m = field-of inodeMode (c .before .before .before .before .before .before .before .inode .ensures) (c .before .before .before .before .before .before .mode .ensures .0) in
-    let o = field-of inodeOwner (c .before .before .before .before .before .before .before .inode .ensures) (c .before .before .before .before .before .owner .ensures) in
-    let g = field-of inodeGroup (c .before .before .before .before .before .before .before .inode .ensures) (c .before .before .group .ensures) in
+returns-3 c =
+    let if1 = c .before .before .before .before .before .before .before .before .if1 in
+    let inode = c .before .before .before .before .before .before .before .inode in
+    let mode = c .before .before .before .before .before .before .mode in
+    let owner = c .before .before .before .before .before .owner in
+    let if2 = c .before .before .before .if2 in
+    let m = field-of inodeMode (inode .ensures) (mode .ensures .0) in
+    let o = field-of inodeOwner (inode .ensures) (owner .ensures) in
+    let g = field-of inodeGroup (inode .ensures) (c .before .before .group .ensures) in
     simp (
-      ne-eqb _ _ (c .before .before .before .before .before .before .before .before .if1 .left),
-      ne-eqb _ _ (λ e. c .before .before .before .if2 .left (e ∙ sym o)),
+      ne-eqb _ _ (if1 .left),
+      ne-eqb _ _ (λ e. if2 .left (e ∙ sym o)),
       eq-eqb _ _ (c .if3 .taken ∙ g),
       m,
     )
@@ -60,12 +70,18 @@ div-result-3 c = search needs
 
 returns-4 : tie.Need-returns-4
 unfolding allows viewOf
-returns-4 c = let m = field-of inodeMode (c .before .before .before .before .before .before .before .inode .ensures) (c .before .before .before .before .before .before .mode .ensures .0) in
-    let o = field-of inodeOwner (c .before .before .before .before .before .before .before .inode .ensures) (c .before .before .before .before .before .owner .ensures) in
-    let g = field-of inodeGroup (c .before .before .before .before .before .before .before .inode .ensures) (c .before .before .group .ensures) in
+returns-4 c =
+    let if1 = c .before .before .before .before .before .before .before .before .if1 in
+    let inode = c .before .before .before .before .before .before .before .inode in
+    let mode = c .before .before .before .before .before .before .mode in
+    let owner = c .before .before .before .before .before .owner in
+    let if2 = c .before .before .before .if2 in
+    let m = field-of inodeMode (inode .ensures) (mode .ensures .0) in
+    let o = field-of inodeOwner (inode .ensures) (owner .ensures) in
+    let g = field-of inodeGroup (inode .ensures) (c .before .before .group .ensures) in
     simp (
-      ne-eqb _ _ (c .before .before .before .before .before .before .before .before .if1 .left),
-      ne-eqb _ _ (λ e. c .before .before .before .if2 .left (e ∙ sym o)),
+      ne-eqb _ _ (if1 .left),
+      ne-eqb _ _ (λ e. if2 .left (e ∙ sym o)),
       ne-eqb _ _ (λ e. c .if3 .left (e ∙ sym g)),
       m,
     )

@@ -11,7 +11,9 @@ working-requires : tie.Need-working-requires
 working-requires c κs = search needs
 
 returns : tie.Need-returns
-returns c = ap (λ (p : List ℕ). record { path = p; len = length (c .before .before .args .path .now); at = 0; directory = c .before .before .args .directory; links = 0; steps = 0; waived = c .before .before .args .waived })
+returns c =
+    let args = c .before .before .args in
+    ap (λ (p : List ℕ). record { path = p; len = length (args .path .now); at = 0; directory = args .directory; links = 0; steps = 0; waived = args .waived })
     (c .working .ensures)
 
 pub begin-spec : {M : Type 1} → statement M

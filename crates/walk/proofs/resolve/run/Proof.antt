@@ -34,7 +34,10 @@ abbrev μ-loop : tie.MeasureT-loop
 μ-loop s h who w₀ w = budget (positionOf w)
 
 loop-holds : tie.Need-loop-holds Inv-loop μ-loop
-loop-holds c = (c .before .pre .1, ready-new (positionOf (c .before .args .w)) (c .before .pre .1 .more) (fit-short (c .before .args .w) (c .before .pre .1)) (c .before .pre .2) (c .before .pre .3), refl)
+loop-holds c =
+    let args = c .before .args in
+    let pre = c .before .pre in
+    (pre .1, ready-new (positionOf (args .w)) (pre .1 .more) (fit-short (args .w) (pre .1)) (pre .2) (pre .3), refl)
 
 step-requires : tie.Need-step-requires Inv-loop μ-loop
 step-requires c κs = let l = ready-steps (positionOf (c .loop .w)) (c .loop .inv .1) in
@@ -44,19 +47,31 @@ enum-told : tie.Need-enum-told Inv-loop μ-loop
 enum-told c = search needs
 
 loop-less : tie.Need-loop-less Inv-loop μ-loop
-loop-less c = let e = turned-goes (c .before .before .before .step .result) _ _ (c .before .before .before .step .ensures) (c .enum-told .given .1) in
-    budget-falls (positionOf (c .before .before .before .before .loop .w)) (positionOf (c .before .before .before .step .result .walk)) (c .before .before .before .before .loop .inv .0 .more) (after-is (viewOf (c .before .before .before .before .before .before .args .h) (c .before .before .before .before .before .before .args .s .now)) (c .before .before .before .before .before .before .args .who) (positionOf (c .before .before .before .before .loop .w)) _ e)
+loop-less c =
+    let args = c .before .before .before .before .before .before .args in
+    let loop′ = c .before .before .before .before .loop in
+    let step = c .before .before .before .step in
+    let e = turned-goes (step .result) _ _ (step .ensures) (c .enum-told .given .1) in
+    budget-falls (positionOf (loop′ .w)) (positionOf (step .result .walk)) (loop′ .inv .0 .more) (after-is (viewOf (args .h) (args .s .now)) (args .who) (positionOf (loop′ .w)) _ e)
 
 loop-again : tie.Need-loop-again Inv-loop μ-loop
-loop-again c = let e = turned-goes (c .before .before .before .step .result) _ _ (c .before .before .before .step .ensures) (c .enum-told .given .1) in (
-  turned-fit (c .before .before .before .step .result) _ _ (c .before .before .before .step .ensures) (c .enum-told .given .1),
-  ready-next (viewOf (c .before .before .before .before .before .before .args .h) (c .before .before .before .before .before .before .args .s .now)) (c .before .before .before .before .before .before .args .who) (positionOf (c .before .before .before .before .loop .w)) (positionOf (c .before .before .before .step .result .walk)) (c .before .before .before .before .loop .inv .1) e,
-  sym (walk-goes (viewOf (c .before .before .before .before .before .before .args .h) (c .before .before .before .before .before .before .args .s .now)) (c .before .before .before .before .before .before .args .who) (positionOf (c .before .before .before .before .loop .w)) (positionOf (c .before .before .before .step .result .walk)) (c .before .before .before .before .loop .inv .1) e) ∙ c .before .before .before .before .loop .inv .2,
-)
+loop-again c =
+    let args = c .before .before .before .before .before .before .args in
+    let loop′ = c .before .before .before .before .loop in
+    let step = c .before .before .before .step in
+    let e = turned-goes (step .result) _ _ (step .ensures) (c .enum-told .given .1) in (
+      turned-fit (step .result) _ _ (step .ensures) (c .enum-told .given .1),
+      ready-next (viewOf (args .h) (args .s .now)) (args .who) (positionOf (loop′ .w)) (positionOf (step .result .walk)) (loop′ .inv .1) e,
+      sym (walk-goes (viewOf (args .h) (args .s .now)) (args .who) (positionOf (loop′ .w)) (positionOf (step .result .walk)) (loop′ .inv .1) e) ∙ loop′ .inv .2,
+    )
 
 returns : tie.Need-returns Inv-loop μ-loop
-returns c = let e = sym (c .before .before .step .ensures .is) ∙ stops (c .before .before .step .result .ending) (c .match .keys2) (c .before .before .step .result .walk) in
-    sym (walk-ends (viewOf (c .before .before .before .before .before .args .h) (c .before .before .before .before .before .args .s .now)) (c .before .before .before .before .before .args .who) (positionOf (c .before .before .before .loop .w)) (endOf (c .before .before .step .result)) (c .before .before .before .loop .inv .1) e) ∙ c .before .before .before .loop .inv .2
+returns c =
+    let args = c .before .before .before .before .before .args in
+    let loop′ = c .before .before .before .loop in
+    let step = c .before .before .step in
+    let e = sym (step .ensures .is) ∙ stops (step .result .ending) (c .match .keys2) (step .result .walk) in
+    sym (walk-ends (viewOf (args .h) (args .s .now)) (args .who) (positionOf (loop′ .w)) (endOf (step .result)) (loop′ .inv .1) e) ∙ loop′ .inv .2
 
 pub run-spec : {M : Type 1} → statement M
 run-spec =

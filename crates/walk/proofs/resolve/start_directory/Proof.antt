@@ -22,7 +22,10 @@ returns-2 c = simp (sym (c .before .before .is-absolute .ensures) ∙ c .before 
 
 handle-requires : tie.Need-handle-requires
 unfolding viewOf
-handle-requires c κs = (c .before .before .before .before .before .pre .0, open-start (viewOf (c .before .before .before .before .before .args .h) (c .before .before .before .before .before .args .s .now)) (c .before .before .before .before .before .args .start) (c .before .before .before .before .before .args .path .now) (c .before .before .before .before .before .pre .1) (sym (c .before .before .is-absolute .ensures) ∙ c .before .if1 .left) (c .if2 .left))
+handle-requires c κs =
+    let args = c .before .before .before .before .before .args in
+    let pre = c .before .before .before .before .before .pre in
+    (pre .0, open-start (viewOf (args .h) (args .s .now)) (args .start) (args .path .now) (pre .1) (sym (c .before .before .is-absolute .ensures) ∙ c .before .if1 .left) (c .if2 .left))
 
 inode-requires : tie.Need-inode-requires
 inode-requires c κs = search needs

@@ -15,7 +15,10 @@ copy-requires c κs = search needs
 
 returns : tie.Need-returns
 unfolding filled
-returns c = c .before .copy .ensures ∙ put-zeros 256 (c .before .before .before .before .args .path .now) (omega (arith, c .before .before .before .before .pre))
+returns c =
+    let args = c .before .before .before .before .args in
+    let pre = c .before .before .before .before .pre in
+    c .before .copy .ensures ∙ put-zeros 256 (args .path .now) (omega (arith, pre))
 
 pub working-spec : {M : Type 1} → statement M
 working-spec = tie.close (tie.spec slice-aggregate-copy copy-requires returns)

@@ -21,15 +21,23 @@ refuse-requires-2 : tie.Need-refuse-requires-2
 refuse-requires-2 c κs = search needs
 
 returns-2 : tie.Need-returns-2
-returns-2 c = let l = rest-length (c .before .before .before .before .before .before .args .w) (c .before .before .before .before .before .before .args .e) (c .before .before .before .before .before .before .pre .0) in
-    rw (lt-leb _ _ (c .before .before .before .if1 .left), lt-ltb _ _ (rw (← l) at (c .before .if2 .taken))) (c .refuse2 .ensures)
+returns-2 c =
+    let args = c .before .before .before .before .before .before .args in
+    let pre = c .before .before .before .before .before .before .pre in
+    let if1 = c .before .before .before .if1 in
+    let l = rest-length (args .w) (args .e) (pre .0) in
+    rw (lt-leb _ _ (if1 .left), lt-ltb _ _ (rw (← l) at (c .before .if2 .taken))) (c .refuse2 .ensures)
 
 join-requires : tie.Need-join-requires
 join-requires c κs = search needs
 
 returns-3 : tie.Need-returns-3
-returns-3 c = let l = rest-length (c .before .before .before .before .before .before .args .w) (c .before .before .before .before .before .before .args .e) (c .before .before .before .before .before .before .pre .0) in
-    rw (lt-leb _ _ (c .before .before .before .if1 .left), le-ltb _ _ (rw (← l) at (c .before .if2 .left))) (c .join .ensures)
+returns-3 c =
+    let args = c .before .before .before .before .before .before .args in
+    let pre = c .before .before .before .before .before .before .pre in
+    let if1 = c .before .before .before .if1 in
+    let l = rest-length (args .w) (args .e) (pre .0) in
+    rw (lt-leb _ _ (if1 .left), le-ltb _ _ (rw (← l) at (c .before .if2 .left))) (c .join .ensures)
 
 pub follow-spec : {M : Type 1} → statement M
 follow-spec =

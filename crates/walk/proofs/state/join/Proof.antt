@@ -13,7 +13,9 @@ part-splice-start : tie.Need-part-splice-start
 part-splice-start c = search needs
 
 part-splice-end : tie.Need-part-splice-end
-part-splice-end c = omega (arith, c .before .before .before .pre .0 .within, c .before .before .before .pre .0 .short, c .before .before .before .pre .0 .whole)
+part-splice-end c =
+    let pre = c .before .before .before .pre in
+    omega (arith, pre .0 .within, pre .0 .short, pre .0 .whole)
 
 splice-requires : tie.Need-splice-requires
 splice-requires c κs = search needs
@@ -29,7 +31,11 @@ add-t15 c = search needs
 
 returns : tie.Need-returns
 unfolding part
-returns c = joins (c .before .before .before .before .before .before .before .before .args .w) (c .before .before .before .before .before .before .before .before .args .text .now) _ (c .before .before .before .before .before .before .before .before .args .e) _ _ (c .before .before .before .before .before .before .before .before .pre .0) (c .before .before .before .before .before .before .before .before .pre .1) (c .before .before .before .before .before .before .before .before .pre .2) (c .before .before .before .before .before .before .before .before .pre .3) (c .before .before .before .splice .ensures) (c .before .before .start .ensures)
+returns c =
+    let args = c .before .before .before .before .before .before .before .before .args in
+    let pre = c .before .before .before .before .before .before .before .before .pre in
+    let splice = c .before .before .before .splice in
+    joins (args .w) (args .text .now) _ (args .e) _ _ (pre .0) (pre .1) (pre .2) (pre .3) (splice .ensures) (c .before .before .start .ensures)
 
 pub join-spec : {M : Type 1} → statement M
 join-spec =

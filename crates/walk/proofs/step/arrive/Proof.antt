@@ -14,7 +14,10 @@ exists-requires : tie.Need-exists-requires
 exists-requires c κs = search needs
 
 returns : tie.Need-returns
-returns c = arrives-plain (viewOf (c .before .before .before .before .args .h) (c .before .before .before .before .args .s .now)) _ (positionOf (c .before .before .before .before .args .w)) _ (restFrom (c .before .before .before .before .args .w) (c .before .before .before .before .args .e)) (c .before .before .before .before .args .slot) (c .before .before .before .before .args .target) (c .before .before .before .before .pre .2) (plain-end (c .before .before .before .before .args .w) (c .before .before .before .before .args .e) (c .before .before .before .before .pre .1) (c .before .if1 .taken)) (c .exists .ensures)
+returns c =
+    let args = c .before .before .before .before .args in
+    let pre = c .before .before .before .before .pre in
+    arrives-plain (viewOf (args .h) (args .s .now)) _ (positionOf (args .w)) _ (restFrom (args .w) (args .e)) (args .slot) (args .target) (pre .2) (plain-end (args .w) (args .e) (pre .1) (c .before .if1 .taken)) (c .exists .ensures)
 
 inode-requires : tie.Need-inode-requires
 inode-requires c κs = search needs
@@ -30,16 +33,26 @@ refuse-requires c κs = search needs
 
 returns-2 : tie.Need-returns-2
 unfolding viewOf
-returns-2 c = arrives-directory (viewOf (c .before .before .before .before .before .before .before .args .h) (c .before .before .before .before .before .before .before .args .s .now)) _ (positionOf (c .before .before .before .before .before .before .before .args .w)) _ (restFrom (c .before .before .before .before .before .before .before .args .w) (c .before .before .before .before .before .before .before .args .e)) (c .before .before .before .before .before .before .before .args .slot) (c .before .before .before .before .before .before .before .args .target) (c .before .before .before .before .before .before .before .pre .2)
-    (slash-end (c .before .before .before .before .before .before .before .args .w) (c .before .before .before .before .before .before .before .args .e) (c .before .before .before .before .before .before .before .pre .1) (c .before .before .before .before .if1 .left))
-    (is-kind (c .before .before .before .before .before .before .before .args .h) (c .before .before .before .before .before .before .before .args .s .now) (c .before .before .before .before .before .before .before .args .target) 2 (c .before .before .before .before .before .before .before .pre .3) (sym (field-of inodeKind (c .before .before .before .inode .ensures) (c .before .before .kind .ensures)) ∙ c .before .match .keys1)) (c .exists2 .ensures)
+returns-2 c =
+    let args = c .before .before .before .before .before .before .before .args in
+    let pre = c .before .before .before .before .before .before .before .pre in
+    let if1 = c .before .before .before .before .if1 in
+    let inode = c .before .before .before .inode in
+    arrives-directory (viewOf (args .h) (args .s .now)) _ (positionOf (args .w)) _ (restFrom (args .w) (args .e)) (args .slot) (args .target) (pre .2)
+    (slash-end (args .w) (args .e) (pre .1) (if1 .left))
+    (is-kind (args .h) (args .s .now) (args .target) 2 (pre .3) (sym (field-of inodeKind (inode .ensures) (c .before .before .kind .ensures)) ∙ c .before .match .keys1)) (c .exists2 .ensures)
 
 returns-3 : tie.Need-returns-3
 unfolding viewOf
-returns-3 c = let k = field-of inodeKind (c .before .before .before .inode .ensures) (c .before .before .kind .ensures) in
-    arrives-other (viewOf (c .before .before .before .before .before .before .before .args .h) (c .before .before .before .before .before .before .before .args .s .now)) _ (positionOf (c .before .before .before .before .before .before .before .args .w)) _ (restFrom (c .before .before .before .before .before .before .before .args .w) (c .before .before .before .before .before .before .before .args .e)) (c .before .before .before .before .before .before .before .args .slot) (c .before .before .before .before .before .before .before .args .target)
-    (slash-end (c .before .before .before .before .before .before .before .args .w) (c .before .before .before .before .before .before .before .args .e) (c .before .before .before .before .before .before .before .pre .1) (c .before .before .before .before .if1 .left))
-    (is-other (c .before .before .before .before .before .before .before .args .h) (c .before .before .before .before .before .before .before .args .s .now) (c .before .before .before .before .before .before .before .args .target) 2 (c .before .before .before .before .before .before .before .pre .3) (λ e. c .before .match .rest .1 (k ∙ e))) (c .refuse .ensures)
+returns-3 c =
+    let args = c .before .before .before .before .before .before .before .args in
+    let pre = c .before .before .before .before .before .before .before .pre in
+    let if1 = c .before .before .before .before .if1 in
+    let inode = c .before .before .before .inode in
+    let k = field-of inodeKind (inode .ensures) (c .before .before .kind .ensures) in
+    arrives-other (viewOf (args .h) (args .s .now)) _ (positionOf (args .w)) _ (restFrom (args .w) (args .e)) (args .slot) (args .target)
+    (slash-end (args .w) (args .e) (pre .1) (if1 .left))
+    (is-other (args .h) (args .s .now) (args .target) 2 (pre .3) (λ e. c .before .match .rest .1 (k ∙ e))) (c .refuse .ensures)
 
 pub arrive-spec : {M : Type 1} → statement M
 arrive-spec =

@@ -20,8 +20,11 @@ refuse-requires : tie.Need-refuse-requires
 refuse-requires c κs = search needs
 
 returns : tie.Need-returns
-returns c = let l = part-length (c .before .before .before .before .args .w .path) (c .before .before .before .before .args .a) (c .before .before .before .before .args .e - c .before .before .before .before .args .a) (omega (arith, c .before .before .before .before .pre .1 .within, c .before .before .before .before .pre .1 .short, c .before .before .before .before .pre .1 .whole)) in
-    fits-not (viewOf (c .before .before .before .before .args .h) (c .before .before .before .before .args .s .now)) _ (positionOf (c .before .before .before .before .args .w)) _ (part (c .before .before .before .before .args .w .path) (c .before .before .before .before .args .a) (c .before .before .before .before .args .e - c .before .before .before .before .args .a)) (restFrom (c .before .before .before .before .args .w) (c .before .before .before .before .args .e)) (nameRoom (c .before .before .before .before .args .h)) (rw (← l) at (c .before .if1 .taken)) (c .refuse .ensures)
+returns c =
+    let args = c .before .before .before .before .args in
+    let pre = c .before .before .before .before .pre in
+    let l = part-length (args .w .path) (args .a) (args .e - args .a) (omega (arith, pre .1 .within, pre .1 .short, pre .1 .whole)) in
+    fits-not (viewOf (args .h) (args .s .now)) _ (positionOf (args .w)) _ (part (args .w .path) (args .a) (args .e - args .a)) (restFrom (args .w) (args .e)) (nameRoom (args .h)) (rw (← l) at (c .before .if1 .taken)) (c .refuse .ensures)
 
 sub-is-dot : tie.Need-sub-is-dot
 sub-is-dot c = search needs
@@ -30,7 +33,9 @@ part-is-dot-start : tie.Need-part-is-dot-start
 part-is-dot-start c = search needs
 
 part-is-dot-end : tie.Need-part-is-dot-end
-part-is-dot-end c = omega (arith, c .before .before .before .before .before .pre .1 .within, c .before .before .before .before .before .pre .1 .short, c .before .before .before .before .before .pre .1 .whole)
+part-is-dot-end c =
+    let pre = c .before .before .before .before .before .pre in
+    omega (arith, pre .1 .within, pre .1 .short, pre .1 .whole)
 
 is-dot-requires : tie.Need-is-dot-requires
 is-dot-requires c κs = search needs
@@ -40,9 +45,13 @@ dots-requires c κs = search needs
 
 returns-2 : tie.Need-returns-2
 unfolding part
-returns-2 c = let l = part-length (c .before .before .before .before .before .before .before .before .before .args .w .path) (c .before .before .before .before .before .before .before .before .before .args .a) (c .before .before .before .before .before .before .before .before .before .args .e - c .before .before .before .before .before .before .before .before .before .args .a) (omega (arith, c .before .before .before .before .before .before .before .before .before .pre .1 .within, c .before .before .before .before .before .before .before .before .before .pre .1 .short, c .before .before .before .before .before .before .before .before .before .pre .1 .whole)) in
+returns-2 c =
+    let args = c .before .before .before .before .before .before .before .before .before .args in
+    let pre = c .before .before .before .before .before .before .before .before .before .pre in
+    let if1 = c .before .before .before .before .before .before .if1 in
+    let l = part-length (args .w .path) (args .a) (args .e - args .a) (omega (arith, pre .1 .within, pre .1 .short, pre .1 .whole)) in
     let d = sym (c .before .before .is-dot .ensures) ∙ c .before .if2 .taken in
-    fits-dots (viewOf (c .before .before .before .before .before .before .before .before .before .args .h) (c .before .before .before .before .before .before .before .before .before .args .s .now)) _ (positionOf (c .before .before .before .before .before .before .before .before .before .args .w)) _ (part (c .before .before .before .before .before .before .before .before .before .args .w .path) (c .before .before .before .before .before .before .before .before .before .args .a) (c .before .before .before .before .before .before .before .before .before .args .e - c .before .before .before .before .before .before .before .before .before .args .a)) (restFrom (c .before .before .before .before .before .before .before .before .before .args .w) (c .before .before .before .before .before .before .before .before .before .args .e)) (nameRoom (c .before .before .before .before .before .before .before .before .before .args .h)) (rw (← l) at (c .before .before .before .before .before .before .if1 .left)) (rw d) (c .dots .ensures)
+    fits-dots (viewOf (args .h) (args .s .now)) _ (positionOf (args .w)) _ (part (args .w .path) (args .a) (args .e - args .a)) (restFrom (args .w) (args .e)) (nameRoom (args .h)) (rw (← l) at (if1 .left)) (rw d) (c .dots .ensures)
 
 sub-is-dot-dot : tie.Need-sub-is-dot-dot
 sub-is-dot-dot c = search needs
@@ -51,7 +60,9 @@ part-is-dot-dot-start : tie.Need-part-is-dot-dot-start
 part-is-dot-dot-start c = search needs
 
 part-is-dot-dot-end : tie.Need-part-is-dot-dot-end
-part-is-dot-dot-end c = omega (arith, c .before .before .before .before .before .before .before .before .before .pre .1 .within, c .before .before .before .before .before .before .before .before .before .pre .1 .short, c .before .before .before .before .before .before .before .before .before .pre .1 .whole)
+part-is-dot-dot-end c =
+    let pre = c .before .before .before .before .before .before .before .before .before .pre in
+    omega (arith, pre .1 .within, pre .1 .short, pre .1 .whole)
 
 is-dot-dot-requires : tie.Need-is-dot-dot-requires
 is-dot-dot-requires c κs = search needs
@@ -61,20 +72,32 @@ dots-requires-2 c κs = search needs
 
 returns-3 : tie.Need-returns-3
 unfolding part
-returns-3 c = let l = part-length (c .before .before .before .before .before .before .before .before .before .before .before .before .before .args .w .path) (c .before .before .before .before .before .before .before .before .before .before .before .before .before .args .a) (c .before .before .before .before .before .before .before .before .before .before .before .before .before .args .e - c .before .before .before .before .before .before .before .before .before .before .before .before .before .args .a) (omega (arith, c .before .before .before .before .before .before .before .before .before .before .before .before .before .pre .1 .within, c .before .before .before .before .before .before .before .before .before .before .before .before .before .pre .1 .short, c .before .before .before .before .before .before .before .before .before .before .before .before .before .pre .1 .whole)) in
-    let d = sym (c .before .before .before .before .before .before .is-dot .ensures) ∙ c .before .before .before .before .before .if2 .left in
+returns-3 c =
+    let args = c .before .before .before .before .before .before .before .before .before .before .before .before .before .args in
+    let pre = c .before .before .before .before .before .before .before .before .before .before .before .before .before .pre in
+    let if1 = c .before .before .before .before .before .before .before .before .before .before .if1 in
+    let is-dot = c .before .before .before .before .before .before .is-dot in
+    let if2 = c .before .before .before .before .before .if2 in
+    let l = part-length (args .w .path) (args .a) (args .e - args .a) (omega (arith, pre .1 .within, pre .1 .short, pre .1 .whole)) in
+    let d = sym (is-dot .ensures) ∙ if2 .left in
     let e = sym (c .before .before .is-dot-dot .ensures) ∙ c .before .if3 .taken in
-    fits-dots (viewOf (c .before .before .before .before .before .before .before .before .before .before .before .before .before .args .h) (c .before .before .before .before .before .before .before .before .before .before .before .before .before .args .s .now)) _ (positionOf (c .before .before .before .before .before .before .before .before .before .before .before .before .before .args .w)) _ (part (c .before .before .before .before .before .before .before .before .before .before .before .before .before .args .w .path) (c .before .before .before .before .before .before .before .before .before .before .before .before .before .args .a) (c .before .before .before .before .before .before .before .before .before .before .before .before .before .args .e - c .before .before .before .before .before .before .before .before .before .before .before .before .before .args .a)) (restFrom (c .before .before .before .before .before .before .before .before .before .before .before .before .before .args .w) (c .before .before .before .before .before .before .before .before .before .before .before .before .before .args .e)) (nameRoom (c .before .before .before .before .before .before .before .before .before .before .before .before .before .args .h)) (rw (← l) at (c .before .before .before .before .before .before .before .before .before .before .if1 .left)) (rw (d, e)) (c .dots2 .ensures)
+    fits-dots (viewOf (args .h) (args .s .now)) _ (positionOf (args .w)) _ (part (args .w .path) (args .a) (args .e - args .a)) (restFrom (args .w) (args .e)) (nameRoom (args .h)) (rw (← l) at (if1 .left)) (rw (d, e)) (c .dots2 .ensures)
 
 seek-requires : tie.Need-seek-requires
 seek-requires c κs = search needs
 
 returns-4 : tie.Need-returns-4
 unfolding part viewOf
-returns-4 c = let l = part-length (c .before .before .before .before .before .before .before .before .before .before .before .before .before .args .w .path) (c .before .before .before .before .before .before .before .before .before .before .before .before .before .args .a) (c .before .before .before .before .before .before .before .before .before .before .before .before .before .args .e - c .before .before .before .before .before .before .before .before .before .before .before .before .before .args .a) (omega (arith, c .before .before .before .before .before .before .before .before .before .before .before .before .before .pre .1 .within, c .before .before .before .before .before .before .before .before .before .before .before .before .before .pre .1 .short, c .before .before .before .before .before .before .before .before .before .before .before .before .before .pre .1 .whole)) in
-    let d = sym (c .before .before .before .before .before .before .is-dot .ensures) ∙ c .before .before .before .before .before .if2 .left in
+returns-4 c =
+    let args = c .before .before .before .before .before .before .before .before .before .before .before .before .before .args in
+    let pre = c .before .before .before .before .before .before .before .before .before .before .before .before .before .pre in
+    let if1 = c .before .before .before .before .before .before .before .before .before .before .if1 in
+    let is-dot = c .before .before .before .before .before .before .is-dot in
+    let if2 = c .before .before .before .before .before .if2 in
+    let l = part-length (args .w .path) (args .a) (args .e - args .a) (omega (arith, pre .1 .within, pre .1 .short, pre .1 .whole)) in
+    let d = sym (is-dot .ensures) ∙ if2 .left in
     let e = sym (c .before .before .is-dot-dot .ensures) ∙ c .before .if3 .left in
-    fits-name (viewOf (c .before .before .before .before .before .before .before .before .before .before .before .before .before .args .h) (c .before .before .before .before .before .before .before .before .before .before .before .before .before .args .s .now)) _ (positionOf (c .before .before .before .before .before .before .before .before .before .before .before .before .before .args .w)) _ (part (c .before .before .before .before .before .before .before .before .before .before .before .before .before .args .w .path) (c .before .before .before .before .before .before .before .before .before .before .before .before .before .args .a) (c .before .before .before .before .before .before .before .before .before .before .before .before .before .args .e - c .before .before .before .before .before .before .before .before .before .before .before .before .before .args .a)) (restFrom (c .before .before .before .before .before .before .before .before .before .before .before .before .before .args .w) (c .before .before .before .before .before .before .before .before .before .before .before .before .before .args .e)) (nameRoom (c .before .before .before .before .before .before .before .before .before .before .before .before .before .args .h)) (rw (← l) at (c .before .before .before .before .before .before .before .before .before .before .if1 .left)) d e (c .seek .ensures)
+    fits-name (viewOf (args .h) (args .s .now)) _ (positionOf (args .w)) _ (part (args .w .path) (args .a) (args .e - args .a)) (restFrom (args .w) (args .e)) (nameRoom (args .h)) (rw (← l) at (if1 .left)) d e (c .seek .ensures)
 
 pub component-spec : {M : Type 1} → statement M
 component-spec =

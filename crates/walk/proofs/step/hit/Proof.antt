@@ -24,28 +24,48 @@ part-is-bare-start : tie.Need-part-is-bare-start
 part-is-bare-start c = search needs
 
 part-is-bare-end : tie.Need-part-is-bare-end
-part-is-bare-end c = omega (arith, c .before .before .before .before .before .pre .1 .within, c .before .before .before .before .before .pre .1 .short, c .before .before .before .before .before .pre .1 .whole)
+part-is-bare-end c =
+    let pre = c .before .before .before .before .before .pre in
+    omega (arith, pre .1 .within, pre .1 .short, pre .1 .whole)
 
 is-bare-requires : tie.Need-is-bare-requires
 is-bare-requires c κs = search needs
 
 arrive-requires : tie.Need-arrive-requires
 unfolding viewOf
-arrive-requires c κs = let t = field-of entryTarget (c .before .before .before .before .before .before .entry .ensures) (c .before .before .before .before .before .target .ensures .0) in
-    (c .before .before .before .before .before .before .before .before .pre .0, c .before .before .before .before .before .before .before .before .pre .1, t, rw (← t) at (isUsed-below (c .before .before .before .before .before .before .before .before .args .h) (c .before .before .before .before .before .before .before .before .args .s .now) _ (c .before .before .before .before .before .before .before .before .pre .0 .targets (c .before .before .before .before .before .before .before .before .args .slot) (c .before .before .before .before .before .before .before .before .pre .2) (c .before .before .before .before .before .before .before .before .pre .3))))
+arrive-requires c κs =
+    let args = c .before .before .before .before .before .before .before .before .args in
+    let pre = c .before .before .before .before .before .before .before .before .pre in
+    let entry = c .before .before .before .before .before .before .entry in
+    let target = c .before .before .before .before .before .target in
+    let t = field-of entryTarget (entry .ensures) (target .ensures .0) in
+    (pre .0, pre .1, t, rw (← t) at (isUsed-below (args .h) (args .s .now) _ (pre .0 .targets (args .slot) (pre .2) (pre .3))))
 
 returns : tie.Need-returns
 unfolding viewOf part
-returns c = hits-last (viewOf (c .before .before .before .before .before .before .before .before .before .args .h) (c .before .before .before .before .before .before .before .before .before .args .s .now)) _ (positionOf (c .before .before .before .before .before .before .before .before .before .args .w)) _ (restFrom (c .before .before .before .before .before .before .before .before .before .args .w) (c .before .before .before .before .before .before .before .before .before .args .e)) (c .before .before .before .before .before .before .before .before .before .args .slot) (c .before .before .before .before .before .before .target .result) (field-of entryTarget (c .before .before .before .before .before .before .before .entry .ensures) (c .before .before .before .before .before .before .target .ensures .0)) (sym (c .before .before .is-bare .ensures) ∙ c .before .if1 .taken) (c .arrive .ensures)
+returns c =
+    let args = c .before .before .before .before .before .before .before .before .before .args in
+    let entry = c .before .before .before .before .before .before .before .entry in
+    let target = c .before .before .before .before .before .before .target in
+    hits-last (viewOf (args .h) (args .s .now)) _ (positionOf (args .w)) _ (restFrom (args .w) (args .e)) (args .slot) (target .result) (field-of entryTarget (entry .ensures) (target .ensures .0)) (sym (c .before .before .is-bare .ensures) ∙ c .before .if1 .taken) (c .arrive .ensures)
 
 enter-requires : tie.Need-enter-requires
 unfolding viewOf part
-enter-requires c κs = let t = field-of entryTarget (c .before .before .before .before .before .before .entry .ensures) (c .before .before .before .before .before .target .ensures .0) in
-    (c .before .before .before .before .before .before .before .before .pre .0, c .before .before .before .before .before .before .before .before .pre .1, sym (c .before .is-bare .ensures) ∙ c .if1 .left, rw (← t) at (isUsed-below (c .before .before .before .before .before .before .before .before .args .h) (c .before .before .before .before .before .before .before .before .args .s .now) _ (c .before .before .before .before .before .before .before .before .pre .0 .targets (c .before .before .before .before .before .before .before .before .args .slot) (c .before .before .before .before .before .before .before .before .pre .2) (c .before .before .before .before .before .before .before .before .pre .3))))
+enter-requires c κs =
+    let args = c .before .before .before .before .before .before .before .before .args in
+    let pre = c .before .before .before .before .before .before .before .before .pre in
+    let entry = c .before .before .before .before .before .before .entry in
+    let target = c .before .before .before .before .before .target in
+    let t = field-of entryTarget (entry .ensures) (target .ensures .0) in
+    (pre .0, pre .1, sym (c .before .is-bare .ensures) ∙ c .if1 .left, rw (← t) at (isUsed-below (args .h) (args .s .now) _ (pre .0 .targets (args .slot) (pre .2) (pre .3))))
 
 returns-2 : tie.Need-returns-2
 unfolding viewOf part
-returns-2 c = hits-more (viewOf (c .before .before .before .before .before .before .before .before .before .args .h) (c .before .before .before .before .before .before .before .before .before .args .s .now)) _ (positionOf (c .before .before .before .before .before .before .before .before .before .args .w)) _ (restFrom (c .before .before .before .before .before .before .before .before .before .args .w) (c .before .before .before .before .before .before .before .before .before .args .e)) (c .before .before .before .before .before .before .before .before .before .args .slot) (c .before .before .before .before .before .before .target .result) (field-of entryTarget (c .before .before .before .before .before .before .before .entry .ensures) (c .before .before .before .before .before .before .target .ensures .0)) (sym (c .before .before .is-bare .ensures) ∙ c .before .if1 .left) (c .enter .ensures)
+returns-2 c =
+    let args = c .before .before .before .before .before .before .before .before .before .args in
+    let entry = c .before .before .before .before .before .before .before .entry in
+    let target = c .before .before .before .before .before .before .target in
+    hits-more (viewOf (args .h) (args .s .now)) _ (positionOf (args .w)) _ (restFrom (args .w) (args .e)) (args .slot) (target .result) (field-of entryTarget (entry .ensures) (target .ensures .0)) (sym (c .before .before .is-bare .ensures) ∙ c .before .if1 .left) (c .enter .ensures)
 
 pub hit-spec : {M : Type 1} → statement M
 hit-spec =

@@ -27,14 +27,19 @@ lacks-requires c κs = search needs
 
 returns : tie.Need-returns
 unfolding part
-returns c = misses-last _ (positionOf (c .before .before .before .before .before .before .args .w)) _ (part (c .before .before .before .before .before .before .args .w .path) (c .before .before .before .before .before .before .args .a) (c .before .before .before .before .before .before .args .e - c .before .before .before .before .before .before .args .a)) (restFrom (c .before .before .before .before .before .before .args .w) (c .before .before .before .before .before .before .args .e)) _ (sym (c .before .before .is-bare .ensures) ∙ c .before .if1 .taken) (slash-behind (c .before .before .before .before .before .before .args .w) (c .before .before .before .before .before .before .args .e) (c .before .before .before .before .before .before .pre)) (c .lacks .ensures)
+returns c =
+    let args = c .before .before .before .before .before .before .args in
+    let pre = c .before .before .before .before .before .before .pre in
+    misses-last _ (positionOf (args .w)) _ (part (args .w .path) (args .a) (args .e - args .a)) (restFrom (args .w) (args .e)) _ (sym (c .before .before .is-bare .ensures) ∙ c .before .if1 .taken) (slash-behind (args .w) (args .e) (pre)) (c .lacks .ensures)
 
 refuse-requires : tie.Need-refuse-requires
 refuse-requires c κs = search needs
 
 returns-2 : tie.Need-returns-2
 unfolding part
-returns-2 c = misses-more _ (positionOf (c .before .before .before .before .before .before .args .w)) _ (part (c .before .before .before .before .before .before .args .w .path) (c .before .before .before .before .before .before .args .a) (c .before .before .before .before .before .before .args .e - c .before .before .before .before .before .before .args .a)) (restFrom (c .before .before .before .before .before .before .args .w) (c .before .before .before .before .before .before .args .e)) (sym (c .before .before .is-bare .ensures) ∙ c .before .if1 .left) (c .refuse .ensures)
+returns-2 c =
+    let args = c .before .before .before .before .before .before .args in
+    misses-more _ (positionOf (args .w)) _ (part (args .w .path) (args .a) (args .e - args .a)) (restFrom (args .w) (args .e)) (sym (c .before .before .is-bare .ensures) ∙ c .before .if1 .left) (c .refuse .ensures)
 
 pub miss-spec : {M : Type 1} → statement M
 miss-spec =

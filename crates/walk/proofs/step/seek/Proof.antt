@@ -17,26 +17,36 @@ part-find-start : tie.Need-part-find-start
 part-find-start c = search needs
 
 part-find-end : tie.Need-part-find-end
-part-find-end c = omega (arith, c .before .before .before .pre .1 .within, c .before .before .before .pre .1 .short, c .before .before .before .pre .1 .whole)
+part-find-end c =
+    let pre = c .before .before .before .pre in
+    omega (arith, pre .1 .within, pre .1 .short, pre .1 .whole)
 
 find-requires : tie.Need-find-requires
 find-requires c κs = search needs
 
 hit-requires : tie.Need-hit-requires
 unfolding part viewOf
-hit-requires c κs = let j = c .before .before .find .ensures .0 in
-    (search needs, search needs, c .if1 .taken, lookup-used (viewOf (c .before .before .before .before .before .before .before .args .h) (c .before .before .before .before .before .before .before .args .s .now)) (c .before .before .before .before .before .before .before .args .w .directory) (part (c .before .before .before .before .before .before .before .args .w .path) (c .before .before .before .before .before .before .before .args .a) (c .before .before .before .before .before .before .before .args .e - c .before .before .before .before .before .before .before .args .a)) _ j (c .if1 .taken))
+hit-requires c κs =
+    let args = c .before .before .before .before .before .before .before .args in
+    let j = c .before .before .find .ensures .0 in
+    (search needs, search needs, c .if1 .taken, lookup-used (viewOf (args .h) (args .s .now)) (args .w .directory) (part (args .w .path) (args .a) (args .e - args .a)) _ j (c .if1 .taken))
 
 returns : tie.Need-returns
 unfolding part
-returns c = seeks-hit (viewOf (c .before .before .before .before .before .before .before .before .args .h) (c .before .before .before .before .before .before .before .before .args .s .now)) _ (positionOf (c .before .before .before .before .before .before .before .before .args .w)) _ (part (c .before .before .before .before .before .before .before .before .args .w .path) (c .before .before .before .before .before .before .before .before .args .a) (c .before .before .before .before .before .before .before .before .args .e - c .before .before .before .before .before .before .before .before .args .a)) (restFrom (c .before .before .before .before .before .before .before .before .args .w) (c .before .before .before .before .before .before .before .before .args .e)) (c .before .before .before .find .result) _ (c .before .before .before .before .before .before .before .before .args .h .entries) (c .before .before .before .find .ensures .0) (c .before .if1 .taken) (c .hit .ensures)
+returns c =
+    let args = c .before .before .before .before .before .before .before .before .args in
+    let find = c .before .before .before .find in
+    seeks-hit (viewOf (args .h) (args .s .now)) _ (positionOf (args .w)) _ (part (args .w .path) (args .a) (args .e - args .a)) (restFrom (args .w) (args .e)) (find .result) _ (args .h .entries) (find .ensures .0) (c .before .if1 .taken) (c .hit .ensures)
 
 miss-requires : tie.Need-miss-requires
 miss-requires c κs = search needs
 
 returns-2 : tie.Need-returns-2
 unfolding part
-returns-2 c = seeks-miss (viewOf (c .before .before .before .before .before .before .before .before .args .h) (c .before .before .before .before .before .before .before .before .args .s .now)) _ (positionOf (c .before .before .before .before .before .before .before .before .args .w)) _ (part (c .before .before .before .before .before .before .before .before .args .w .path) (c .before .before .before .before .before .before .before .before .args .a) (c .before .before .before .before .before .before .before .before .args .e - c .before .before .before .before .before .before .before .before .args .a)) (restFrom (c .before .before .before .before .before .before .before .before .args .w) (c .before .before .before .before .before .before .before .before .args .e)) (c .before .before .before .find .result) _ (c .before .before .before .before .before .before .before .before .args .h .entries) (c .before .before .before .find .ensures .0) (c .before .if1 .left) (c .miss .ensures)
+returns-2 c =
+    let args = c .before .before .before .before .before .before .before .before .args in
+    let find = c .before .before .before .find in
+    seeks-miss (viewOf (args .h) (args .s .now)) _ (positionOf (args .w)) _ (part (args .w .path) (args .a) (args .e - args .a)) (restFrom (args .w) (args .e)) (find .result) _ (args .h .entries) (find .ensures .0) (c .before .if1 .left) (c .miss .ensures)
 
 pub seek-spec : {M : Type 1} → statement M
 seek-spec =

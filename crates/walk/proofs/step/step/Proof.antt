@@ -18,16 +18,24 @@ refuse-requires : tie.Need-refuse-requires
 refuse-requires c κs = search needs
 
 returns : tie.Need-returns
-returns c = steps-nowhere (viewOf (c .before .before .before .before .args .h) (c .before .before .before .before .args .s .now)) (c .before .before .before .before .args .who) _ (positionOf (c .before .before .before .before .args .w)) _ (fails (c .before .before .is-directory .ensures) (c .before .if1 .taken)) (c .refuse .ensures)
+returns c =
+    let args = c .before .before .before .before .args in
+    steps-nowhere (viewOf (args .h) (args .s .now)) (args .who) _ (positionOf (args .w)) _ (fails (c .before .before .is-directory .ensures) (c .before .if1 .taken)) (c .refuse .ensures)
 
 may-search-requires : tie.Need-may-search-requires
-may-search-requires c κs = (search needs, isKind-below (c .before .before .before .args .h) (c .before .before .before .args .s .now) _ 2 (holds (c .before .is-directory .ensures) (c .if1 .left)))
+may-search-requires c κs =
+    let args = c .before .before .before .args in
+    (search needs, isKind-below (args .h) (args .s .now) _ 2 (holds (c .before .is-directory .ensures) (c .if1 .left)))
 
 refuse-requires-2 : tie.Need-refuse-requires-2
 refuse-requires-2 c κs = search needs
 
 returns-2 : tie.Need-returns-2
-returns-2 c = steps-denied (viewOf (c .before .before .before .before .before .before .args .h) (c .before .before .before .before .before .before .args .s .now)) (c .before .before .before .before .before .before .args .who) _ (positionOf (c .before .before .before .before .before .before .args .w)) _ (holds (c .before .before .before .before .is-directory .ensures) (c .before .before .before .if1 .left)) (fails (c .before .before .may-search .ensures) (c .before .if2 .taken)) (c .refuse2 .ensures)
+returns-2 c =
+    let args = c .before .before .before .before .before .before .args in
+    let is-directory = c .before .before .before .before .is-directory in
+    let if1 = c .before .before .before .if1 in
+    steps-denied (viewOf (args .h) (args .s .now)) (args .who) _ (positionOf (args .w)) _ (holds (is-directory .ensures) (if1 .left)) (fails (c .before .before .may-search .ensures) (c .before .if2 .taken)) (c .refuse2 .ensures)
 
 sub-slashes : tie.Need-sub-slashes
 sub-slashes c = search needs
@@ -36,7 +44,9 @@ part-slashes-start : tie.Need-part-slashes-start
 part-slashes-start c = search needs
 
 part-slashes-end : tie.Need-part-slashes-end
-part-slashes-end c = omega (arith, c .before .before .before .before .before .before .before .pre .1 .within, c .before .before .before .before .before .before .before .pre .1 .short, c .before .before .before .before .before .before .before .pre .1 .whole)
+part-slashes-end c =
+    let pre = c .before .before .before .before .before .before .before .pre in
+    omega (arith, pre .1 .within, pre .1 .short, pre .1 .whole)
 
 slashes-requires : tie.Need-slashes-requires
 slashes-requires c κs = search needs
@@ -51,7 +61,9 @@ part-name-bytes-start : tie.Need-part-name-bytes-start
 part-name-bytes-start c = search needs
 
 part-name-bytes-end : tie.Need-part-name-bytes-end
-part-name-bytes-end c = omega (arith, c .before .before .before .before .before .before .before .before .before .before .pre .1 .within, c .before .before .before .before .before .before .before .before .before .before .pre .1 .short, c .before .before .before .before .before .before .before .before .before .before .pre .1 .whole)
+part-name-bytes-end c =
+    let pre = c .before .before .before .before .before .before .before .before .before .before .pre in
+    omega (arith, pre .1 .within, pre .1 .short, pre .1 .whole)
 
 name-bytes-requires : tie.Need-name-bytes-requires
 name-bytes-requires c κs = search needs
@@ -61,28 +73,43 @@ add-e c = search needs
 
 component-requires : tie.Need-component-requires
 unfolding part
-component-requires c κs = let fit = c .before .before .before .before .before .before .before .before .before .before .before .before .pre .1 in
-    let l = part-length (c .before .before .before .before .before .before .before .before .before .before .before .before .args .w .path) (c .before .before .before .before .before .before .before .before .before .before .before .before .args .w .at) (c .before .before .before .before .before .before .before .before .before .before .before .before .args .w .len - c .before .before .before .before .before .before .before .before .before .before .before .before .args .w .at) (omega (arith, fit .within, fit .short, fit .whole)) in
-    let a = c .before .before .before .before .before .before .before .before .before .before .before .before .args .w .at + c .before .before .before .slashes .result in
-    let few = c .before .before .before .slashes .ensures .1 in
-    let k = part-length (c .before .before .before .before .before .before .before .before .before .before .before .before .args .w .path) a (c .before .before .before .before .before .before .before .before .before .before .before .before .args .w .len - a) (omega (arith, fit .within, fit .short, fit .whole)) in
+component-requires c κs =
+    let args = c .before .before .before .before .before .before .before .before .before .before .before .before .args in
+    let pre = c .before .before .before .before .before .before .before .before .before .before .before .before .pre in
+    let is-directory = c .before .before .before .before .before .before .before .before .before .before .is-directory in
+    let if1 = c .before .before .before .before .before .before .before .before .before .if1 in
+    let slashes = c .before .before .before .slashes in
+    let fit = pre .1 in
+    let l = part-length (args .w .path) (args .w .at) (args .w .len - args .w .at) (omega (arith, fit .within, fit .short, fit .whole)) in
+    let a = args .w .at + slashes .result in
+    let few = slashes .ensures .1 in
+    let k = part-length (args .w .path) a (args .w .len - a) (omega (arith, fit .within, fit .short, fit .whole)) in
     let more = c .name-bytes .ensures .1 in
-    let ahead : Ahead (c .before .before .before .before .before .before .before .before .before .before .before .before .args .w) (a + c .name-bytes .result) = record { within = omega (arith, fit .within); short = fit .short; whole = fit .whole; few = c .before .before .before .before .before .before .before .before .before .before .before .before .pre .2 } in
-    (search needs, ahead, omega arith, isKind-below (c .before .before .before .before .before .before .before .before .before .before .before .before .args .h) (c .before .before .before .before .before .before .before .before .before .before .before .before .args .s .now) _ 2 (holds (c .before .before .before .before .before .before .before .before .before .before .is-directory .ensures) (c .before .before .before .before .before .before .before .before .before .if1 .left)))
+    let ahead : Ahead (args .w) (a + c .name-bytes .result) = record { within = omega (arith, fit .within); short = fit .short; whole = fit .whole; few = pre .2 } in
+    (search needs, ahead, omega arith, isKind-below (args .h) (args .s .now) _ 2 (holds (is-directory .ensures) (if1 .left)))
 
 returns-3 : tie.Need-returns-3
 unfolding part viewOf
-returns-3 c = let fit = c .before .before .before .before .before .before .before .before .before .before .before .before .before .pre .1 in
-    let l = part-length (c .before .before .before .before .before .before .before .before .before .before .before .before .before .args .w .path) (c .before .before .before .before .before .before .before .before .before .before .before .before .before .args .w .at) (c .before .before .before .before .before .before .before .before .before .before .before .before .before .args .w .len - c .before .before .before .before .before .before .before .before .before .before .before .before .before .args .w .at) (omega (arith, fit .within, fit .short, fit .whole)) in
-    let a = c .before .before .before .before .before .before .before .before .before .before .before .before .before .args .w .at + c .before .before .before .before .slashes .result in
-    let few = c .before .before .before .before .slashes .ensures .1 in
-    let k = part-length (c .before .before .before .before .before .before .before .before .before .before .before .before .before .args .w .path) a (c .before .before .before .before .before .before .before .before .before .before .before .before .before .args .w .len - a) (omega (arith, fit .within, fit .short, fit .whole)) in
-    let more = c .before .name-bytes .ensures .1 in
-    let start = ap (λ n. c .before .before .before .before .before .before .before .before .before .before .before .before .before .args .w .at + n) (c .before .before .before .before .slashes .ensures .0) in
-    let end = ap (λ n. a + n) (c .before .name-bytes .ensures .0) in
-    steps-on (viewOf (c .before .before .before .before .before .before .before .before .before .before .before .before .before .args .h) (c .before .before .before .before .before .before .before .before .before .before .before .before .before .args .s .now)) (c .before .before .before .before .before .before .before .before .before .before .before .before .before .args .who) _ (positionOf (c .before .before .before .before .before .before .before .before .before .before .before .before .before .args .w)) _ _ _ (holds (c .before .before .before .before .before .before .before .before .before .before .before .is-directory .ensures) (c .before .before .before .before .before .before .before .before .before .before .if1 .left)) (holds (c .before .before .before .before .before .before .before .before .before .may-search .ensures) (c .before .before .before .before .before .before .before .before .if2 .left))
-    (component-range (c .before .before .before .before .before .before .before .before .before .before .before .before .before .args .w .path) (c .before .before .before .before .before .before .before .before .before .before .before .before .before .args .w .at) (c .before .before .before .before .before .before .before .before .before .before .before .before .before .args .w .len) a (a + c .before .name-bytes .result) (fit .within) start end (omega (arith, fit .within)))
-    (behind-range (c .before .before .before .before .before .before .before .before .before .before .before .before .before .args .w .path) (c .before .before .before .before .before .before .before .before .before .before .before .before .before .args .w .at) (c .before .before .before .before .before .before .before .before .before .before .before .before .before .args .w .len) a (a + c .before .name-bytes .result) (fit .within) start end) (c .component .ensures)
+returns-3 c =
+    let args = c .before .before .before .before .before .before .before .before .before .before .before .before .before .args in
+    let pre = c .before .before .before .before .before .before .before .before .before .before .before .before .before .pre in
+    let is-directory = c .before .before .before .before .before .before .before .before .before .before .before .is-directory in
+    let if1 = c .before .before .before .before .before .before .before .before .before .before .if1 in
+    let may-search = c .before .before .before .before .before .before .before .before .before .may-search in
+    let if2 = c .before .before .before .before .before .before .before .before .if2 in
+    let slashes = c .before .before .before .before .slashes in
+    let name-bytes = c .before .name-bytes in
+    let fit = pre .1 in
+    let l = part-length (args .w .path) (args .w .at) (args .w .len - args .w .at) (omega (arith, fit .within, fit .short, fit .whole)) in
+    let a = args .w .at + slashes .result in
+    let few = slashes .ensures .1 in
+    let k = part-length (args .w .path) a (args .w .len - a) (omega (arith, fit .within, fit .short, fit .whole)) in
+    let more = name-bytes .ensures .1 in
+    let start = ap (λ n. args .w .at + n) (slashes .ensures .0) in
+    let end = ap (λ n. a + n) (name-bytes .ensures .0) in
+    steps-on (viewOf (args .h) (args .s .now)) (args .who) _ (positionOf (args .w)) _ _ _ (holds (is-directory .ensures) (if1 .left)) (holds (may-search .ensures) (if2 .left))
+    (component-range (args .w .path) (args .w .at) (args .w .len) a (a + name-bytes .result) (fit .within) start end (omega (arith, fit .within)))
+    (behind-range (args .w .path) (args .w .at) (args .w .len) a (a + name-bytes .result) (fit .within) start end) (c .component .ensures)
 
 pub step-spec : {M : Type 1} → statement M
 step-spec =
