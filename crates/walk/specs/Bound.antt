@@ -15,7 +15,7 @@ use Rattle.walk.specs.Permission.{searchBit, allows}
 use Rattle.walk.specs.Path.{skip, component, behind, empty, bare, isDot, isDotDot}
 use Rattle.walk.specs.Lookup.{lookup}
 use Rattle.walk.specs.PathLaws.{skip-le, skip-more, behind-le, behind-short, bare-append}
-use Rattle.walk.specs.Step.{linkLimit, pathLimit, Position, End, Step, goes, ends, joined, followed, entered, arrived, hit, miss, sought, dotted, named, fitting, permitted, placed, step}
+use Rattle.walk.specs.Step.{linkLimit, pathLimit, Position, End, Step, goes, ends, joined, followed, entered, arrived, found, missed, sought, dotted, named, fitting, permitted, placed, step}
 use Rattle.walk.specs.Walk.{stepLimit, walkFrom, startDirectory, startWaived, startClosed, unnamed, closed, long, blank, walk, stepsOf}
 
 -- A step that goes on from w to u: the component counts, another is left, and either u is behind the component just read, or one more
@@ -52,17 +52,17 @@ module _ (v : View) (w : Position) (rest : List ℕ) (is : rest ≡ behind (w .r
   after-arrived true j = refl
   after-arrived false j = refl
 
-  after-hit : (b : Bool) (j : ℕ) → bare rest ≡ b → After w (hit v b w rest j)
-  after-hit true j e = after-arrived (not (empty rest) && not (isDirectory v (v .target j))) j
-  after-hit false j e = after-entered (isKind v (v .target j) 3) (v .target j) e
+  after-found : (b : Bool) (j : ℕ) → bare rest ≡ b → After w (found v b w rest j)
+  after-found true j e = after-arrived (not (empty rest) && not (isDirectory v (v .target j))) j
+  after-found false j e = after-entered (isKind v (v .target j) 3) (v .target j) e
 
-  after-miss : (b : Bool) (name : List ℕ) → After w (miss b w name rest)
-  after-miss true name = refl
-  after-miss false name = refl
+  after-missed : (b : Bool) (name : List ℕ) → After w (missed b w name rest)
+  after-missed true name = refl
+  after-missed false name = refl
 
   after-sought : (b : Bool) (name : List ℕ) (j : ℕ) → After w (sought v b w name rest j)
-  after-sought true name j = after-hit _ j refl
-  after-sought false name j = after-miss (bare rest) name
+  after-sought true name j = after-found _ j refl
+  after-sought false name j = after-missed (bare rest) name
 
   after-dotted : (b : Bool) (name : List ℕ) → bare rest ≡ b → After w (dotted v b w name rest)
   after-dotted true name e = refl

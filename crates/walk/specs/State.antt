@@ -20,6 +20,10 @@ filled p = p ++ replicate (256 - length p) 0
 abbrev pub restFrom : Walk → ℕ → List ℕ
 restFrom w e = part (w .path) e (w .len - e)
 
+-- the component from index a up to e
+abbrev pub nameIn : Walk → ℕ → ℕ → List ℕ
+nameIn w a e = part (w .path) a (e - a)
+
 abbrev pub positionOf : Walk → Position
 positionOf w = record { rest = restFrom w (w .at); directory = w .directory; links = w .links; steps = w .steps; waived = w .waived }
 

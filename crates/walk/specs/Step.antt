@@ -65,48 +65,73 @@ abbrev pub followed : Bool → Position → List ℕ → List ℕ → Step
 followed true w text rest = refuse 40 w
 followed false w text rest = joined (ltb pathLimit (length text + length rest)) w text rest
 
+abbrev pub follow : Position → List ℕ → List ℕ → Step
+follow w text rest = followed (leb linkLimit (w .links)) w text rest
+
 -- rules 61 and 66: a name that is not there
-abbrev pub miss : Bool → Position → List ℕ → List ℕ → Step
-miss true w name rest = ends (missing (w .directory) name (not (empty rest)) (w .steps + 1))
-miss false w name rest = refuse 2 w
+abbrev pub missed : Bool → Position → List ℕ → List ℕ → Step
+missed true w name rest = ends (missing (w .directory) name (not (empty rest)) (w .steps + 1))
+missed false w name rest = refuse 2 w
+
+abbrev pub miss : Position → List ℕ → List ℕ → Step
+miss w name rest = missed (bare rest) w name rest
 
 module _ (v : View) where
   -- a name ahead of others: a symlink is followed, anything else is gone into
   abbrev pub entered : Bool → Position → List ℕ → ℕ → Step
-  entered true w rest t = followed (leb linkLimit (w .links)) w (v .text (v .field t)) rest
+  entered true w rest t = follow w (v .text (v .field t)) rest
   entered false w rest t = move w rest t
+
+  abbrev pub enter : Position → List ℕ → ℕ → Step
+  enter w rest t = entered (isKind v t 3) w rest t
 
   -- rules 65 and 67: the final name exists; a slash behind it asks for a directory, and a symlink is not followed
   abbrev pub arrived : Bool → Position → List ℕ → ℕ → Step
   arrived true w rest j = refuse 20 w
   arrived false w rest j = ends (existing (w .directory) j (v .target j) (not (empty rest)) (w .steps + 1))
 
-  abbrev pub hit : Bool → Position → List ℕ → ℕ → Step
-  hit true w rest j = arrived (not (empty rest) && not (isDirectory v (v .target j))) w rest j
-  hit false w rest j = entered (isKind v (v .target j) 3) w rest (v .target j)
+  abbrev pub arrive : Position → List ℕ → ℕ → Step
+  arrive w rest j = arrived (not (empty rest) && not (isDirectory v (v .target j))) w rest j
+
+  -- the name is in slot j
+  abbrev pub found : Bool → Position → List ℕ → ℕ → Step
+  found true w rest j = arrive w rest j
+  found false w rest j = enter w rest (v .target j)
+
+  abbrev pub hit : Position → List ℕ → ℕ → Step
+  hit w rest j = found (bare rest) w rest j
 
   abbrev pub sought : Bool → Position → List ℕ → List ℕ → ℕ → Step
-  sought true w name rest j = hit (bare rest) w rest j
-  sought false w name rest j = miss (bare rest) w name rest
+  sought true w name rest j = hit w rest j
+  sought false w name rest j = miss w name rest
+
+  abbrev pub seek : Position → List ℕ → List ℕ → Step
+  seek w name rest = sought (ltb (lookup v (w .directory) name) (v .entries)) w name rest (lookup v (w .directory) name)
 
   -- rule 60: a final dot or dot-dot is refused; else the one stays and the other goes up
   abbrev pub dotted : Bool → Position → List ℕ → List ℕ → Step
   dotted true w name rest = refuse 22 w
   dotted false w name rest = move w rest (cond (isDot name) (w .directory) (v .field (w .directory)))
 
+  abbrev pub dots : Position → List ℕ → List ℕ → Step
+  dots w name rest = dotted (bare rest) w name rest
+
   abbrev pub named : Bool → Position → List ℕ → List ℕ → Step
-  named true w name rest = dotted (bare rest) w name rest
-  named false w name rest = sought (ltb (lookup v (w .directory) name) (v .entries)) w name rest (lookup v (w .directory) name)
+  named true w name rest = dots w name rest
+  named false w name rest = seek w name rest
 
   -- rule 59: a component that is longer than any name
   abbrev pub fitting : Bool → Position → List ℕ → List ℕ → Step
   fitting true w name rest = refuse 36 w
   fitting false w name rest = named (isDot name || isDotDot name) w name rest
 
+  abbrev pub read : Position → List ℕ → List ℕ → Step
+  read w name rest = fitting (ltb (v .room) (length name)) w name rest
+
 module _ (v : View) (who : Credentials) where
   -- rule 58: search permission, asked of every component that it is not waived for
   abbrev pub permitted : Bool → Position → Step
-  permitted true w = fitting v (ltb (v .room) (length (component (w .rest)))) w (component (w .rest)) (behind (w .rest))
+  permitted true w = read v w (component (w .rest)) (behind (w .rest))
   permitted false w = refuse 13 w
 
   -- rule 57: a component is read in a directory

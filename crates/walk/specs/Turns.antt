@@ -1,10 +1,10 @@
 -- The ways out of each decision about a component: from the answer of the part that decides to that of the whole. Assumes nothing.
 use mathlib.Core.Path.{_≡_, refl, sym, ap, _∙_, subst}
-use mathlib.Core.Bool.{Bool, true, false, _&&_, _||_, not}
+use mathlib.Core.Bool.{Bool, true, false, _||_, not}
 use mathlib.Core.List.{List}
 use Prim.Native.Nat.{ℕ, _+_, _-_, _≤_, _<_}
 use native.Mathlib.Omega.{arith}
-use lib.Dec.{ltb, leb}
+use lib.Dec.{ltb}
 use lib.ListN.{length, take, drop}
 use borrow.Author.Tests.{lt-ltb, le-ltb}
 use Rattle.seq.specs.Bytes.{part, part-length, part-take, part-drop}
@@ -15,8 +15,7 @@ use Rattle.walk.specs.declared.state.Ending.the-variants.{Going}
 use Rattle.walk.specs.declared.state.Turn.{Turn}
 use Rattle.walk.specs.Permission.{searchBit, allows}
 use Rattle.walk.specs.Path.{slashes, nameBytes, skip, component, behind, empty, bare, isDot, isDotDot}
-use Rattle.walk.specs.Lookup.{lookup}
-use Rattle.walk.specs.Step.{linkLimit, pathLimit, Position, Step, goes, existing, missing, ends, refuse, move, followed, miss, entered, arrived, hit, sought, dotted, fitting, step}
+use Rattle.walk.specs.Step.{pathLimit, Position, Step, goes, existing, missing, ends, refuse, move, follow, miss, enter, arrive, hit, sought, seek, dots, fitting, step}
 use Rattle.walk.specs.State.{restFrom, positionOf, endingOf, beginning, Fit, Onward, Turned}
 use Rattle.walk.specs.Splice.{filled-length, filled-part}
 use Rattle.walk.specs.Walk.{startDirectory, startWaived}
@@ -24,65 +23,64 @@ use Rattle.walk.specs.Bound.{startOf}
 
 module _ (r : Turn) (w : Position) (n : ℕ) where
   pub misses-last : (name rest : List ℕ) (slash : Bool) → bare rest ≡ true → slash ≡ not (empty rest)
-      → Turned r (ends (missing (w .directory) name slash (w .steps + 1))) n → Turned r (miss (bare rest) w name rest) n
+      → Turned r (ends (missing (w .directory) name slash (w .steps + 1))) n → Turned r (miss w name rest) n
   misses-last name rest slash b e turned = rw (b, ← e) turned
 
-  pub misses-more : (name rest : List ℕ) → bare rest ≡ false → Turned r (refuse 2 w) n → Turned r (miss (bare rest) w name rest) n
+  pub misses-more : (name rest : List ℕ) → bare rest ≡ false → Turned r (refuse 2 w) n → Turned r (miss w name rest) n
   misses-more name rest b turned = rw b turned
 
 module _ (v : View) (r : Turn) (w : Position) (n : ℕ) where
   pub enters-link : (rest text : List ℕ) (t : ℕ) → isKind v t 3 ≡ true → text ≡ v .text (v .field t)
-      → Turned r (followed (leb linkLimit (w .links)) w text rest) n → Turned r (entered v (isKind v t 3) w rest t) n
+      → Turned r (follow w text rest) n → Turned r (enter v w rest t) n
   enters-link rest text t k e turned = rw (k, ← e) turned
 
-  pub enters-other : (rest : List ℕ) (t : ℕ) → isKind v t 3 ≡ false → Turned r (move w rest t) n → Turned r (entered v (isKind v t 3) w rest t) n
+  pub enters-other : (rest : List ℕ) (t : ℕ) → isKind v t 3 ≡ false → Turned r (move w rest t) n → Turned r (enter v w rest t) n
   enters-other rest t k turned = rw k turned
 
   pub arrives-plain : (rest : List ℕ) (j t : ℕ) → t ≡ v .target j → empty rest ≡ true → Turned r (ends (existing (w .directory) j t false (w .steps + 1))) n
-      → Turned r (arrived v (not (empty rest) && not (isDirectory v t)) w rest j) n
+      → Turned r (arrive v w rest j) n
   arrives-plain rest j t e z turned = rw (z, z, ← e) turned
 
   pub arrives-directory : (rest : List ℕ) (j t : ℕ) → t ≡ v .target j → empty rest ≡ false → isDirectory v t ≡ true
-      → Turned r (ends (existing (w .directory) j t true (w .steps + 1))) n → Turned r (arrived v (not (empty rest) && not (isDirectory v t)) w rest j) n
-  arrives-directory rest j t e z d turned = rw (z, d, z, ← e) turned
+      → Turned r (ends (existing (w .directory) j t true (w .steps + 1))) n → Turned r (arrive v w rest j) n
+  arrives-directory rest j t e z d turned = rw (← e, z, d, z, ← e) turned
 
-  pub arrives-other : (rest : List ℕ) (j t : ℕ) → empty rest ≡ false → isDirectory v t ≡ false → Turned r (refuse 20 w) n
-      → Turned r (arrived v (not (empty rest) && not (isDirectory v t)) w rest j) n
-  arrives-other rest j t z d turned = rw (z, d) turned
+  pub arrives-other : (rest : List ℕ) (j t : ℕ) → t ≡ v .target j → empty rest ≡ false → isDirectory v t ≡ false → Turned r (refuse 20 w) n
+      → Turned r (arrive v w rest j) n
+  arrives-other rest j t e z d turned = rw (← e, z, d) turned
 
-  pub hits-last : (rest : List ℕ) (j t : ℕ) → t ≡ v .target j → bare rest ≡ true
-      → Turned r (arrived v (not (empty rest) && not (isDirectory v t)) w rest j) n → Turned r (hit v (bare rest) w rest j) n
-  hits-last rest j t e b turned = rw (b, ← e) turned
+  pub hits-last : (rest : List ℕ) (j : ℕ) → bare rest ≡ true → Turned r (arrive v w rest j) n → Turned r (hit v w rest j) n
+  hits-last rest j b turned = rw b turned
 
-  pub hits-more : (rest : List ℕ) (j t : ℕ) → t ≡ v .target j → bare rest ≡ false → Turned r (entered v (isKind v t 3) w rest t) n
-      → Turned r (hit v (bare rest) w rest j) n
+  pub hits-more : (rest : List ℕ) (j t : ℕ) → t ≡ v .target j → bare rest ≡ false → Turned r (enter v w rest t) n
+      → Turned r (hit v w rest j) n
   hits-more rest j t e b turned = rw (b, ← e) turned
 
-  pub seeks-hit : (name rest : List ℕ) (j l m : ℕ) → j ≡ l → j < m → Turned r (hit v (bare rest) w rest j) n → Turned r (sought v (ltb l m) w name rest l) n
+  pub seeks-hit : (name rest : List ℕ) (j l m : ℕ) → j ≡ l → j < m → Turned r (hit v w rest j) n → Turned r (sought v (ltb l m) w name rest l) n
   seeks-hit name rest j l m e below turned = rw (← e, lt-ltb _ _ below) turned
 
-  pub seeks-miss : (name rest : List ℕ) (j l m : ℕ) → j ≡ l → m ≤ j → Turned r (miss (bare rest) w name rest) n → Turned r (sought v (ltb l m) w name rest l) n
+  pub seeks-miss : (name rest : List ℕ) (j l m : ℕ) → j ≡ l → m ≤ j → Turned r (miss w name rest) n → Turned r (sought v (ltb l m) w name rest l) n
   seeks-miss name rest j l m e above turned = rw (← e, le-ltb _ _ above) turned
 
-  pub dots-last : (name rest : List ℕ) → bare rest ≡ true → Turned r (refuse 22 w) n → Turned r (dotted v (bare rest) w name rest) n
+  pub dots-last : (name rest : List ℕ) → bare rest ≡ true → Turned r (refuse 22 w) n → Turned r (dots v w name rest) n
   dots-last name rest b turned = rw b turned
 
-  pub dots-stay : (name rest : List ℕ) → bare rest ≡ false → isDot name ≡ true → Turned r (move w rest (w .directory)) n → Turned r (dotted v (bare rest) w name rest) n
+  pub dots-stay : (name rest : List ℕ) → bare rest ≡ false → isDot name ≡ true → Turned r (move w rest (w .directory)) n → Turned r (dots v w name rest) n
   dots-stay name rest b d turned = rw (b, d) turned
 
   pub dots-up : (name rest : List ℕ) (up : ℕ) → bare rest ≡ false → isDot name ≡ false → up ≡ v .field (w .directory) → Turned r (move w rest up) n
-      → Turned r (dotted v (bare rest) w name rest) n
+      → Turned r (dots v w name rest) n
   dots-up name rest up b d e turned = rw (b, d, ← e) turned
 
   pub fits-not : (name rest : List ℕ) (room : ℕ) → room < length name → Turned r (refuse 36 w) n → Turned r (fitting v (ltb room (length name)) w name rest) n
   fits-not name rest room l turned = rw (lt-ltb _ _ l) turned
 
-  pub fits-dots : (name rest : List ℕ) (room : ℕ) → length name ≤ room → (isDot name || isDotDot name) ≡ true → Turned r (dotted v (bare rest) w name rest) n
+  pub fits-dots : (name rest : List ℕ) (room : ℕ) → length name ≤ room → (isDot name || isDotDot name) ≡ true → Turned r (dots v w name rest) n
       → Turned r (fitting v (ltb room (length name)) w name rest) n
   fits-dots name rest room l d turned = rw (le-ltb _ _ l, d) turned
 
   pub fits-name : (name rest : List ℕ) (room : ℕ) → length name ≤ room → isDot name ≡ false → isDotDot name ≡ false
-      → Turned r (sought v (ltb (lookup v (w .directory) name) (v .entries)) w name rest (lookup v (w .directory) name)) n
+      → Turned r (seek v w name rest) n
       → Turned r (fitting v (ltb room (length name)) w name rest) n
   fits-name name rest room l d e turned = rw (le-ltb _ _ l, d, e) turned
 

@@ -3,11 +3,9 @@ ghost use mathlib.Core.Path.{_≡_};
 ghost use mathlib.Core.Bool.{false};
 ghost use Prim.Native.Nat.{_+_, _-_, _≤_, _<_};
 ghost use lib.ListN.{length};
-ghost use lib.Dec.{leb};
 ghost use Rattle.walk.specs.Path.{bare};
-ghost use Rattle.walk.specs.Step.{existing, missing, ends, refuse, move, linkLimit, spliced, followed};
-ghost use Rattle.walk.specs.State.{positionOf, restFrom, Ahead, Turned};
-ghost use Rattle.seq.specs.Bytes.{part};
+ghost use Rattle.walk.specs.Step.{existing, missing, ends, refuse, move, linkLimit, spliced, follow};
+ghost use Rattle.walk.specs.State.{positionOf, nameIn, restFrom, Ahead, Turned};
 
 // Where a walk stands: the working path, of which the bytes from at up to len are unread; the directory that they are read from; the
 // symlinks followed; the component checks begun; whether search permission is waived for the next component.
@@ -77,7 +75,7 @@ pub fn exists(w: Walk, slot: usize, inode: usize, slash: bool) -> Turn
 // The final name, from index a up to e, is missing.
 pub fn lacks(w: Walk, a: usize, e: usize, slash: bool) -> Turn
     requires { ⌜ w .steps < 65535 ⌝ }
-    ensures { λ r. ⌜ Turned r (ends (missing (w .directory) (part (w .path) a (e - a)) slash (w .steps + 1))) (w .steps + 1) ⌝ }
+    ensures { λ r. ⌜ Turned r (ends (missing (w .directory) (nameIn w a e) slash (w .steps + 1))) (w .steps + 1) ⌝ }
 {
     let mut last = w;
     last.steps = w.steps + 1;
@@ -134,7 +132,7 @@ fn join(w: Walk, text: &[u8], e: usize, len: usize) -> Turn
 // A symlink ahead of other components is followed, unless it is one too many or the joined path is too long.
 pub fn follow(w: Walk, text: &[u8], e: usize) -> Turn
     requires { ⌜ Ahead w e × (bare (restFrom w e) ≡ false) × (length (now text) ≤ 63) ⌝ }
-    ensures { λ r. ⌜ Turned r (followed (leb linkLimit (w .links)) (positionOf w) (now (text .entry)) (restFrom w e)) (w .steps + 1) ⌝ }
+    ensures { λ r. ⌜ Turned r (follow (positionOf w) (now (text .entry)) (restFrom w e)) (w .steps + 1) ⌝ }
 {
     if 8 <= w.links {
         return refuse(w, 40);

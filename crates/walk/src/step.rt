@@ -6,22 +6,18 @@ use crate::state::Turn;
 use crate::state::Walk;
 use layout::Shape;
 ghost use mathlib.Core.Path.{_≡_};
-ghost use mathlib.Core.Bool.{false, true, _&&_, _||_, not};
-ghost use Prim.Native.Nat.{_+_, _-_, _≤_, _<_};
-ghost use lib.Dec.{ltb};
-ghost use lib.ListN.{length};
-ghost use Rattle.seq.specs.Bytes.{part};
-ghost use Rattle.layout.specs.View.{viewOf, nameRoom, isKind, isDirectory, entryUsed, Readable};
+ghost use mathlib.Core.Bool.{false, true, _||_};
+ghost use Prim.Native.Nat.{_+_, _≤_, _<_};
+ghost use Rattle.layout.specs.View.{viewOf, entryUsed, Readable};
 ghost use Rattle.walk.specs.Permission.{allows, searchBit};
-ghost use Rattle.walk.specs.Path.{bare, empty, isDot, isDotDot};
-ghost use Rattle.walk.specs.Lookup.{lookup};
-ghost use Rattle.walk.specs.Step.{entered, arrived, hit, miss, sought, dotted, fitting, step};
-ghost use Rattle.walk.specs.State.{positionOf, restFrom, Ahead, Fit, Turned};
+ghost use Rattle.walk.specs.Path.{bare};
+ghost use Rattle.walk.specs.Step.{enter, arrive, hit, miss, seek, dots, read, step};
+ghost use Rattle.walk.specs.State.{positionOf, nameIn, restFrom, Ahead, Fit, Turned};
 
 // A name ahead of others: the type number of what it names decides how the walk goes on.
 fn enter(s: &[u8], h: Shape, w: Walk, e: usize, target: usize) -> Turn
     requires { ⌜ Readable h (now s) × Ahead w e × (bare (restFrom w e) ≡ false) × (target < h .inodes) ⌝ }
-    ensures { λ r. ⌜ Turned r (entered (viewOf h (now (s .entry))) (isKind (viewOf h (now (s .entry))) target 3) (positionOf w) (restFrom w e) target) (w .steps + 1) ⌝ }
+    ensures { λ r. ⌜ Turned r (enter (viewOf h (now (s .entry))) (positionOf w) (restFrom w e) target) (w .steps + 1) ⌝ }
 {
     let inode = layout::records::inode(s, h, target);
     let kind = layout::inode::kind(inode);
@@ -37,7 +33,7 @@ fn enter(s: &[u8], h: Shape, w: Walk, e: usize, target: usize) -> Turn
 // The final name exists: a slash behind it asks for a directory.
 fn arrive(s: &[u8], h: Shape, w: Walk, e: usize, slot: usize, target: usize) -> Turn
     requires { ⌜ Readable h (now s) × Ahead w e × (target ≡ viewOf h (now s) .target slot) × (target < h .inodes) ⌝ }
-    ensures { λ r. ⌜ Turned r (arrived (viewOf h (now (s .entry))) (not (empty (restFrom w e)) && not (isDirectory (viewOf h (now (s .entry))) target)) (positionOf w) (restFrom w e) slot) (w .steps + 1) ⌝ }
+    ensures { λ r. ⌜ Turned r (arrive (viewOf h (now (s .entry))) (positionOf w) (restFrom w e) slot) (w .steps + 1) ⌝ }
 {
     if e == w.len {
         return state::exists(w, slot, target, false);
@@ -53,7 +49,7 @@ fn arrive(s: &[u8], h: Shape, w: Walk, e: usize, slot: usize, target: usize) -> 
 // The name from index a up to e is in slot.
 fn hit(s: &[u8], h: Shape, w: Walk, e: usize, slot: usize) -> Turn
     requires { ⌜ Readable h (now s) × Ahead w e × (slot < h .entries) × (entryUsed (viewOf h (now s)) slot ≡ true) ⌝ }
-    ensures { λ r. ⌜ Turned r (hit (viewOf h (now (s .entry))) (bare (restFrom w e)) (positionOf w) (restFrom w e) slot) (w .steps + 1) ⌝ }
+    ensures { λ r. ⌜ Turned r (hit (viewOf h (now (s .entry))) (positionOf w) (restFrom w e) slot) (w .steps + 1) ⌝ }
 {
     let entry = layout::records::entry(s, h, slot);
     let target = layout::entry::target(entry);
@@ -68,7 +64,7 @@ fn hit(s: &[u8], h: Shape, w: Walk, e: usize, slot: usize) -> Turn
 // The name from index a up to e is not there.
 fn miss(w: Walk, a: usize, e: usize) -> Turn
     requires { ⌜ Ahead w e ⌝ }
-    ensures { λ r. ⌜ Turned r (miss (bare (restFrom w e)) (positionOf w) (part (w .path) a (e - a)) (restFrom w e)) (w .steps + 1) ⌝ }
+    ensures { λ r. ⌜ Turned r (miss (positionOf w) (nameIn w a e) (restFrom w e)) (w .steps + 1) ⌝ }
 {
     let path = w.path;
     let len = w.len;
@@ -81,7 +77,7 @@ fn miss(w: Walk, a: usize, e: usize) -> Turn
 // The name from index a up to e is looked up.
 fn seek(s: &[u8], h: Shape, w: Walk, a: usize, e: usize) -> Turn
     requires { ⌜ Readable h (now s) × Ahead w e × (a ≤ e) ⌝ }
-    ensures { λ r. ⌜ Turned r (sought (viewOf h (now (s .entry))) (ltb (lookup (viewOf h (now (s .entry))) (w .directory) (part (w .path) a (e - a))) (h .entries)) (positionOf w) (part (w .path) a (e - a)) (restFrom w e) (lookup (viewOf h (now (s .entry))) (w .directory) (part (w .path) a (e - a)))) (w .steps + 1) ⌝ }
+    ensures { λ r. ⌜ Turned r (seek (viewOf h (now (s .entry))) (positionOf w) (nameIn w a e) (restFrom w e)) (w .steps + 1) ⌝ }
 {
     let path = w.path;
     let slot = crate::find::find(s, h, w.directory, &path[a..e]);
@@ -94,7 +90,7 @@ fn seek(s: &[u8], h: Shape, w: Walk, a: usize, e: usize) -> Turn
 // The component from index a up to e is a dot or two.
 fn dots(s: &[u8], h: Shape, w: Walk, a: usize, e: usize) -> Turn
     requires { ⌜ Readable h (now s) × Ahead w e × (a ≤ e) × (w .directory < h .inodes) ⌝ }
-    ensures { λ r. ⌜ Turned r (dotted (viewOf h (now (s .entry))) (bare (restFrom w e)) (positionOf w) (part (w .path) a (e - a)) (restFrom w e)) (w .steps + 1) ⌝ }
+    ensures { λ r. ⌜ Turned r (dots (viewOf h (now (s .entry))) (positionOf w) (nameIn w a e) (restFrom w e)) (w .steps + 1) ⌝ }
 {
     let path = w.path;
     let len = w.len;
@@ -112,7 +108,7 @@ fn dots(s: &[u8], h: Shape, w: Walk, a: usize, e: usize) -> Turn
 // The component from index a up to e.
 fn component(s: &[u8], h: Shape, w: Walk, a: usize, e: usize) -> Turn
     requires { ⌜ Readable h (now s) × Ahead w e × (a ≤ e) × (w .directory < h .inodes) ⌝ }
-    ensures { λ r. ⌜ Turned r (fitting (viewOf h (now (s .entry))) (ltb (nameRoom h) (length (part (w .path) a (e - a)))) (positionOf w) (part (w .path) a (e - a)) (restFrom w e)) (w .steps + 1) ⌝ }
+    ensures { λ r. ⌜ Turned r (read (viewOf h (now (s .entry))) (positionOf w) (nameIn w a e) (restFrom w e)) (w .steps + 1) ⌝ }
 {
     if h.width - 8 < e - a {
         return state::refuse(w, 36);

@@ -50,7 +50,7 @@ returns-3 c =
     let if1 = c .before .before .before .before .if1 in
     let inode = c .before .before .before .inode in
     let k = field-of inodeKind (inode .ensures) (c .before .before .kind .ensures) in
-    arrives-other (viewOf (args .h) (args .s .now)) _ (positionOf (args .w)) _ (restFrom (args .w) (args .e)) (args .slot) (args .target)
+    arrives-other (viewOf (args .h) (args .s .now)) _ (positionOf (args .w)) _ (restFrom (args .w) (args .e)) (args .slot) (args .target) (pre .2)
     (slash-end (args .w) (args .e) (pre .1) (if1 .left))
     (is-other (args .h) (args .s .now) (args .target) 2 (pre .3) (λ e. c .before .match .rest .1 (k ∙ e))) (c .refuse .ensures)
 

@@ -20,6 +20,7 @@ refuse-requires : tie.Need-refuse-requires
 refuse-requires c κs = search needs
 
 returns : tie.Need-returns
+unfolding part viewOf
 returns c =
     let args = c .before .before .before .before .args in
     let pre = c .before .before .before .before .pre in
@@ -44,7 +45,7 @@ dots-requires : tie.Need-dots-requires
 dots-requires c κs = search needs
 
 returns-2 : tie.Need-returns-2
-unfolding part
+unfolding part viewOf
 returns-2 c =
     let args = c .before .before .before .before .before .before .before .before .before .args in
     let pre = c .before .before .before .before .before .before .before .before .before .pre in
@@ -71,7 +72,7 @@ dots-requires-2 : tie.Need-dots-requires-2
 dots-requires-2 c κs = search needs
 
 returns-3 : tie.Need-returns-3
-unfolding part
+unfolding part viewOf
 returns-3 c =
     let args = c .before .before .before .before .before .before .before .before .before .before .before .before .before .args in
     let pre = c .before .before .before .before .before .before .before .before .before .before .before .before .before .pre in

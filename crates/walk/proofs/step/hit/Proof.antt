@@ -45,9 +45,8 @@ returns : tie.Need-returns
 unfolding viewOf part
 returns c =
     let args = c .before .before .before .before .before .before .before .before .before .args in
-    let entry = c .before .before .before .before .before .before .before .entry in
-    let target = c .before .before .before .before .before .before .target in
-    hits-last (viewOf (args .h) (args .s .now)) _ (positionOf (args .w)) _ (restFrom (args .w) (args .e)) (args .slot) (target .result) (field-of entryTarget (entry .ensures) (target .ensures .0)) (sym (c .before .before .is-bare .ensures) ∙ c .before .if1 .taken) (c .arrive .ensures)
+    hits-last (viewOf (args .h) (args .s .now)) _ (positionOf (args .w)) _ (restFrom (args .w) (args .e)) (args .slot)
+    (sym (c .before .before .is-bare .ensures) ∙ c .before .if1 .taken) (c .arrive .ensures)
 
 enter-requires : tie.Need-enter-requires
 unfolding viewOf part

@@ -32,7 +32,7 @@ hit-requires c κs =
     (search needs, search needs, c .if1 .taken, lookup-used (viewOf (args .h) (args .s .now)) (args .w .directory) (part (args .w .path) (args .a) (args .e - args .a)) _ j (c .if1 .taken))
 
 returns : tie.Need-returns
-unfolding part
+unfolding part viewOf
 returns c =
     let args = c .before .before .before .before .before .before .before .before .args in
     let find = c .before .before .before .find in
@@ -42,7 +42,7 @@ miss-requires : tie.Need-miss-requires
 miss-requires c κs = search needs
 
 returns-2 : tie.Need-returns-2
-unfolding part
+unfolding part viewOf
 returns-2 c =
     let args = c .before .before .before .before .before .before .before .before .args in
     let find = c .before .before .before .find in
