@@ -12,7 +12,7 @@ use Rattle.seq.specs.Bytes.{zeros}
 use Rattle.layout.specs.declared.Shape.{Shape}
 use Rattle.layout.specs.Contents.{Laid}
 use Rattle.layout.specs.View.{View, viewOf, nameRoom, entryAt, isDirectory, isUsed}
-use Rattle.consistency.specs.Name.{nameGood, Named}
+use Rattle.names.specs.Name.{nameGood, Named}
 
 -- rule 17: a free entry is all zero
 abbrev pub entryFree : Shape → List ℕ → ℕ → Bool

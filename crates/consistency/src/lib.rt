@@ -8,10 +8,7 @@ ghost use Rattle.consistency.specs.Consistent.{bodiesGood, recordsNumber
 
 pub mod entries;
 pub mod handles;
-pub mod inodes;
-pub mod names;
 pub mod texts;
-pub mod tree;
 
 // Whether the records in front of the journal record are consistent.
 pub fn bodies_good(s: &[u8], h: Shape) -> bool
@@ -21,7 +18,7 @@ pub fn bodies_good(s: &[u8], h: Shape) -> bool
     if !layout::lookup::is_directory(s, h, 0) {
         return false;
     }
-    if !inodes::all_good(s, h) {
+    if !tree::inodes::all_good(s, h) {
         return false;
     }
     if !entries::all_good(s, h) {

@@ -15,7 +15,7 @@ fn linked(s: &[u8], h: Shape, t: usize) -> bool
     let n = h.inodes;
     let mut i: usize = 0;
     while i < n {
-        if crate::inodes::has_text(s, h, i, t) {
+        if tree::inodes::has_text(s, h, i, t) {
             return true;
         }
         i += 1;

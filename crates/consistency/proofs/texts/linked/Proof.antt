@@ -6,7 +6,7 @@ use native.Mathlib.Omega.{arith}
 use borrow.Author.Needs.{needs}
 use Rattle.seq.specs.Search.{any, any-none, any-miss, any-hit}
 use Rattle.layout.specs.View.{viewOf}
-use Rattle.consistency.specs.Inode.{hasText}
+use Rattle.tree.specs.Inode.{hasText}
 use Rattle.consistency.specs.Others.{textLinked}
 use Rattle.consistency.proofs.texts.linked.Statement.{statement}
 use Rattle.consistency.proofs.texts.linked.Tie as tie

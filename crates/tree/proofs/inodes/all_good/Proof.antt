@@ -1,0 +1,53 @@
+-- `tree::inodes::all_good` meets its contract. Assumes nothing.
+use mathlib.Core.Path.{_≡_, sym}
+use mathlib.Core.Bool.{true}
+use Prim.Native.Nat.{_≤_, _-_}
+use native.Mathlib.Omega.{arith}
+use borrow.Author.Needs.{needs}
+use Rattle.seq.specs.Search.{all, all-none, all-more, all-not}
+use Rattle.seq.specs.Truth.{fails, holds}
+use Rattle.tree.specs.Inode.{inodeGood}
+use Rattle.tree.proofs.inodes.all_good.Statement.{statement}
+use Rattle.tree.proofs.inodes.all_good.Tie as tie
+
+abbrev Inv-loop : tie.InvT-loop
+Inv-loop s h n i₀ i = (i ≤ n) × (all (inodeGood h s) i ≡ true)
+
+abbrev μ-loop : tie.MeasureT-loop
+μ-loop s h n i₀ i = n - i
+
+loop-holds : tie.Need-loop-holds Inv-loop μ-loop
+loop-holds c = (search needs, all-none _)
+
+good-requires : tie.Need-good-requires Inv-loop μ-loop
+good-requires c κs = search needs
+
+returns : tie.Need-returns Inv-loop μ-loop
+returns c = sym (all-not _ _ _ (c .before .before .loop-test .taken) (fails (c .before .good2 .ensures) (c .if1 .taken)))
+
+add-i : tie.Need-add-i Inv-loop μ-loop
+add-i c = search needs
+
+loop-less : tie.Need-loop-less Inv-loop μ-loop
+loop-less c = search needs
+
+loop-again : tie.Need-loop-again Inv-loop μ-loop
+loop-again c = (search needs, all-more _ _ (c .before .before .before .loop .inv .1) (holds (c .before .good2 .ensures) (c .if1 .left)))
+
+returns-2 : tie.Need-returns-2 Inv-loop μ-loop
+returns-2 c = let e : c .before .loop .i ≡ c .before .before .before .args .h .inodes = omega arith in
+    sym (rw e at (c .before .loop .inv .1))
+
+pub all-good-spec : {M : Type 1} → statement M
+all-good-spec =
+    tie.close
+    (tie.spec
+    Inv-loop
+    μ-loop
+    loop-holds
+    good-requires
+    returns
+    add-i
+    loop-less
+    loop-again
+    returns-2)

@@ -1,0 +1,76 @@
+-- `tree::inodes::leaf_good` meets its contract. Assumes nothing.
+use borrow.Author.Needs.{needs}
+use borrow.Author.Tests.{lt-ltb, le-ltb, le-leb, lt-leb}
+use Rattle.layout.specs.Fields.{inodeMode, inodeLinks}
+use Rattle.layout.specs.Record.{field-of}
+use Rattle.layout.specs.View.{viewOf}
+use Rattle.tree.specs.Inode.{leafGood}
+use Rattle.tree.proofs.inodes.leaf_good.Statement.{statement}
+use Rattle.tree.proofs.inodes.leaf_good.Tie as tie
+
+inode-requires : tie.Need-inode-requires
+inode-requires c κs = search needs
+
+mode-requires : tie.Need-mode-requires
+mode-requires c κs = search needs
+
+returns : tie.Need-returns
+unfolding leafGood viewOf
+returns c = simp (le-ltb _ _ (rw (field-of inodeMode (c .before .before .inode .ensures) (c .before .mode .ensures .0)) at (c .if1 .taken)))
+
+links-requires : tie.Need-links-requires
+links-requires c κs = search needs
+
+returns-2 : tie.Need-returns-2
+unfolding leafGood viewOf
+returns-2 c =
+    let inode = c .before .before .before .before .inode in
+    let mode = c .before .before .before .mode in
+    simp (
+      lt-ltb _ _ (rw (field-of inodeMode (inode .ensures) (mode .ensures .0)) at (c .before .before .if1 .left)),
+      lt-leb _ _ (rw (field-of inodeLinks (inode .ensures) (c .before .links .ensures .0)) at (c .if2 .taken)),
+    )
+
+returns-3 : tie.Need-returns-3
+unfolding leafGood viewOf
+returns-3 c =
+    let inode = c .before .before .before .before .before .inode in
+    let mode = c .before .before .before .before .mode in
+    let if1 = c .before .before .before .if1 in
+    let links = c .before .before .links in
+    simp (
+      lt-ltb _ _ (rw (field-of inodeMode (inode .ensures) (mode .ensures .0)) at (if1 .left)),
+      le-leb _ _ (rw (field-of inodeLinks (inode .ensures) (links .ensures .0)) at (c .before .if2 .left)),
+      lt-leb _ _ (rw (field-of inodeLinks (inode .ensures) (links .ensures .0)) at (c .if3 .taken)),
+    )
+
+entries-of-requires : tie.Need-entries-of-requires
+entries-of-requires c κs = search needs
+
+returns-4 : tie.Need-returns-4
+unfolding leafGood viewOf
+returns-4 c =
+    let inode = c .before .before .before .before .before .before .inode in
+    let mode = c .before .before .before .before .before .mode in
+    let if1 = c .before .before .before .before .if1 in
+    let links = c .before .before .before .links in
+    simp (
+      lt-ltb _ _ (rw (field-of inodeMode (inode .ensures) (mode .ensures .0)) at (if1 .left)),
+      le-leb _ _ (rw (field-of inodeLinks (inode .ensures) (links .ensures .0)) at (c .before .before .if2 .left)),
+      le-leb _ _ (rw (field-of inodeLinks (inode .ensures) (links .ensures .0)) at (c .before .if3 .left)),
+      c .entries-of .ensures,
+      field-of inodeLinks (inode .ensures) (links .ensures .0),
+    )
+
+pub leaf-good-spec : {M : Type 1} → statement M
+leaf-good-spec =
+    tie.close
+    (tie.spec
+    inode-requires
+    mode-requires
+    returns
+    links-requires
+    returns-2
+    returns-3
+    entries-of-requires
+    returns-4)

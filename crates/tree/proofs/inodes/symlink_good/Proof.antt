@@ -1,0 +1,85 @@
+-- `tree::inodes::symlink_good` meets its contract. Assumes nothing.
+use mathlib.Core.Path.{sym, _∙_, ap}
+use borrow.Author.Needs.{needs}
+use borrow.Author.Tests.{lt-ltb, le-ltb}
+use Rattle.seq.specs.Truth.{fails, holds}
+use Rattle.layout.specs.Fields.{inodeField}
+use Rattle.layout.specs.Record.{field-of}
+use Rattle.layout.specs.View.{viewOf, textUsed}
+use Rattle.tree.specs.Inode.{symlinkGood}
+use Rattle.tree.proofs.inodes.symlink_good.Statement.{statement}
+use Rattle.tree.proofs.inodes.symlink_good.Tie as tie
+
+leaf-good-requires : tie.Need-leaf-good-requires
+leaf-good-requires c κs = search needs
+
+returns : tie.Need-returns
+unfolding symlinkGood
+returns c = simp (fails (c .before .leaf-good .ensures) (c .if1 .taken))
+
+inode-requires : tie.Need-inode-requires
+inode-requires c κs = search needs
+
+field-requires : tie.Need-field-requires
+field-requires c κs = search needs
+
+returns-2 : tie.Need-returns-2
+unfolding symlinkGood viewOf
+returns-2 c =
+    let leaf-good = c .before .before .before .before .before .leaf-good in
+    let if1 = c .before .before .before .before .if1 in
+    let inode = c .before .before .before .inode in
+    simp (
+      holds (leaf-good .ensures) (if1 .left),
+      le-ltb _ _ (rw (field-of inodeField (inode .ensures) (c .before .before .field .ensures .0)) at (c .if2 .taken)),
+    )
+
+text-used-requires : tie.Need-text-used-requires
+text-used-requires c κs = search needs
+
+returns-3 : tie.Need-returns-3
+unfolding symlinkGood viewOf
+returns-3 c =
+    let args = c .before .before .before .before .before .before .before .before .before .args in
+    let leaf-good = c .before .before .before .before .before .before .before .leaf-good in
+    let if1 = c .before .before .before .before .before .before .if1 in
+    let inode = c .before .before .before .before .before .inode in
+    let field = c .before .before .before .before .field in
+    simp (
+      holds (leaf-good .ensures) (if1 .left),
+      lt-ltb _ _ (rw (field-of inodeField (inode .ensures) (field .ensures .0)) at (c .before .before .if2 .left)),
+      ap (λ x. textUsed (viewOf (args .h) (args .s .now)) x) (sym (field-of inodeField (inode .ensures) (field .ensures .0))) ∙ fails (c .before .text-used .ensures) (c .if3 .taken),
+    )
+
+text-shared-requires : tie.Need-text-shared-requires
+text-shared-requires c κs = search needs
+
+returns-4 : tie.Need-returns-4
+unfolding symlinkGood viewOf
+returns-4 c =
+    let args = c .before .before .before .before .before .before .before .before .before .before .args in
+    let leaf-good = c .before .before .before .before .before .before .before .before .leaf-good in
+    let if1 = c .before .before .before .before .before .before .before .if1 in
+    let inode = c .before .before .before .before .before .before .inode in
+    let field = c .before .before .before .before .before .field in
+    let if2 = c .before .before .before .if2 in
+    simp (
+      holds (leaf-good .ensures) (if1 .left),
+      lt-ltb _ _ (rw (field-of inodeField (inode .ensures) (field .ensures .0)) at (if2 .left)),
+      ap (λ x. textUsed (viewOf (args .h) (args .s .now)) x) (sym (field-of inodeField (inode .ensures) (field .ensures .0))) ∙ holds (c .before .before .text-used .ensures) (c .before .if3 .left),
+      c .text-shared .ensures,
+    )
+
+pub symlink-good-spec : {M : Type 1} → statement M
+symlink-good-spec =
+    tie.close
+    (tie.spec
+    leaf-good-requires
+    returns
+    inode-requires
+    field-requires
+    returns-2
+    text-used-requires
+    returns-3
+    text-shared-requires
+    returns-4)

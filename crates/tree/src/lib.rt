@@ -1,0 +1,92 @@
+// The directory tree: entries of a file, child directories, the way up to the root; inodes by their type.
+use layout::Shape;
+ghost use mathlib.Core.Path.{_≡_};
+ghost use Prim.Native.Nat.{_≤_, _<_};
+ghost use Rattle.layout.specs.Contents.{Laid};
+ghost use Rattle.layout.specs.View.{viewOf};
+ghost use Rattle.tree.specs.Tree.{targets, entriesOf, holdsDirectory, childDirectories, leads};
+
+pub mod inodes;
+
+// Whether the entry in slot j is in use and targets inode i.
+fn entry_targets(s: &[u8], h: Shape, i: usize, j: usize) -> bool
+    requires { ⌜ Laid h (now s) × (j < h .entries) ⌝ }
+    ensures { λ r. ⌜ r ≡ targets (viewOf h (now (s .entry))) i j ⌝ }
+{
+    let e = layout::records::entry(s, h, j);
+    if layout::entry::name_length(e) == 0 {
+        return false;
+    }
+    layout::entry::target(e) == i
+}
+
+// How many entries target inode i.
+pub fn entries_of(s: &[u8], h: Shape, i: usize) -> usize
+    requires { ⌜ Laid h (now s) ⌝ }
+    ensures { λ r. ⌜ r ≡ entriesOf (viewOf h (now (s .entry))) i ⌝ }
+{
+    let n = h.entries;
+    let mut found: usize = 0;
+    let mut j: usize = 0;
+    while j < n {
+        if entry_targets(s, h, i, j) {
+            found += 1;
+        }
+        j += 1;
+    }
+    found
+}
+
+// Whether the entry in slot j is in use, lies in directory i and targets a directory.
+fn entry_holds_directory(s: &[u8], h: Shape, i: usize, j: usize) -> bool
+    requires { ⌜ Laid h (now s) × (j < h .entries) ⌝ }
+    ensures { λ r. ⌜ r ≡ holdsDirectory (viewOf h (now (s .entry))) i j ⌝ }
+{
+    let e = layout::records::entry(s, h, j);
+    if layout::entry::name_length(e) == 0 {
+        return false;
+    }
+    if layout::entry::parent(e) != i {
+        return false;
+    }
+    layout::lookup::is_directory(s, h, layout::entry::target(e))
+}
+
+// How many child directories directory i has.
+pub fn child_directories(s: &[u8], h: Shape, i: usize) -> usize
+    requires { ⌜ Laid h (now s) ⌝ }
+    ensures { λ r. ⌜ (r ≡ childDirectories (viewOf h (now (s .entry))) i) × (r ≤ 1024) ⌝ }
+{
+    let n = h.entries;
+    let mut found: usize = 0;
+    let mut j: usize = 0;
+    while j < n {
+        if entry_holds_directory(s, h, i, j) {
+            found += 1;
+        }
+        j += 1;
+    }
+    found
+}
+
+// Whether the fields lead from inode i to the root. More steps than there are inodes would go round in a circle.
+pub fn leads_to_root(s: &[u8], h: Shape, i: usize) -> bool
+    requires { ⌜ Laid h (now s) × (i < h .inodes) ⌝ }
+    ensures { λ r. ⌜ r ≡ leads (viewOf h (now (s .entry))) (h .inodes) i ⌝ }
+{
+    let n = h.inodes;
+    let mut at = i;
+    let mut left = n;
+    while 0 < left {
+        if at == 0 {
+            return true;
+        }
+        let r = layout::records::inode(s, h, at);
+        at = layout::inode::field(r);
+        if n <= at {
+            return false;
+        }
+        left -= 1;
+    }
+    at == 0
+}
