@@ -5,9 +5,9 @@ use reader::Tag;
 mod check;
 mod image;
 mod land;
-mod paths;
 mod plan;
 mod reader;
+mod walks;
 
 // So many items are too many. Nothing says that a file ends, so a count of its items ends the loop.
 const TOO_MANY: usize = 1000000;
@@ -29,7 +29,7 @@ fn item(fd: i32, tag: u8, base: &mut [u8], image: &mut [u8], plan: &mut [u8]) ->
         return check::case(fd, base, image);
     }
     if tag == WALK_CASE {
-        return paths::case(fd, base, image);
+        return walks::case(fd, base, image);
     }
     if tag == LAND_CASE {
         return land::case(fd, base, image, plan);

@@ -10,9 +10,9 @@ use Rattle.layout.specs.Contents.{shapeOf}
 use Rattle.layout.specs.Record.{recordAt}
 use Rattle.layout.specs.View.{View, viewOf}
 use Rattle.layout.specs.Bench.{bench}
-use Rattle.walk.specs.Permission.{allows}
-use Rattle.walk.specs.Path.{slashes, nameBytes}
-use Rattle.walk.specs.Lookup.{isNamed, lookup}
+use Rattle.paths.specs.Permission.{allows}
+use Rattle.paths.specs.Path.{slashes, nameBytes}
+use Rattle.paths.specs.Lookup.{isNamed, lookup}
 use Rattle.walk.specs.Step.{End, existing, missing, refused, step}
 use Rattle.walk.specs.Walk.{noHandle, walkFrom, walk}
 

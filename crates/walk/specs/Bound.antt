@@ -10,11 +10,11 @@ use lib.Dec.{ltb, leb}
 use lib.ListN.{length, length-append}
 use borrow.Author.Tests.{ltb-false, leb-false, le-ltb}
 use Rattle.layout.specs.View.{View, isDirectory, isKind}
-use Rattle.walk.specs.declared.request.Credentials.{Credentials}
-use Rattle.walk.specs.Permission.{searchBit, allows}
-use Rattle.walk.specs.Path.{skip, component, behind, empty, bare, isDot, isDotDot}
-use Rattle.walk.specs.Lookup.{lookup}
-use Rattle.walk.specs.PathLaws.{skip-le, skip-more, behind-le, behind-short, bare-append}
+use Rattle.paths.specs.declared.request.Credentials.{Credentials}
+use Rattle.paths.specs.Permission.{searchBit, allows}
+use Rattle.paths.specs.Path.{skip, component, behind, empty, bare, isDot, isDotDot}
+use Rattle.paths.specs.Lookup.{lookup}
+use Rattle.paths.specs.PathLaws.{skip-le, skip-more, behind-le, behind-short, bare-append}
 use Rattle.walk.specs.Step.{linkLimit, pathLimit, Position, End, Step, goes, ends, joined, followed, entered, arrived, found, missed, sought, dotted, named, fitting, permitted, placed, step}
 use Rattle.walk.specs.Walk.{stepLimit, walkFrom, startDirectory, startWaived, startClosed, unnamed, closed, long, blank, walk, stepsOf}
 

@@ -1,10 +1,5 @@
-pub mod Request
-pub mod Path
-pub mod Permission
-pub mod Lookup
 pub mod Step
 pub mod Walk
-pub mod PathLaws
 pub mod Bound
 pub mod Bench
 pub mod State

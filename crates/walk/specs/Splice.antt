@@ -1,32 +1,21 @@
 -- A working path with a symlink's text spliced in, and what is left of a path to read. Assumes nothing.
-use mathlib.Core.Path.{_≡_, refl, sym, ap, _∙_}
+use mathlib.Core.Path.{_≡_, refl, ap, _∙_}
 use mathlib.Core.Bool.{true, false, not, cond}
 use mathlib.Core.List.{List, _++_}
 use Prim.Native.Nat.{ℕ, _+_, _-_, _≤_, _<_}
-use native.Mathlib.Nat.{zero-add, sub-zero}
 use native.Mathlib.Decide.{decLt}
 use native.Mathlib.Omega.{arith}
 use lib.Dec.{ltb}
-use lib.ListN.{length, length-replicate, replicate, length-append}
-use lib.Seq.{take-append-seam}
+use lib.ListN.{length, length-append}
 use borrow.Author.Tests.{eq-eqb, ne-eqb, lt-ltb, le-ltb}
-use Rattle.seq.specs.Bytes.{part, part-length, put, put-join, put-zeros}
+use Rattle.seq.specs.Bytes.{part, part-length}
 use Rattle.walk.specs.declared.state.Walk.{Walk}
 use Rattle.walk.specs.declared.state.Ending.the-variants.{Going}
-use Rattle.walk.specs.Path.{empty, bare, absolute}
-use Rattle.walk.specs.PathLaws.{bare-append}
+use Rattle.paths.specs.Path.{empty, bare, absolute}
+use Rattle.paths.specs.PathLaws.{bare-append}
 use Rattle.walk.specs.Step.{spliced}
-use Rattle.walk.specs.State.{filled, restFrom, positionOf, Turned, Ahead}
-
--- a working path has 256 bytes
-pub filled-length : (p : List ℕ) → length p ≤ 256 → length (filled p) ≡ 256
-unfolding filled
-filled-length p l = length-append p (replicate (256 - length p) 0) ∙ ap (λ n. length p + n) (length-replicate (256 - length p) 0) ∙ (let e : length p + (256 - length p) ≡ 256 = omega arith in e)
-
--- the working path holds what was put into it
-pub filled-part : (p : List ℕ) (n : ℕ) → n ≡ length p → part (filled p) 0 (n - 0) ≡ p
-unfolding filled part
-filled-part p n e = rw (sub-zero, e) (take-append-seam p (replicate (256 - length p) 0))
+use Rattle.paths.specs.Filled.{filled, filled-length, filled-part}
+use Rattle.walk.specs.State.{restFrom, positionOf, Turned, Ahead}
 
 -- how much is left to read from index e on
 pub rest-length : (w : Walk) (e : ℕ) → Ahead w e → length (restFrom w e) ≡ w .len - e
@@ -46,13 +35,6 @@ joins w text path e len directory ahead more size short p d =
       is = rw (r, d);
       onward = (record { within = omega arith; short = short; whole = ap (λ (x : List ℕ). length x) p ∙ filled-length (text ++ restFrom w e) (omega arith); more = rw r (bare-append text (restFrom w e) more) }, refl);
     }
-
--- two runs of bytes copied over zeros, one behind the other
-pub twice : (text rest : List ℕ) (n : ℕ) → length text + length rest ≤ n → put (put (replicate n 0) 0 text) (length text) rest ≡ (text ++ rest) ++ replicate (n - length (text ++ rest)) 0
-twice text rest n l =
-    let e : put (put (replicate n 0) 0 text) (length text) rest ≡ put (replicate n 0) 0 (text ++ rest) =
-    ap (λ m. put (put (replicate n 0) 0 text) m rest) (sym (zero-add (length text))) ∙ put-join text (replicate n 0) 0 rest in
-    e ∙ put-zeros n (text ++ rest) (rw length-append l)
 
 -- whether a slash stands behind the final name
 pub slash-behind : (w : Walk) (e : ℕ) → Ahead w e → ltb e (w .len) ≡ not (empty (restFrom w e))

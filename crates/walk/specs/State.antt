@@ -1,20 +1,17 @@
 -- The code's state of a walk as a position of the definition: the unread rest is a part of the working path. Assumes nothing.
 use mathlib.Core.Path.{_≡_}
 use mathlib.Core.Bool.{Bool, false}
-use mathlib.Core.List.{List, _++_}
+use mathlib.Core.List.{List}
 use Prim.Native.Nat.{ℕ, _-_, _≤_, _<_}
-use lib.ListN.{length, replicate}
+use lib.ListN.{length}
 use Rattle.seq.specs.Bytes.{part}
 use Rattle.walk.specs.declared.state.Walk.{Walk}
 use Rattle.walk.specs.declared.state.Ending.{Ending}
 use Rattle.walk.specs.declared.state.Ending.the-variants.{Going, Existing, Missing, Refused}
 use Rattle.walk.specs.declared.state.Turn.{Turn}
-use Rattle.walk.specs.Path.{bare}
+use Rattle.paths.specs.Path.{bare}
+use Rattle.paths.specs.Filled.{filled}
 use Rattle.walk.specs.Step.{Position, End, Step, goes, ends, existing, missing, refused}
-
--- a working path: bytes, and then zeros
-unfoldable pub filled : List ℕ → List ℕ
-filled p = p ++ replicate (256 - length p) 0
 
 -- the unread rest from index e on
 abbrev pub restFrom : Walk → ℕ → List ℕ

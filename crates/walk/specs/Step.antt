@@ -5,10 +5,10 @@ use Prim.Native.Nat.{ℕ, _+_}
 use lib.Dec.{ltb, leb}
 use lib.ListN.{length}
 use Rattle.layout.specs.View.{View, isDirectory, isKind}
-use Rattle.walk.specs.declared.request.Credentials.{Credentials}
-use Rattle.walk.specs.Permission.{searchBit, allows}
-use Rattle.walk.specs.Path.{component, behind, empty, bare, absolute, isDot, isDotDot}
-use Rattle.walk.specs.Lookup.{lookup}
+use Rattle.paths.specs.declared.request.Credentials.{Credentials}
+use Rattle.paths.specs.Permission.{searchBit, allows}
+use Rattle.paths.specs.Path.{component, behind, empty, bare, absolute, isDot, isDotDot}
+use Rattle.paths.specs.Lookup.{lookup}
 
 -- rule 63: how many symlinks one path may lead through
 abbrev pub linkLimit : ℕ

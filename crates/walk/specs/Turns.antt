@@ -9,15 +9,15 @@ use lib.ListN.{length, take, drop}
 use borrow.Author.Tests.{lt-ltb, le-ltb}
 use Rattle.seq.specs.Bytes.{part, part-length, part-take, part-drop}
 use Rattle.layout.specs.View.{View, isKind, isDirectory}
-use Rattle.walk.specs.declared.request.Credentials.{Credentials}
+use Rattle.paths.specs.declared.request.Credentials.{Credentials}
 use Rattle.walk.specs.declared.state.Walk.{Walk}
 use Rattle.walk.specs.declared.state.Ending.the-variants.{Going}
 use Rattle.walk.specs.declared.state.Turn.{Turn}
-use Rattle.walk.specs.Permission.{searchBit, allows}
-use Rattle.walk.specs.Path.{slashes, nameBytes, skip, component, behind, empty, bare, isDot, isDotDot}
+use Rattle.paths.specs.Permission.{searchBit, allows}
+use Rattle.paths.specs.Path.{slashes, nameBytes, skip, component, behind, empty, bare, isDot, isDotDot}
 use Rattle.walk.specs.Step.{pathLimit, Position, Step, goes, existing, missing, ends, refuse, move, follow, miss, enter, arrive, hit, sought, seek, dots, fitting, step}
 use Rattle.walk.specs.State.{restFrom, positionOf, endingOf, beginning, Fit, Onward, Turned}
-use Rattle.walk.specs.Splice.{filled-length, filled-part}
+use Rattle.paths.specs.Filled.{filled-length, filled-part}
 use Rattle.walk.specs.Walk.{startDirectory, startWaived}
 use Rattle.walk.specs.Bound.{startOf}
 

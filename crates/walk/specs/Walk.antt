@@ -8,8 +8,8 @@ use lib.ListN.{length}
 use borrow.Author.Tests.{eq-eqb, ne-eqb, lt-ltb, le-ltb, ltb-true, not-false}
 use Rattle.seq.specs.Truth.{and-left}
 use Rattle.layout.specs.View.{View, handleOpen}
-use Rattle.walk.specs.declared.request.Credentials.{Credentials}
-use Rattle.walk.specs.Path.{empty, bare, absolute}
+use Rattle.paths.specs.declared.request.Credentials.{Credentials}
+use Rattle.paths.specs.Path.{empty, bare, absolute}
 use Rattle.walk.specs.Step.{linkLimit, pathLimit, Position, End, existing, missing, refused, goes, ends, step}
 
 -- rule 48: the start that stands for the current directory

@@ -1,8 +1,4 @@
-// Path resolution: what the paths of a request name.
-pub mod find;
-pub mod path;
-pub mod permission;
-pub mod request;
+// The walk of a path: component by component, symlinks spliced in.
 pub mod resolve;
 pub mod state;
 pub mod step;

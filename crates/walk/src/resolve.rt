@@ -1,21 +1,21 @@
 // The walk of a whole path: where it begins, component after component, how it ends.
-use crate::path;
-use crate::request::Credentials;
 use crate::state::Ending;
 use crate::state::Refusal;
 use crate::state::Turn;
 use crate::state::Walk;
 use layout::Shape;
+use paths::path;
+use paths::request::Credentials;
 ghost use mathlib.Core.Path.{_≡_};
 ghost use mathlib.Core.Bool.{false};
 ghost use Prim.Native.Nat.{_≤_, _<_};
 ghost use lib.ListN.{length};
 ghost use Rattle.layout.specs.Contents.{Laid};
 ghost use Rattle.layout.specs.View.{viewOf, Readable};
-ghost use Rattle.walk.specs.Path.{bare};
 ghost use Rattle.walk.specs.Step.{ends};
 ghost use Rattle.walk.specs.Walk.{stepLimit, walkFrom, startDirectory, startWaived, startClosed, halt, walk, oldNumber, newNumber, stepsOf};
-ghost use Rattle.walk.specs.State.{filled, positionOf, beginning, endOf, Fit};
+ghost use Rattle.paths.specs.Filled.{filled};
+ghost use Rattle.walk.specs.State.{positionOf, beginning, endOf, Fit};
 
 // Goes through the components that are left. Each makes the rest shorter or follows one of few symlinks, so there is an end.
 fn run(s: &[u8], h: Shape, who: Credentials, w: Walk) -> Turn

@@ -3,7 +3,7 @@ ghost use mathlib.Core.Path.{_≡_};
 ghost use mathlib.Core.Bool.{false};
 ghost use Prim.Native.Nat.{_+_, _-_, _≤_, _<_};
 ghost use lib.ListN.{length};
-ghost use Rattle.walk.specs.Path.{bare};
+ghost use Rattle.paths.specs.Path.{bare};
 ghost use Rattle.walk.specs.Step.{existing, missing, ends, refuse, move, linkLimit, spliced, follow};
 ghost use Rattle.walk.specs.State.{positionOf, nameIn, restFrom, Ahead, Turned};
 
@@ -112,8 +112,8 @@ fn join(w: Walk, text: &[u8], e: usize, len: usize) -> Turn
 {
     let old = w.path;
     let end = w.len;
-    let path = crate::path::splice(text, &old[e..end]);
-    let directory = crate::path::start(text, w.directory);
+    let path = paths::path::splice(text, &old[e..end]);
+    let directory = paths::path::start(text, w.directory);
     let next = Walk {
         path,
         len,

@@ -1,16 +1,16 @@
 // One component of a path: what is asked of it, and where it leads.
-use crate::path;
-use crate::request::Credentials;
 use crate::state;
 use crate::state::Turn;
 use crate::state::Walk;
 use layout::Shape;
+use paths::path;
+use paths::request::Credentials;
 ghost use mathlib.Core.Path.{_≡_};
 ghost use mathlib.Core.Bool.{false, true, _||_};
 ghost use Prim.Native.Nat.{_+_, _≤_, _<_};
 ghost use Rattle.layout.specs.View.{viewOf, entryUsed, Readable};
-ghost use Rattle.walk.specs.Permission.{allows, searchBit};
-ghost use Rattle.walk.specs.Path.{bare};
+ghost use Rattle.paths.specs.Permission.{allows, searchBit};
+ghost use Rattle.paths.specs.Path.{bare};
 ghost use Rattle.walk.specs.Step.{enter, arrive, hit, miss, seek, dots, read, step};
 ghost use Rattle.walk.specs.State.{positionOf, nameIn, restFrom, Ahead, Fit, Turned};
 
@@ -80,7 +80,7 @@ fn seek(s: &[u8], h: Shape, w: Walk, a: usize, e: usize) -> Turn
     ensures { λ r. ⌜ Turned r (seek (viewOf h (now (s .entry))) (positionOf w) (nameIn w a e) (restFrom w e)) (w .steps + 1) ⌝ }
 {
     let path = w.path;
-    let slot = crate::find::find(s, h, w.directory, &path[a..e]);
+    let slot = paths::find::find(s, h, w.directory, &path[a..e]);
     if slot < h.entries {
         return hit(s, h, w, e, slot);
     }
@@ -131,7 +131,7 @@ fn may_search(s: &[u8], h: Shape, who: Credentials, w: Walk) -> bool
     if w.waived {
         return true;
     }
-    crate::permission::allows(s, h, who, w.directory, 1)
+    paths::permission::allows(s, h, who, w.directory, 1)
 }
 
 // The next component.

@@ -4,7 +4,7 @@ use native.Mathlib.Omega.{arith}
 use borrow.Author.Needs.{needs}
 use Rattle.seq.specs.Bytes.{part}
 use Rattle.layout.specs.View.{viewOf}
-use Rattle.walk.specs.Lookup.{lookup-used}
+use Rattle.paths.specs.Lookup.{lookup-used}
 use Rattle.walk.specs.State.{positionOf, restFrom}
 use Rattle.walk.specs.Turns.{seeks-hit, seeks-miss}
 use Rattle.walk.proofs.step.seek.Statement.{statement}

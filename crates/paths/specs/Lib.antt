@@ -1,0 +1,6 @@
+pub mod Request
+pub mod Path
+pub mod Permission
+pub mod Lookup
+pub mod PathLaws
+pub mod Filled

@@ -1,0 +1,5 @@
+// Requests, permission, names looked up, and the components of a path.
+pub mod find;
+pub mod path;
+pub mod permission;
+pub mod request;

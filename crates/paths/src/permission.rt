@@ -1,0 +1,27 @@
+// Permission: the class that the caller falls in decides.
+use crate::request::Credentials;
+use layout::Shape;
+ghost use mathlib.Core.Path.{_≡_};
+ghost use Prim.Native.Nat.{_≤_, _<_};
+ghost use Rattle.layout.specs.Contents.{Laid};
+ghost use Rattle.layout.specs.View.{viewOf};
+ghost use Rattle.paths.specs.Permission.{allows};
+
+// Whether the caller has this bit on inode i.
+pub fn allows(s: &[u8], h: Shape, who: Credentials, i: usize, bit: usize) -> bool
+    requires { ⌜ Laid h (now s) × (i < h .inodes) × (1 ≤ bit) × (bit ≤ 2) ⌝ }
+    ensures { λ r. ⌜ r ≡ allows (viewOf h (now (s .entry))) who i bit ⌝ }
+{
+    if who.user == 0 {
+        return true;
+    }
+    let r = layout::records::inode(s, h, i);
+    let mode = layout::inode::mode(r);
+    if who.user == layout::inode::owner(r) {
+        return mode / (64 * bit) % 2 == 1;
+    }
+    if who.group == layout::inode::group(r) {
+        return mode / (8 * bit) % 2 == 1;
+    }
+    mode / bit % 2 == 1
+}

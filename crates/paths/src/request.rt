@@ -1,0 +1,36 @@
+// A request: who asks, from where, and when.
+use layout::Shape;
+ghost use mathlib.Core.Path.{_≡_};
+ghost use Rattle.layout.specs.Contents.{Laid};
+ghost use Rattle.layout.specs.View.{viewOf};
+ghost use Rattle.paths.specs.Request.{requestGood};
+
+// Who asks.
+pub struct Credentials {
+    pub user: u32,
+    pub group: u32,
+}
+
+// A request but for its two paths, which are handed over beside it. A start is a handle's number, or 255 for the current directory.
+pub struct Request {
+    pub who: Credentials,
+    pub current: u16,
+    pub old: u8,
+    pub new: u8,
+    pub now: u64,
+}
+
+// Whether the current directory is one, and neither path holds a zero byte.
+pub fn good(s: &[u8], h: Shape, q: Request, old: &[u8], new: &[u8]) -> bool
+    requires { ⌜ Laid h (now s) ⌝ }
+    ensures { λ r. ⌜ r ≡ requestGood (viewOf h (now (s .entry))) q (now (old .entry)) (now (new .entry)) ⌝ }
+{
+    let current = q.current as usize;
+    if !layout::lookup::is_directory(s, h, current) {
+        return false;
+    }
+    if !layout::bytes::no_zero(old) {
+        return false;
+    }
+    layout::bytes::no_zero(new)
+}
