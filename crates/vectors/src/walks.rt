@@ -179,7 +179,7 @@ fn request(fd: i32, s: &[u8]) -> bool {
         new: b[11],
         now: 0,
     };
-    paths(
+    both(
         fd,
         s,
         q,
