@@ -1,0 +1,5 @@
+pub mod Step
+pub mod State
+pub mod Splice
+pub mod Turns
+pub mod Ways

@@ -1,0 +1,105 @@
+-- The ways in which a component leaves a walk, each with what is known there: the step's definition read backwards. Assumes nothing.
+use mathlib.Core.Path.{_≡_, refl, sym}
+use mathlib.Core.Logic.{_≢_}
+use mathlib.Core.Bool.{Bool, true, false, _&&_, _||_, not, cond, false≢true}
+use mathlib.Core.List.{List}
+use Prim.Native.Nat.{ℕ, _+_, _≤_, _<_}
+use native.Mathlib.Omega.{arith}
+use lib.Dec.{ltb, leb}
+use lib.ListN.{length}
+use borrow.Author.Tests.{ltb-true, ltb-false, leb-false, not-true, not-false}
+use Rattle.layout.specs.View.{View, isDirectory, isSymlink}
+use Rattle.paths.specs.declared.request.Credentials.{Credentials}
+use Rattle.paths.specs.Permission.{searchBit, allows}
+use Rattle.paths.specs.Path.{component, behind, empty, bare, isDot, isDotDot}
+use Rattle.paths.specs.Lookup.{lookup}
+use Rattle.component.specs.declared.state.Final.{Final}
+use Rattle.component.specs.declared.state.Final.the-variants.{MustExist, MayBeMissing}
+use Rattle.component.specs.Step.{pathLimit, linkLimit, Position, Step, existing, missing, refuse, names, move, splice, follow, lack, miss, enter, arrive, hit, seek, dots, read, inside, step}
+
+-- How the component that stands first at w leaves the walk by x.
+pub data Way (v : View) (w : Position) (x : Step) : Type 0 where
+  refuses : (n : ℕ) → n ≢ 0 → x ≡ refuse n w → Way v w x
+  moves : (d : ℕ) → bare (behind (w .rest)) ≡ false → x ≡ move w (behind (w .rest)) d → Way v w x
+  follows : (i : ℕ) → isSymlink v i ≡ true → bare (behind (w .rest)) ≡ false → w .links < linkLimit
+      → length (v .text (v .field i)) + length (behind (w .rest)) ≤ pathLimit
+      → x ≡ splice w (v .text (v .field i)) (behind (w .rest)) → Way v w x
+  exists : (slash : Bool) → isDirectory v (w .directory) ≡ true
+      → lookup v (w .directory) (component (w .rest)) < v .entries
+      → (slash ≡ true → isDirectory v (v .target (lookup v (w .directory) (component (w .rest)))) ≡ true)
+      → x ≡ names w (existing (w .directory) (lookup v (w .directory) (component (w .rest))) (v .target (lookup v (w .directory) (component (w .rest)))) slash)
+      → Way v w x
+  lacks : (slash : Bool) → isDirectory v (w .directory) ≡ true
+      → v .entries ≤ lookup v (w .directory) (component (w .rest))
+      → length (component (w .rest)) ≤ v .room
+      → (isDot (component (w .rest)) || isDotDot (component (w .rest))) ≡ false
+      → x ≡ names w (missing (w .directory) (component (w .rest)) slash)
+      → Way v w x
+
+-- a test, whichever way it falls
+by-test : (P : Step → Type 0) (b : Bool) (x y : Step) → (b ≡ true → P x) → (b ≡ false → P y) → P (cond b x y)
+by-test P true x y yes-b no-b = yes-b refl
+by-test P false x y yes-b no-b = no-b refl
+
+-- a slash behind a name that is not a directory has been refused
+slash-asks : (a d : Bool) → (a && not d) ≡ false → a ≡ true → d ≡ true
+slash-asks true true e h = refl
+slash-asks true false e h = sym e
+slash-asks false d e h = absurd (false≢true h)
+
+module _ (v : View) (who : Credentials) (last : Final) (w : Position) where
+  abbrev name : List ℕ
+  name = component (w .rest)
+
+  abbrev rest : List ℕ
+  rest = behind (w .rest)
+
+  abbrev slot : ℕ
+  slot = lookup v (w .directory) name
+
+  way-refuse : (n : ℕ) → 0 < n → Way v w (refuse n w)
+  way-refuse n some = refuses n (λ e. omega arith) refl
+
+  way-follow : (i : ℕ) → isSymlink v i ≡ true → bare rest ≡ false → Way v w (follow w (v .text (v .field i)) rest)
+  way-follow i link more =
+      by-test (Way v w) (leb linkLimit (w .links)) _ _ (λ e. way-refuse 40 (omega arith)) (λ few.
+      by-test (Way v w) (ltb pathLimit (length (v .text (v .field i)) + length rest)) _ _ (λ e. way-refuse 36 (omega arith)) (λ short.
+      follows i link more (leb-false _ _ few) (ltb-false _ _ short) refl))
+
+  way-enter : (i : ℕ) → bare rest ≡ false → Way v w (enter v w rest i)
+  way-enter i more = by-test (Way v w) (isSymlink v i) _ _ (λ link. way-follow i link more) (λ e. moves i more refl)
+
+  module _ (place : isDirectory v (w .directory) ≡ true) where
+    way-arrive : slot < v .entries → Way v w (arrive v w rest slot)
+    way-arrive below =
+        by-test (Way v w) (not (empty rest) && not (isDirectory v (v .target slot))) _ _ (λ e. way-refuse 20 (omega arith)) (λ e.
+        exists (not (empty rest)) place below (slash-asks (not (empty rest)) (isDirectory v (v .target slot)) e) refl)
+
+    way-hit : slot < v .entries → Way v w (hit v w rest slot)
+    way-hit below =
+        by-test (Way v w) (not (bare rest)) _ _ (λ more. way-enter (v .target slot) (not-true (bare rest) more)) (λ e. way-arrive below)
+
+    module _ (short : length name ≤ v .room) (plain : (isDot name || isDotDot name) ≡ false) where
+      way-lack : (f : Final) → v .entries ≤ slot → Way v w (lack f w name rest)
+      way-lack MustExist none = way-refuse 2 (omega arith)
+      way-lack MayBeMissing none = lacks (not (empty rest)) place none short plain refl
+
+      way-seek : Way v w (seek v last w name rest)
+      way-seek =
+          by-test (Way v w) (ltb slot (v .entries)) _ _ (λ hit-one. way-hit (ltb-true _ _ hit-one)) (λ none.
+          by-test (Way v w) (not (bare rest)) _ _ (λ e. way-refuse 2 (omega arith)) (λ e. way-lack last (ltb-false _ _ none)))
+
+    way-dots : Way v w (dots v w name rest)
+    way-dots = by-test (Way v w) (bare rest) _ _ (λ e. way-refuse 22 (omega arith)) (λ more. moves _ more refl)
+
+    way-read : Way v w (read v last w name rest)
+    way-read =
+        by-test (Way v w) (ltb (v .room) (length name)) _ _ (λ e. way-refuse 36 (omega arith)) (λ short.
+        by-test (Way v w) (isDot name || isDotDot name) _ _ (λ e. way-dots) (λ plain. way-seek (ltb-false _ _ short) plain))
+
+  pub step-way : Way v w (step v who last w)
+  unfolding step
+  step-way =
+      by-test (Way v w) (not (isDirectory v (w .directory))) _ _ (λ e. way-refuse 20 (omega arith)) (λ place.
+      by-test (Way v w) (not (w .waived || allows v who (w .directory) searchBit)) _ _ (λ e. way-refuse 13 (omega arith)) (λ e.
+      way-read (not-false (isDirectory v (w .directory)) place)))
