@@ -8,7 +8,7 @@ use native.Mathlib.Numerals.{add-one}
 use native.Mathlib.Omega.{arith}
 use lib.Dec.{eqb, ltb}
 use borrow.Author.Tests.{eq-eqb, eqb-true, lt-ltb, ltb-true}
-use Rattle.seq.specs.Truth.{and-left, and-right, and-both, same-truth}
+use Rattle.seq.specs.Truth.{refuted, and-left, and-right, and-both, same-truth}
 use Rattle.seq.specs.Search.{any, any-hit, any-at}
 use Rattle.layout.specs.declared.Shape.{Shape}
 use Rattle.layout.specs.Contents.{Laid}
@@ -18,10 +18,6 @@ use Rattle.plan.specs.Fit.{coverable, coversSection}
 -- n bytes from at on are one of count records of width bytes each, the first of them at start
 unfoldable pub oneOf : ℕ → ℕ → ℕ → ℕ → ℕ → Bool
 oneOf start width count at n = any (λ i. eqb at (start + width * i) && eqb n width) count
-
-refuted : (b : Bool) → (b ≡ true → ⊥) → b ≡ false
-refuted true f = absurd (f refl)
-refuted false f = refl
 
 -- the ways out of finding it
 module _ (start width count at n : ℕ) where

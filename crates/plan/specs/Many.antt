@@ -1,7 +1,7 @@
 -- Rows put one after another into a plan: each is read back, and their count is how many they are. Assumes nothing.
 use mathlib.Core.Path.{_≡_, refl, sym, ap, _∙_, subst}
 use mathlib.Core.Logic.{⊎-elim}
-use mathlib.Core.Bool.{Bool, true, false}
+use mathlib.Core.Bool.{true, false}
 use mathlib.Core.List.{List, [], _∷_}
 use Prim.Native.Nat.{ℕ, zero, suc, _+_, _≤_, _<_}
 use native.Mathlib.Nat.{add-zero, zero-add, not-suc-le-zero, eq-or-lt-of-le}
@@ -9,8 +9,7 @@ use native.Mathlib.Omega.{arith}
 use lib.Dec.{eqb}
 use lib.ListN.{length, getD, replicate, getD-replicate, length-replicate}
 use borrow.Author.Tests.{eq-eqb, ne-eqb}
-use Rattle.seq.specs.Truth.{not-both}
-use Rattle.seq.specs.Search.{any, any-at, all-not, all-of, first-hit, first-none}
+use Rattle.seq.specs.Search.{any, any-false, all-not, all-of, first-hit, first-none}
 use Rattle.seq.specs.Bytes.{put, zeros, part-byte, put-length, put-inside, put-after}
 use Rattle.plan.specs.Form.{Row, planRows, headerBytes, bodyBytes, planBytes, headerAt, rowGroup, rowAt, rowPut, rowsPut, cleared, noRow, rowCount}
 use Rattle.plan.specs.Rows.{Formed, Stands, header, row-length, row-past, row-stands, header-other, stands-other}
@@ -100,13 +99,6 @@ unfolding noRow zeros
 one-there plan i some =
     all-not (λ k. eqb (getD plan (headerAt i + k) 0) 0) headerBytes 0 (omega arith) (rw add-zero (ne-eqb (rowGroup plan i) 0 (λ e. omega arith)))
 
-none-below : (p : ℕ → Bool) (n : ℕ) → ((k : ℕ) → k < n → p k ≡ false) → any p n ≡ false
-none-below p n f = go (any p n) refl
-  where
-    go : (b : Bool) → any p n ≡ b → b ≡ false
-    go true e = let (k, l, h) = any-at p n e in absurd (not-both (p k) h (f k l))
-    go false e = refl
-
 -- rows in a cleared plan: the count of rows is theirs
 module _ (rs : List Row) (plan : List ℕ) (long : planBytes ≤ length plan) (room : length rs ≤ planRows) (formed : Each Formed rs)
     (grouped : Each (λ r. 1 ≤ r .group) rs) where
@@ -132,6 +124,6 @@ module _ (rs : List Row) (plan : List ℕ) (long : planBytes ≤ length plan) (r
   unfolding rowCount filled
   rows-count =
       ⊎-elim
-      (λ e. first-none (noRow filled) planRows (subst (λ (n : ℕ). any (noRow filled) n ≡ false) e (none-below (noRow filled) (length rs) row-there)) ∙ sym e)
-      (λ l. first-hit (noRow filled) planRows (length rs) l (none-below (noRow filled) (length rs) row-there) (no-row-there l))
+      (λ e. first-none (noRow filled) planRows (subst (λ (n : ℕ). any (noRow filled) n ≡ false) e (any-false (noRow filled) (length rs) row-there)) ∙ sym e)
+      (λ l. first-hit (noRow filled) planRows (length rs) l (any-false (noRow filled) (length rs) row-there) (no-row-there l))
       (eq-or-lt-of-le room)
