@@ -48,6 +48,9 @@ Ranged path (Existing d j i slash) = Unit {0}
 Ranged path (Missing d a e slash) = (a ≤ e) × (e ≤ length path)
 Ranged path Nothing = Unit {0}
 
+pub missing-range : (path : List ℕ) (f : Found) (d a e : ℕ) (slash : Bool) → Ranged path f → f ≡ Missing d a e slash → (a ≤ e) × (e ≤ length path)
+missing-range path f d a e slash ranged is = subst (λ (x : Found). Ranged path x) is ranged
+
 -- A state that can be read: some component is left of a path that is short enough.
 pub record Fit (w : Walk) : Type 0 where
   pub within : w .at ≤ w .len

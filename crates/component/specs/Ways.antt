@@ -8,6 +8,7 @@ use native.Mathlib.Omega.{arith}
 use lib.Dec.{ltb, leb}
 use lib.ListN.{length}
 use borrow.Author.Tests.{ltb-true, ltb-false, leb-false, not-true, not-false}
+use Rattle.seq.specs.Truth.{by-test}
 use Rattle.layout.specs.View.{View, isDirectory, isSymlink}
 use Rattle.paths.specs.declared.request.Credentials.{Credentials}
 use Rattle.paths.specs.Permission.{searchBit, allows}
@@ -18,28 +19,23 @@ use Rattle.component.specs.declared.state.Final.the-variants.{MustExist,
 use Rattle.component.specs.Step.{pathLimit, linkLimit, Position, Step, existing, missing, refuse, names, move, splice, follow, lack, miss, enter, arrive, hit, seek, dots, read, inside, step}
 
 -- How the component that stands first at w leaves the walk by x.
-pub data Way (v : View) (w : Position) (x : Step) : Type 0 where
-  refuses : (n : ℕ) → n ≢ 0 → x ≡ refuse n w → Way v w x
-  moves : (d : ℕ) → bare (behind (w .rest)) ≡ false → x ≡ move w (behind (w .rest)) d → Way v w x
+pub data Way (v : View) (last : Final) (w : Position) (x : Step) : Type 0 where
+  refuses : (n : ℕ) → n ≢ 0 → x ≡ refuse n w → Way v last w x
+  moves : (d : ℕ) → bare (behind (w .rest)) ≡ false → x ≡ move w (behind (w .rest)) d → Way v last w x
   follows : (i : ℕ) → isSymlink v i ≡ true → bare (behind (w .rest)) ≡ false → w .links < linkLimit
       → length (v .text (v .field i)) + length (behind (w .rest)) ≤ pathLimit
-      → x ≡ splice w (v .text (v .field i)) (behind (w .rest)) → Way v w x
+      → x ≡ splice w (v .text (v .field i)) (behind (w .rest)) → Way v last w x
   exists : (slash : Bool) → isDirectory v (w .directory) ≡ true
       → lookup v (w .directory) (component (w .rest)) < v .entries
       → (slash ≡ true → isDirectory v (v .target (lookup v (w .directory) (component (w .rest)))) ≡ true)
       → x ≡ names w (existing (w .directory) (lookup v (w .directory) (component (w .rest))) (v .target (lookup v (w .directory) (component (w .rest)))) slash)
-      → Way v w x
-  lacks : (slash : Bool) → isDirectory v (w .directory) ≡ true
+      → Way v last w x
+  lacks : (slash : Bool) → last ≡ MayBeMissing → isDirectory v (w .directory) ≡ true
       → v .entries ≤ lookup v (w .directory) (component (w .rest))
       → length (component (w .rest)) ≤ v .room
       → (isDot (component (w .rest)) || isDotDot (component (w .rest))) ≡ false
       → x ≡ names w (missing (w .directory) (component (w .rest)) slash)
-      → Way v w x
-
--- a test, whichever way it falls
-by-test : (P : Step → Type 0) (b : Bool) (x y : Step) → (b ≡ true → P x) → (b ≡ false → P y) → P (cond b x y)
-by-test P true x y yes-b no-b = yes-b refl
-by-test P false x y yes-b no-b = no-b refl
+      → Way v last w x
 
 -- a slash behind a name that is not a directory has been refused
 slash-asks : (a d : Bool) → (a && not d) ≡ false → a ≡ true → d ≡ true
@@ -57,49 +53,49 @@ module _ (v : View) (who : Credentials) (last : Final) (w : Position) where
   abbrev slot : ℕ
   slot = lookup v (w .directory) name
 
-  way-refuse : (n : ℕ) → 0 < n → Way v w (refuse n w)
+  way-refuse : (n : ℕ) → 0 < n → Way v last w (refuse n w)
   way-refuse n some = refuses n (λ e. omega arith) refl
 
-  way-follow : (i : ℕ) → isSymlink v i ≡ true → bare rest ≡ false → Way v w (follow w (v .text (v .field i)) rest)
+  way-follow : (i : ℕ) → isSymlink v i ≡ true → bare rest ≡ false → Way v last w (follow w (v .text (v .field i)) rest)
   way-follow i link more =
-      by-test (Way v w) (leb linkLimit (w .links)) _ _ (λ e. way-refuse 40 (omega arith)) (λ few.
-      by-test (Way v w) (ltb pathLimit (length (v .text (v .field i)) + length rest)) _ _ (λ e. way-refuse 36 (omega arith)) (λ short.
+      by-test (Way v last w) (leb linkLimit (w .links)) _ _ (λ e. way-refuse 40 (omega arith)) (λ few.
+      by-test (Way v last w) (ltb pathLimit (length (v .text (v .field i)) + length rest)) _ _ (λ e. way-refuse 36 (omega arith)) (λ short.
       follows i link more (leb-false _ _ few) (ltb-false _ _ short) refl))
 
-  way-enter : (i : ℕ) → bare rest ≡ false → Way v w (enter v w rest i)
-  way-enter i more = by-test (Way v w) (isSymlink v i) _ _ (λ link. way-follow i link more) (λ e. moves i more refl)
+  way-enter : (i : ℕ) → bare rest ≡ false → Way v last w (enter v w rest i)
+  way-enter i more = by-test (Way v last w) (isSymlink v i) _ _ (λ link. way-follow i link more) (λ e. moves i more refl)
 
   module _ (place : isDirectory v (w .directory) ≡ true) where
-    way-arrive : slot < v .entries → Way v w (arrive v w rest slot)
+    way-arrive : slot < v .entries → Way v last w (arrive v w rest slot)
     way-arrive below =
-        by-test (Way v w) (not (empty rest) && not (isDirectory v (v .target slot))) _ _ (λ e. way-refuse 20 (omega arith)) (λ e.
+        by-test (Way v last w) (not (empty rest) && not (isDirectory v (v .target slot))) _ _ (λ e. way-refuse 20 (omega arith)) (λ e.
         exists (not (empty rest)) place below (slash-asks (not (empty rest)) (isDirectory v (v .target slot)) e) refl)
 
-    way-hit : slot < v .entries → Way v w (hit v w rest slot)
+    way-hit : slot < v .entries → Way v last w (hit v w rest slot)
     way-hit below =
-        by-test (Way v w) (not (bare rest)) _ _ (λ more. way-enter (v .target slot) (not-true (bare rest) more)) (λ e. way-arrive below)
+        by-test (Way v last w) (not (bare rest)) _ _ (λ more. way-enter (v .target slot) (not-true (bare rest) more)) (λ e. way-arrive below)
 
     module _ (short : length name ≤ v .room) (plain : (isDot name || isDotDot name) ≡ false) where
-      way-lack : (f : Final) → v .entries ≤ slot → Way v w (lack f w name rest)
-      way-lack MustExist none = way-refuse 2 (omega arith)
-      way-lack MayBeMissing none = lacks (not (empty rest)) place none short plain refl
+      way-lack : (f : Final) → last ≡ f → v .entries ≤ slot → Way v last w (lack f w name rest)
+      way-lack MustExist is none = way-refuse 2 (omega arith)
+      way-lack MayBeMissing is none = lacks (not (empty rest)) is place none short plain refl
 
-      way-seek : Way v w (seek v last w name rest)
+      way-seek : Way v last w (seek v last w name rest)
       way-seek =
-          by-test (Way v w) (ltb slot (v .entries)) _ _ (λ hit-one. way-hit (ltb-true _ _ hit-one)) (λ none.
-          by-test (Way v w) (not (bare rest)) _ _ (λ e. way-refuse 2 (omega arith)) (λ e. way-lack last (ltb-false _ _ none)))
+          by-test (Way v last w) (ltb slot (v .entries)) _ _ (λ hit-one. way-hit (ltb-true _ _ hit-one)) (λ none.
+          by-test (Way v last w) (not (bare rest)) _ _ (λ e. way-refuse 2 (omega arith)) (λ e. way-lack last refl (ltb-false _ _ none)))
 
-    way-dots : Way v w (dots v w name rest)
-    way-dots = by-test (Way v w) (bare rest) _ _ (λ e. way-refuse 22 (omega arith)) (λ more. moves _ more refl)
+    way-dots : Way v last w (dots v w name rest)
+    way-dots = by-test (Way v last w) (bare rest) _ _ (λ e. way-refuse 22 (omega arith)) (λ more. moves _ more refl)
 
-    way-read : Way v w (read v last w name rest)
+    way-read : Way v last w (read v last w name rest)
     way-read =
-        by-test (Way v w) (ltb (v .room) (length name)) _ _ (λ e. way-refuse 36 (omega arith)) (λ short.
-        by-test (Way v w) (isDot name || isDotDot name) _ _ (λ e. way-dots) (λ plain. way-seek (ltb-false _ _ short) plain))
+        by-test (Way v last w) (ltb (v .room) (length name)) _ _ (λ e. way-refuse 36 (omega arith)) (λ short.
+        by-test (Way v last w) (isDot name || isDotDot name) _ _ (λ e. way-dots) (λ plain. way-seek (ltb-false _ _ short) plain))
 
-  pub step-way : Way v w (step v who last w)
+  pub step-way : Way v last w (step v who last w)
   unfolding step
   step-way =
-      by-test (Way v w) (not (isDirectory v (w .directory))) _ _ (λ e. way-refuse 20 (omega arith)) (λ place.
-      by-test (Way v w) (not (w .waived || allows v who (w .directory) searchBit)) _ _ (λ e. way-refuse 13 (omega arith)) (λ e.
+      by-test (Way v last w) (not (isDirectory v (w .directory))) _ _ (λ e. way-refuse 20 (omega arith)) (λ place.
+      by-test (Way v last w) (not (w .waived || allows v who (w .directory) searchBit)) _ _ (λ e. way-refuse 13 (omega arith)) (λ e.
       way-read (not-false (isDirectory v (w .directory)) place)))

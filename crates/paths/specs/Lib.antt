@@ -3,4 +3,5 @@ pub mod Path
 pub mod Permission
 pub mod Lookup
 pub mod PathLaws
+pub mod Plain
 pub mod Filled

@@ -2,11 +2,13 @@
 use mathlib.Core.Path.{_≡_}
 use mathlib.Core.Bool.{Bool, true, _&&_}
 use mathlib.Core.List.{List}
-use Prim.Native.Nat.{ℕ, _<_}
+use Prim.Native.Nat.{ℕ, _≤_, _<_}
+use native.Mathlib.Omega.{arith}
 use lib.Dec.{eqb}
-use Rattle.seq.specs.Truth.{and-left}
-use Rattle.seq.specs.Search.{first, first-passes}
-use Rattle.seq.specs.Bytes.{sameBytes}
+use borrow.Author.Tests.{eqb-true}
+use Rattle.seq.specs.Truth.{and-left, and-right}
+use Rattle.seq.specs.Search.{first, first-le, first-passes}
+use Rattle.seq.specs.Bytes.{sameBytes, same-bytes}
 use Rattle.layout.specs.View.{View, entryUsed}
 
 -- the entry in slot j is in use, lies in directory d and has this name
@@ -17,9 +19,30 @@ isNamed v d name j = entryUsed v j && eqb (v .parent j) d && sameBytes (v .name 
 unfoldable pub lookup : View → ℕ → List ℕ → ℕ
 lookup v d name = first (isNamed v d name) (v .entries)
 
--- a slot that was found is in use
-pub lookup-used : (v : View) (d : ℕ) (name : List ℕ) (j : ℕ) → j ≡ lookup v d name → j < v .entries → entryUsed v j ≡ true
+-- What holds of a slot that a name was found in.
+pub record Held (v : View) (d : ℕ) (name : List ℕ) (j : ℕ) : Type 0 where
+  pub used : entryUsed v j ≡ true
+  pub parent : v .parent j ≡ d
+  pub named : v .name j ≡ name
+
+pub lookup-held : (v : View) (d : ℕ) (name : List ℕ) (j : ℕ) → j ≡ lookup v d name → j < v .entries → Held v d name j
 unfolding lookup isNamed
-lookup-used v d name j e l =
-    let here = first-passes (isNamed v d name) (v .entries) (rw e at l) in
-    rw e (and-left _ (eqb (v .parent (lookup v d name)) d) (and-left _ (sameBytes (v .name (lookup v d name)) name) here))
+lookup-held v d name j e below = record {
+  used = and-left (entryUsed v j) _ front;
+  parent = eqb-true _ _ (and-right (entryUsed v j) _ front);
+  named = same-bytes _ _ (and-right (entryUsed v j && eqb (v .parent j) d) _ here);
+}
+  where
+    here : (entryUsed v j && eqb (v .parent j) d && sameBytes (v .name j) name) ≡ true
+    here = rw e (first-passes (isNamed v d name) (v .entries) (rw e at below))
+
+    front : (entryUsed v j && eqb (v .parent j) d) ≡ true
+    front = and-left (entryUsed v j && eqb (v .parent j) d) _ here
+
+pub lookup-used : (v : View) (d : ℕ) (name : List ℕ) (j : ℕ) → j ≡ lookup v d name → j < v .entries → entryUsed v j ≡ true
+lookup-used v d name j e below = lookup-held v d name j e below .used
+
+-- where no slot was found, the answer is their number
+pub lookup-none : (v : View) (d : ℕ) (name : List ℕ) → v .entries ≤ lookup v d name → lookup v d name ≡ v .entries
+unfolding lookup
+lookup-none v d name above = let l = first-le (isNamed v d name) (v .entries) in omega arith

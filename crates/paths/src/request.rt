@@ -11,12 +11,17 @@ pub struct Credentials {
     pub group: u32,
 }
 
-// A request but for its two paths, which are handed over beside it. A start is a handle's number, or 255 for the current directory.
+// Where relative paths begin, old and new: a handle's number, or 255 for the current directory.
+pub struct Starts {
+    pub old: u8,
+    pub new: u8,
+}
+
+// A request but for its two paths, which are handed over beside it.
 pub struct Request {
     pub who: Credentials,
     pub current: u16,
-    pub old: u8,
-    pub new: u8,
+    pub starts: Starts,
     pub now: u64,
 }
 

@@ -1,16 +1,20 @@
 // The cases of the walk: two paths of a request, resolved on a consistent image.
 use crate::image;
 use crate::reader;
+use component::state::Found;
 use layout::Shape;
 use layout::contents::Contents;
 use libc::STDOUT_FILENO;
 use paths::request::Credentials;
 use paths::request::Request;
-use walk::state::Ending;
-use walk::state::Turn;
+use paths::request::Starts;
+use walk::resolve::Walked;
 ghost use mathlib.Core.Path.{_≡_};
+ghost use mathlib.Core.Bool.{true};
 ghost use lib.ListN.{length};
-ghost use Rattle.layout.specs.View.{Readable};
+ghost use Rattle.layout.specs.View.{viewOf, Readable};
+ghost use Rattle.paths.specs.Request.{requestGood};
+ghost use Rattle.component.specs.State.{Ranged};
 
 const NONE: usize = 65535;
 
@@ -44,57 +48,51 @@ fn print_name(name: &[u8]) {
     print_next(reader::checksum(name));
 }
 
-// The name in a range of the working path.
-fn print_range(path: &[u8], from: usize, to: usize) {
-    if from <= to {
-        if to <= path.len() {
-            print_name(&path[from..to]);
-        }
-    }
-}
-
 // What a walk has found.
-fn print_end(r: Turn) {
-    print_next(r.walk.directory);
-    let ending = r.ending;
-    match ending {
-        Ending::Existing { slot, inode, slash } => {
+fn print_found(r: Walked)
+    requires { ⌜ Ranged (r .path) (r .found) ⌝ }
+{
+    let found = r.found;
+    match found {
+        Found::Existing {
+            directory,
+            slot,
+            inode,
+            slash,
+        } => {
+            print_next(directory);
             print_next(slot);
             print_next(inode);
             print_slash(slash);
         }
-        Ending::Missing { from, to, slash } => {
+        Found::Missing {
+            directory,
+            from,
+            to,
+            slash,
+        } => {
+            print_next(directory);
             print_next(NONE);
             print_next(NONE);
             print_slash(slash);
-            let path = r.walk.path;
-            print_range(&path, from, to);
+            let path = r.path;
+            print_name(&path[from..to]);
         }
-        Ending::Refused(_) => reader::complain(b"a walk was refused with the number 0"),
-        Ending::Going => reader::complain(b"a walk did not end"),
+        Found::Nothing => reader::complain(b"a walk was refused with the number 0"),
     }
 }
 
 // Both walks of a request that is good.
 fn resolve(s: &[u8], h: Shape, q: Request, old: &[u8], new: &[u8])
-    requires { ⌜ Readable h (now s) ⌝ }
+    requires { ⌜ Readable h (now s) × (requestGood (viewOf h (now s)) q (now old) (now new) ≡ true) ⌝ }
 {
-    let current = q.current as usize;
-    let first = walk::resolve::walk(s, h, q.who, current, q.old as usize, old);
-    let number = walk::resolve::old_number(first);
-    if number != 0 {
-        print_counts(number as u64, walk::resolve::steps(first), 0);
-        return;
-    }
-    let second = walk::resolve::walk(s, h, q.who, current, q.new as usize, new);
-    print_counts(
-        walk::resolve::new_number(second) as u64,
-        walk::resolve::steps(first),
-        walk::resolve::steps(second),
-    );
-    if walk::resolve::new_number(second) == 0 {
-        print_end(first);
-        print_end(second);
+    let r = walk::both::both(s, h, q, old, new);
+    let first = r.old;
+    let second = r.new;
+    print_counts(second.number as u64, first.steps, second.steps);
+    if second.number == 0 {
+        print_found(first);
+        print_found(second);
     }
 }
 
@@ -172,11 +170,14 @@ fn request(fd: i32, s: &[u8]) -> bool {
         user: reader::joined(b[0], b[1], b[2], b[3]) as u32,
         group: reader::joined(b[4], b[5], b[6], b[7]) as u32,
     };
+    let starts = Starts {
+        old: b[10],
+        new: b[11],
+    };
     let q = Request {
         who,
         current: reader::pair(b[8], b[9]),
-        old: b[10],
-        new: b[11],
+        starts,
         now: 0,
     };
     both(

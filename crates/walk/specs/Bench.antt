@@ -13,38 +13,42 @@ use Rattle.layout.specs.Bench.{bench}
 use Rattle.paths.specs.Permission.{allows}
 use Rattle.paths.specs.Path.{slashes, nameBytes}
 use Rattle.paths.specs.Lookup.{isNamed, lookup}
-use Rattle.walk.specs.Step.{End, existing, missing, refused, step}
-use Rattle.walk.specs.Walk.{noHandle, walkFrom, walk}
+use Rattle.component.specs.Step.{Finding, End, existing, missing, nothing, step}
+use Rattle.component.specs.declared.state.Final.{Final}
+use Rattle.component.specs.declared.state.Final.the-variants.{MustExist, MayBeMissing}
+use Rattle.walk.specs.Walk.{noHandle, halt, walkFrom, walk}
 
 abbrev pub benchView : View
 benchView = viewOf (shapeOf bench) bench
 
 -- user and group 100, in the root
-abbrev pub benchWalk : ℕ → List ℕ → End
-benchWalk start path = walk benchView (record { user = 100; group = 100 }) 0 start path
+abbrev pub benchWalk : Final → ℕ → List ℕ → End
+benchWalk last start path = walk benchView (record { user = 100; group = 100 }) last 0 start path
 
-abbrev pub halted : ℕ → End
-halted number = refused (record { number = number; steps = 0 })
+abbrev pub found : ℕ → Finding → End
+found steps f = record { number = 0; steps = steps; found = f }
 
--- the paths in turn: /a/f, /a/k, /s/f, /k, g at handle 0 and at handle 9, /, and none at all
+-- the paths in turn: /a/f as old; /a/k, and then as old; /s/f, /k, g at handle 0 and at handle 9, /, and none at all
 pub walks :
-    benchWalk noHandle (47 ∷ 97 ∷ 47 ∷ 102 ∷ [])
-    ∷ benchWalk noHandle (47 ∷ 97 ∷ 47 ∷ 107 ∷ [])
-    ∷ benchWalk noHandle (47 ∷ 115 ∷ 47 ∷ 102 ∷ [])
-    ∷ benchWalk noHandle (47 ∷ 107 ∷ [])
-    ∷ benchWalk 0 (103 ∷ [])
-    ∷ benchWalk 9 (103 ∷ [])
-    ∷ benchWalk noHandle (47 ∷ [])
-    ∷ benchWalk noHandle []
+    benchWalk MustExist noHandle (47 ∷ 97 ∷ 47 ∷ 102 ∷ [])
+    ∷ benchWalk MayBeMissing noHandle (47 ∷ 97 ∷ 47 ∷ 107 ∷ [])
+    ∷ benchWalk MustExist noHandle (47 ∷ 97 ∷ 47 ∷ 107 ∷ [])
+    ∷ benchWalk MustExist noHandle (47 ∷ 115 ∷ 47 ∷ 102 ∷ [])
+    ∷ benchWalk MayBeMissing noHandle (47 ∷ 107 ∷ [])
+    ∷ benchWalk MustExist 0 (103 ∷ [])
+    ∷ benchWalk MustExist 9 (103 ∷ [])
+    ∷ benchWalk MayBeMissing noHandle (47 ∷ [])
+    ∷ benchWalk MayBeMissing noHandle []
     ∷ []
-    ≡ existing 1 3 3 false 2
-    ∷ missing 1 (107 ∷ []) false 2
-    ∷ existing 1 3 3 false 3
-    ∷ missing 0 (107 ∷ []) false 1
-    ∷ existing 2 5 4 false 1
-    ∷ halted 9
-    ∷ halted 16
-    ∷ halted 2
+    ≡ found 2 (existing 1 3 3 false)
+    ∷ found 2 (missing 1 (107 ∷ []) false)
+    ∷ record { number = 2; steps = 2; found = nothing }
+    ∷ found 3 (existing 1 3 3 false)
+    ∷ found 1 (missing 0 (107 ∷ []) false)
+    ∷ found 1 (existing 2 5 4 false)
+    ∷ halt 9
+    ∷ halt 16
+    ∷ halt 2
     ∷ []
 unfolding bench any all first part sameBytes numberAt bytesOf shapeOf recordAt viewOf allows slashes nameBytes isNamed lookup step walkFrom walk
 walks = refl

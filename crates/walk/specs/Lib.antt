@@ -1,7 +1,6 @@
-pub mod Step
 pub mod Walk
 pub mod Bound
+pub mod Ends
+pub mod Answer
+pub mod Both
 pub mod Bench
-pub mod State
-pub mod Splice
-pub mod Turns

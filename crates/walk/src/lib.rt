@@ -1,4 +1,4 @@
-// The walk of a path: component by component, symlinks spliced in.
+// The walk of a path from its start to its end, and both walks of a request.
+pub mod both;
 pub mod resolve;
-pub mod state;
-pub mod step;
+pub mod start;

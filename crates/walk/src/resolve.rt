@@ -1,91 +1,68 @@
 // The walk of a whole path: where it begins, component after component, how it ends.
-use crate::state::Ending;
-use crate::state::Refusal;
-use crate::state::Turn;
-use crate::state::Walk;
+use crate::start::Start;
+use component::state;
+use component::state::Final;
+use component::state::Found;
+use component::state::Leave;
+use component::state::Walk;
 use layout::Shape;
 use paths::path;
 use paths::request::Credentials;
 ghost use mathlib.Core.Path.{_≡_};
-ghost use mathlib.Core.Bool.{false};
-ghost use Prim.Native.Nat.{_≤_, _<_};
+ghost use mathlib.Core.Bool.{true};
+ghost use Prim.Native.Nat.{_≤_};
 ghost use lib.ListN.{length};
-ghost use Rattle.layout.specs.Contents.{Laid};
+ghost use Rattle.seq.specs.Bytes.{noZero};
 ghost use Rattle.layout.specs.View.{viewOf, Readable};
-ghost use Rattle.walk.specs.Step.{ends};
-ghost use Rattle.walk.specs.Walk.{stepLimit, walkFrom, startDirectory, startWaived, startClosed, halt, walk, oldNumber, newNumber, stepsOf};
 ghost use Rattle.paths.specs.Filled.{filled};
-ghost use Rattle.walk.specs.State.{positionOf, beginning, endOf, Fit};
+ghost use Rattle.component.specs.Step.{pathLimit, stepLimit};
+ghost use Rattle.component.specs.State.{positionOf, beginning, Fit};
+ghost use Rattle.walk.specs.Walk.{halt, walkFrom, begun, walk};
+ghost use Rattle.walk.specs.Answer.{endOf, answerOf, Ended, Answered};
+
+// How a walk ended: the number it is answered with, 0 unless it was refused; the component checks begun; what the path names; and the
+// working path, which a missing name is a range of.
+pub struct Walked {
+    pub number: u8,
+    pub steps: usize,
+    pub found: Found,
+    pub path: [u8; 256],
+}
+
+// The answer of a walk that ends here.
+fn ended(w: Walk, number: u8, found: Found) -> Walked
+    ensures { λ r. ⌜ r ≡ answerOf w number found ⌝ }
+{
+    let path = w.path;
+    Walked {
+        number,
+        steps: w.steps,
+        found,
+        path,
+    }
+}
 
 // Goes through the components that are left. Each makes the rest shorter or follows one of few symlinks, so there is an end.
-fn run(s: &[u8], h: Shape, who: Credentials, w: Walk) -> Turn
+fn run(s: &[u8], h: Shape, who: Credentials, last: Final, w: Walk) -> Walked
     requires { ⌜ Readable h (now s) × Fit w × (w .links ≡ 0) × (w .steps ≡ 0) ⌝ }
-    ensures { λ r. ⌜ endOf r ≡ walkFrom (viewOf h (now (s .entry))) who stepLimit (positionOf w) ⌝ }
+    ensures { λ r. ⌜ Ended r (walkFrom (viewOf h (now (s .entry))) who last stepLimit (positionOf w)) ⌝ }
 {
     let mut w = w;
     loop {
-        let r = crate::step::step(s, h, who, w);
-        let ending = r.ending;
+        let r = component::step::step(s, h, who, last, w);
+        let leave = r.leave;
         let next = r.walk;
-        if let Ending::Going = ending {
-            w = next;
-        } else {
-            return r;
+        match leave {
+            Leave::Goes => w = next,
+            Leave::Refuses(number) => return ended(next, number, Found::Nothing),
+            Leave::Finds(found) => return ended(next, 0, found),
         }
     }
 }
 
-// Whether a relative path begins at a handle that is closed or does not exist.
-fn start_closed(s: &[u8], h: Shape, start: usize, path: &[u8]) -> bool
-    requires { ⌜ Laid h (now s) ⌝ }
-    ensures { λ r. ⌜ r ≡ startClosed (viewOf h (now (s .entry))) start (now (path .entry)) ⌝ }
-{
-    if path::is_absolute(path) {
-        return false;
-    }
-    if start == 255 {
-        return false;
-    }
-    if h.handles <= start {
-        return true;
-    }
-    let r = layout::records::handle(s, h, start);
-    layout::handle::state(r) == 0
-}
-
-// The directory that a path begins in.
-fn start_directory(s: &[u8], h: Shape, current: usize, start: usize, path: &[u8]) -> usize
-    requires { ⌜ Laid h (now s) × (startClosed (viewOf h (now s)) start (now path) ≡ false) ⌝ }
-    ensures { λ r. ⌜ r ≡ startDirectory (viewOf h (now (s .entry))) current start (now (path .entry)) ⌝ }
-{
-    if path::is_absolute(path) {
-        return 0;
-    }
-    if start == 255 {
-        return current;
-    }
-    let r = layout::records::handle(s, h, start);
-    layout::handle::inode(r)
-}
-
-// Whether search permission is waived for its first component.
-fn start_waived(s: &[u8], h: Shape, start: usize, path: &[u8]) -> bool
-    requires { ⌜ Laid h (now s) × (startClosed (viewOf h (now s)) start (now path) ≡ false) ⌝ }
-    ensures { λ r. ⌜ r ≡ startWaived (viewOf h (now (s .entry))) start (now (path .entry)) ⌝ }
-{
-    if path::is_absolute(path) {
-        return false;
-    }
-    if start == 255 {
-        return false;
-    }
-    let r = layout::records::handle(s, h, start);
-    layout::handle::state(r) == 2
-}
-
 // A working path that holds this path, and then zeros.
 fn working(path: &[u8]) -> [u8; 256]
-    requires { ⌜ length (now path) ≤ 255 ⌝ }
+    requires { ⌜ length (now path) ≤ pathLimit ⌝ }
     ensures { λ r. ⌜ r ≡ filled (now (path .entry)) ⌝ }
 {
     let mut bytes = [0u8; 256];
@@ -93,9 +70,9 @@ fn working(path: &[u8]) -> [u8; 256]
     bytes
 }
 
-// The state in which a walk begins, or that stands beside a refusal where none does.
+// The state in which a walk begins.
 fn begin(path: &[u8], directory: usize, waived: bool) -> Walk
-    requires { ⌜ length (now path) ≤ 255 ⌝ }
+    requires { ⌜ length (now path) ≤ pathLimit ⌝ }
     ensures { λ r. ⌜ r ≡ beginning (now (path .entry)) directory waived ⌝ }
 {
     let bytes = working(path);
@@ -110,100 +87,77 @@ fn begin(path: &[u8], directory: usize, waived: bool) -> Walk
     }
 }
 
-// A path that no walk begins on.
-fn stop(number: u8) -> Turn
-    ensures { λ r. ⌜ endOf r ≡ halt number ⌝ }
+// A walk that does not begin.
+pub fn stop(number: u8) -> Walked
+    ensures { λ r. ⌜ Ended r (halt number) ⌝ }
 {
-    let walk = begin(b"", 0, false);
-    let refusal = Refusal { number, steps: 0 };
-    Turn {
-        walk,
-        ending: Ending::Refused(refusal),
+    Walked {
+        number,
+        steps: 0,
+        found: Found::Nothing,
+        path: [0u8; 256],
+    }
+}
+
+// The walk from a start, which a closed handle and a path of slashes only do not have.
+fn from_start(
+    s: &[u8],
+    h: Shape,
+    who: Credentials,
+    last: Final,
+    start: Start,
+    path: &[u8],
+) -> Walked
+    requires { ⌜ Readable h (now s) × (length (now path) ≤ pathLimit) ⌝ }
+    ensures { λ r. ⌜ Ended r (begun (viewOf h (now (s .entry))) who last start (now (path .entry))) ⌝ }
+{
+    match start {
+        Start::Closed => stop(9),
+        Start::At { directory, waived } => {
+            if path::is_bare(path) {
+                return stop(16);
+            }
+            let w = begin(path, directory, waived);
+            run(s, h, who, last, w)
+        }
     }
 }
 
 // The walk of a path from the current directory and a start.
-pub fn walk(s: &[u8], h: Shape, who: Credentials, current: usize, start: usize, path: &[u8]) -> Turn
+fn resolve(
+    s: &[u8],
+    h: Shape,
+    who: Credentials,
+    last: Final,
+    current: usize,
+    start: usize,
+    path: &[u8],
+) -> Walked
     requires { ⌜ Readable h (now s) ⌝ }
-    ensures { λ r. ⌜ endOf r ≡ walk (viewOf h (now (s .entry))) who current start (now (path .entry)) ⌝ }
+    ensures { λ r. ⌜ Ended r (walk (viewOf h (now (s .entry))) who last current start (now (path .entry))) ⌝ }
 {
     if path.len() == 0 {
         return stop(2);
     }
-    if 255 < path.len() {
+    if state::PATH_LIMIT < path.len() {
         return stop(36);
     }
-    if start_closed(s, h, start, path) {
-        return stop(9);
-    }
-    if path::is_bare(path) {
-        return stop(16);
-    }
-    let directory = start_directory(s, h, current, start, path);
-    let waived = start_waived(s, h, start, path);
-    let w = begin(path, directory, waived);
-    run(s, h, who, w)
+    let from = crate::start::locate(s, h, current, start, path);
+    from_start(s, h, who, last, from, path)
 }
 
-// The number of the old path's walk: 0 where it names something.
-pub fn old_number(r: Turn) -> u8
-    ensures { λ x. ⌜ x ≡ oldNumber (endOf r) ⌝ }
+// The same, with all that a caller may rely on: the bound of the count, and what is known of each end.
+pub fn walk(
+    s: &[u8],
+    h: Shape,
+    who: Credentials,
+    last: Final,
+    current: usize,
+    start: usize,
+    path: &[u8],
+) -> Walked
+    requires { ⌜ Readable h (now s) × (noZero (now path) ≡ true) ⌝ }
+    ensures { λ r. ⌜ Answered (viewOf h (now (s .entry))) last r (walk (viewOf h (now (s .entry))) who last current start (now (path .entry))) ⌝ }
 {
-    let ending = r.ending;
-    match ending {
-        Ending::Existing {
-            slot: _,
-            inode: _,
-            slash: _,
-        } => 0,
-        Ending::Missing {
-            from: _,
-            to: _,
-            slash: _,
-        } => 2,
-        Ending::Refused(refusal) => refusal.number,
-        Ending::Going => 0,
-    }
-}
-
-// The number of the new path's walk: 0 where it names something or a name that is missing.
-pub fn new_number(r: Turn) -> u8
-    ensures { λ x. ⌜ x ≡ newNumber (endOf r) ⌝ }
-{
-    let ending = r.ending;
-    match ending {
-        Ending::Existing {
-            slot: _,
-            inode: _,
-            slash: _,
-        } => 0,
-        Ending::Missing {
-            from: _,
-            to: _,
-            slash: _,
-        } => 0,
-        Ending::Refused(refusal) => refusal.number,
-        Ending::Going => 0,
-    }
-}
-
-// The component checks that a walk began.
-pub fn steps(r: Turn) -> usize
-    ensures { λ x. ⌜ x ≡ stepsOf (endOf r) ⌝ }
-{
-    let ending = r.ending;
-    match ending {
-        Ending::Existing {
-            slot: _,
-            inode: _,
-            slash: _,
-        } => r.walk.steps,
-        Ending::Missing {
-            from: _,
-            to: _,
-            slash: _,
-        } => r.walk.steps,
-        Ending::Refused(refusal) => refusal.steps,
-        Ending::Going => r.walk.steps,
-    }
+    resolve(s, h, who, last, current, start, path)
 }
