@@ -1,0 +1,10 @@
+pub mod Kinds
+pub mod Tests
+pub mod WayUp
+pub mod ConsistentView
+pub mod Edit
+pub mod Change
+pub mod TextChange
+pub mod Settled
+pub mod Moved
+pub mod Finished
