@@ -1,4 +1,4 @@
--- A change of an image: some slots written, some inodes freed, made or given another parent, all else kept. What it leaves of the rules on the tree and on handles, whatever the call. Assumes nothing.
+-- A change of an image: slots written, inodes freed, made or given another parent, all else kept; what it leaves of the rules on tree and handles, whatever the call. Assumes nothing.
 use mathlib.Core.Path.{_≡_, refl, sym, _∙_}
 use mathlib.Core.Logic.{_≢_, _⊎_, inl, inr, ⊎-elim}
 use mathlib.Core.List.{List}

@@ -8,3 +8,11 @@ pub mod TextChange
 pub mod Settled
 pub mod Moved
 pub mod Finished
+pub mod Renamed
+pub mod Formed
+pub mod Bodies
+pub mod FinishedBodies
+pub mod Refusals
+pub mod Writers
+pub mod Written
+pub mod Bench
