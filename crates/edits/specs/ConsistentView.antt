@@ -5,7 +5,7 @@ use Prim.Native.Nat.{ℕ, _+_, _≤_, _<_}
 use native.Mathlib.Decide.{ℕ-discrete}
 use native.Mathlib.Omega.{arith}
 use Rattle.seq.specs.Count.{count-some}
-use Rattle.seq.specs.Climb.{up}
+use Rattle.seq.specs.Climb.{up, no-circle}
 use Rattle.layout.specs.View.{View}
 use Rattle.tree.specs.Tree.{targets, entriesOf, childDirectories}
 use Rattle.tree.specs.Inode.{linkLimit}
@@ -93,3 +93,11 @@ module _ (v : View) (placed : Placed v) where
           let (j, u, e) = entry-of i d n in
           let f : v .field i ≡ v .parent j = ap (v .field) (sym e) ∙ placed .entry j u .above (rw e d) in
           rw f (placed .entry j u .parent)
+
+-- no directory is the one that holds it, nor above it
+pub not-above-parent : (v : View) → ConsistentView v → (j : ℕ) → EntryUsed v j → IsDirectory v (v .target j) → (k : ℕ) → up (v .field) k (v .parent j) ≢ v .target j
+unfolding up
+not-above-parent v good j u d k e =
+    let l = good .placed .entry j u in
+    let (n, way) = good .leads (v .target j) d in
+    l .below-root (no-circle (v .field) 0 (v .target j) k (good .placed .top) (ap (up (v .field) k) (l .above d) ∙ e) n way)

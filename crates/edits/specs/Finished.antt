@@ -12,7 +12,7 @@ use Rattle.tree.specs.Tree.{targets, entriesOf, holdsDirectory, childDirectorie
 use Rattle.tree.specs.Inode.{linkLimit}
 use Rattle.edits.specs.Kinds.{IsDirectory, IsUsed, IsLeaf, EntryUsed, HandleOpen, directory-used, kind?, entry-used?}
 use Rattle.edits.specs.Tests.{is-targets, no-targets, same-target, is-holds, no-holds}
-use Rattle.edits.specs.ConsistentView.{EntryLinked, ConsistentView}
+use Rattle.edits.specs.ConsistentView.{EntryLinked, ConsistentView, not-above-parent}
 use Rattle.edits.specs.Edit.{SameInode, Edit, was, stayed, entry-was, linked-new, entries-edited}
 use Rattle.edits.specs.Change.{Change, below, same-was, children-changed, handles-same}
 use Rattle.edits.specs.TextChange.{TextChange, texts-freed}
@@ -47,7 +47,7 @@ module _ {v : View} {old new moved from into : ℕ} {called : List ℕ} (good : 
       go (yes d) = ok .empty u d j l e
       go (no n) = n (rw e at (good .placed .entry j l .parent))
 
-  -- so neither parent is replaced
+  -- The records that a rename writes are different ones: neither parent is replaced, nor is the moved inode, and that is neither parent.
   pub from-stays : Replaced v new from → ⊥
   from-stays (u, e) = nothing-in u old (ok .old-used) (ok .old-parent ∙ sym e)
 
@@ -56,6 +56,15 @@ module _ {v : View} {old new moved from into : ℕ} {called : List ℕ} (good : 
 
   pub moved-stays : Replaced v new moved → ⊥
   moved-stays (u, e) = ok .other u e
+
+  pub moved-not-from : moved ≢ from
+  unfolding up
+  moved-not-from e =
+      not-above-parent v good old (ok .old-used) (rw (ok .old-target, e) from-directory) 0 (ok .old-parent ∙ sym e ∙ sym (ok .old-target))
+
+  pub moved-not-into : moved ≢ into
+  unfolding up
+  moved-not-into e = ok .not-above 0 (sym e)
 
   module _ {w : View} (m : Moved v w old new moved from into called) where
     edit : Edit v w slots
