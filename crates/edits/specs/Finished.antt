@@ -30,13 +30,13 @@ module _ {v : View} {old new moved from into : ℕ} {called : List ℕ} (good : 
   old-linked : EntryLinked v old
   old-linked = good .placed .entry old (ok .old-used)
 
-  from-directory : IsDirectory v from
+  pub from-directory : IsDirectory v from
   from-directory = rw (ok .old-parent) at (old-linked .parent)
 
   moved-used : IsUsed v moved
   moved-used = rw (ok .old-target) at (old-linked .target)
 
-  moved-below-root : moved ≢ 0
+  pub moved-below-root : moved ≢ 0
   moved-below-root e = old-linked .below-root (ok .old-target ∙ e)
 
   -- nothing lies in the replaced inode
