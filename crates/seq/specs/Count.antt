@@ -110,7 +110,7 @@ module _ (p : ℕ → Bool) (n : ℕ) where
       omega (arith, count-one p (without p k) n k l (λ j m. without-else p k j), ap bit here, ap bit (without-here p k))
 
   -- one that passes is counted
-  pub count-at : (k : ℕ) → k < n → p k ≡ true → 1 ≤ count p n
+  count-at : (k : ℕ) → k < n → p k ≡ true → 1 ≤ count p n
   count-at k l here = omega (arith, count-without k l here)
 
   -- so a count of 0 says that none passes

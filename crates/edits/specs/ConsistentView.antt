@@ -1,0 +1,103 @@
+-- What the records of a consistent image say of each other, as facts over its view, one field for each rule. Assumes nothing.
+use mathlib.Core.Path.{_≡_, sym, ap, _∙_}
+use mathlib.Core.Logic.{_≢_}
+use Prim.Native.Nat.{ℕ, _+_, _≤_, _<_}
+use native.Mathlib.Decide.{ℕ-discrete}
+use native.Mathlib.Omega.{arith}
+use Rattle.seq.specs.Count.{count-some}
+use Rattle.seq.specs.Climb.{up, no-circle}
+use Rattle.layout.specs.View.{View}
+use Rattle.tree.specs.Tree.{targets, entriesOf, childDirectories}
+use Rattle.tree.specs.Inode.{linkLimit}
+use Rattle.edits.specs.Kinds.{IsKind, IsDirectory, IsSymlink, IsUsed, IsLeaf, EntryUsed, TextUsed, HandleOpen}
+use Rattle.edits.specs.Tests.{targets-is}
+
+-- what an entry in use names
+pub record EntryLinked (v : View) (j : ℕ) : Type 0 where
+  -- rule 28
+  pub below-root : v .target j ≢ 0
+  -- rule 29
+  pub parent : IsDirectory v (v .parent j)
+  -- rule 30
+  pub target : IsUsed v (v .target j)
+  -- rule 35
+  pub above : IsDirectory v (v .target j) → v .field (v .target j) ≡ v .parent j
+  -- rule 41
+  pub system : (IsDirectory v (v .target j) → ⊥) → v .system (v .target j) ≡ v .system (v .parent j)
+
+-- the tree, but for the way up
+pub record Placed (v : View) : Type 0 where
+  -- rule 16
+  pub top : v .field 0 ≡ 0
+  -- rule 27
+  pub root : IsDirectory v 0
+  -- rules 28 to 30, 35 and 41
+  pub entry : (j : ℕ) → EntryUsed v j → EntryLinked v j
+  -- rule 34
+  pub one-entry : (i : ℕ) → IsDirectory v i → i ≢ 0 → entriesOf v i ≡ 1
+
+-- each inode by itself, and its link count
+pub record Counted (v : View) : Type 0 where
+  -- rule 13
+  pub kind : (i : ℕ) → i < v .inodes → v .kind i ≤ 3
+  -- rule 15
+  pub plain : (i : ℕ) → IsKind v i 1 → v .field i ≡ 0
+  -- rule 26
+  pub mode : (i : ℕ) → IsUsed v i → v .mode i < 4096
+  -- rule 37
+  pub children : (i : ℕ) → IsDirectory v i → v .links i ≡ 2 + childDirectories v i
+  -- rule 38
+  pub entries : (i : ℕ) → IsLeaf v i → v .links i ≡ entriesOf v i
+  -- rule 39
+  pub linked : (i : ℕ) → IsLeaf v i → 1 ≤ v .links i
+  -- rule 40
+  pub within : (i : ℕ) → IsUsed v i → v .links i ≤ linkLimit
+
+-- symlinks and their texts
+pub record Texts (v : View) : Type 0 where
+  -- rule 42
+  pub used : (i : ℕ) → IsSymlink v i → TextUsed v (v .field i)
+  -- rule 43
+  pub own : (i k : ℕ) → IsSymlink v i → IsSymlink v k → v .field i ≡ v .field k → i ≡ k
+  -- rule 45
+  pub owned : (t : ℕ) → TextUsed v t → (i : ℕ) × IsSymlink v i × (v .field i ≡ t)
+
+-- The facts of a consistent image that its view has; those of each record's own bytes are in Formed.antt.
+pub record ConsistentView (v : View) : Type 0 where
+  pub placed : Placed v
+  pub counted : Counted v
+  -- rule 33
+  pub distinct : (i j : ℕ) → EntryUsed v i → EntryUsed v j → v .parent i ≡ v .parent j → v .name i ≡ v .name j → i ≡ j
+  -- rule 36
+  pub leads : (i : ℕ) → IsDirectory v i → (k : ℕ) × (up (v .field) k i ≡ 0)
+  pub texts : Texts v
+  -- rule 46
+  pub handles : (n : ℕ) → HandleOpen v n → IsUsed v (v .opened n)
+
+module _ (v : View) (placed : Placed v) where
+  -- a directory other than the root has an entry
+  entry-of : (i : ℕ) → IsDirectory v i → i ≢ 0 → (j : ℕ) × EntryUsed v j × (v .target j ≡ i)
+  unfolding entriesOf
+  entry-of i d n =
+      let (j, l, t) = count-some (targets v i) (v .entries) (omega (arith, placed .one-entry i d n)) in
+      let (u, e) = targets-is v i j t in
+      (j, (l, u), e)
+
+  -- so its field names a directory, and so does the root's
+  pub parent-directory : (i : ℕ) → IsDirectory v i → IsDirectory v (v .field i)
+  parent-directory i d = go (ℕ-discrete i 0)
+    where
+      go : Dec (i ≡ 0) → IsDirectory v (v .field i)
+      go (yes e) = rw (ap (v .field) e ∙ placed .top) (placed .root)
+      go (no n) =
+          let (j, u, e) = entry-of i d n in
+          let f : v .field i ≡ v .parent j = ap (v .field) (sym e) ∙ placed .entry j u .above (rw e d) in
+          rw f (placed .entry j u .parent)
+
+-- no directory is the one that holds it, nor above it
+pub not-above-parent : (v : View) → ConsistentView v → (j : ℕ) → EntryUsed v j → IsDirectory v (v .target j) → (k : ℕ) → up (v .field) k (v .parent j) ≢ v .target j
+unfolding up
+not-above-parent v good j u d k e =
+    let l = good .placed .entry j u in
+    let (n, way) = good .leads (v .target j) d in
+    l .below-root (no-circle (v .field) 0 (v .target j) k (good .placed .top) (ap (up (v .field) k) (l .above d) ∙ e) n way)
