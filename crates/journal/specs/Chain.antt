@@ -2,24 +2,49 @@
 use mathlib.Core.Path.{_≡_, refl, sym, ap, _∙_}
 use mathlib.Core.Bool.{Bool, true, false}
 use mathlib.Core.List.{List, [], _∷_, _++_}
-use mathlib.Core.Option.{Option}
+use mathlib.Core.Option.{Option, none, some}
 use Prim.Native.Nat.{ℕ, suc, _+_, _≤_}
 use native.Mathlib.Omega.{arith}
 use lib.Dec.{T}
-use Rattle.journal.specs.Pick.{All, Empty, empty-null}
+use Rattle.journal.specs.Pick.{All, Empty, empty-null, Picked, pick}
+use Rattle.journal.specs.Turn.{lowest}
 use Rattle.journal.specs.Store.{Store, Rows}
 use Rattle.journal.specs.Change.{Change, goal}
-use Rattle.journal.specs.Events.{Event, own, through, St, decided, start}
+use Rattle.journal.specs.Events.{Event, apply, stray, crash, own, through, St, decided, start, turned, turn, tried, step}
 use Rattle.journal.specs.Obligations.{Obligations}
 use Rattle.journal.specs.Invariant.{Inv, whole, ended-of, start-inv, step-inv}
 use Rattle.journal.specs.Crash.{Safe, safe-of}
-use Rattle.journal.specs.Order.{NoCrash, step-phase}
 use Rattle.journal.specs.Queue.{Chain, end, call, Queue, one, calls, imageOf, decisions, stepped, over, onward, next, play}
+
+-- the event is no crash
+abbrev pub NoCrash : {R : Type 0} → Event R → Type 0
+NoCrash (apply i) = Unit {0}
+NoCrash (stray r) = Unit {0}
+NoCrash (crash b) = ⊥
 
 -- some row of a whole plan waits
 waits : {R : Type 0} (A : List R) (d : R) (B : List R) → T (through own (A ++ d ∷ B)) → ⊥
 waits [] d B t = t
 waits (r ∷ A) d B t = t
+
+module _ {𝓢 : Store} (𝓒 : Change 𝓢) where
+  -- only a crash changes whose rows wait
+  step-phase : (s : St 𝓒) (e : Event (𝓢 .Row)) → NoCrash e → step 𝓒 s e .phase ≡ s .phase
+  step-phase s (apply i) n = picked (pick i (s .waiting))
+    where
+      go : (b : Bool) (p : Picked (s .waiting)) → turned 𝓒 b s (p .0) (p .1) .phase ≡ s .phase
+      go true p = refl
+      go false p = refl
+
+      picked : (o : Option (Picked (s .waiting))) → turn 𝓒 s o .phase ≡ s .phase
+      picked none = refl
+      picked (some p) = go (lowest (𝓢 .group) (𝓢 .group (p .0)) (p .1)) p
+  step-phase s (stray r) n = go (𝓢 .accepts (s .img) r)
+    where
+      go : (b : Bool) → tried 𝓒 b s r .phase ≡ s .phase
+      go true = refl
+      go false = refl
+  step-phase s (crash b) n = absurd n
 
 module _ {𝓢 : Store} {recover : 𝓢 .Img → Option (Rows 𝓢)} where
   -- ---- the claim

@@ -48,30 +48,6 @@ pub record Store : Type 1 where
   -- images of the layout with the same records are the same
   pub ext : {X Y : Img} → Ok X → Ok Y → ((k : Key) → get X k ≡ get Y k) → X ≡ Y
 
--- The same store with rows in another form, such as a plan's bytes and a row's number.
-abbrev pub withRows : (𝓢 : Store) (R : Type 0) → (R → 𝓢 .Row) → Store
-withRows 𝓢 R f = record {
-  Img = 𝓢 .Img;
-  Key = 𝓢 .Key;
-  Body = 𝓢 .Body;
-  Row = R;
-  group = λ r. 𝓢 .group (f r);
-  key = λ r. 𝓢 .key (f r);
-  body = λ r. 𝓢 .body (f r);
-  get = 𝓢 .get;
-  put = λ X r. 𝓢 .put X (f r);
-  accepts = λ X r. 𝓢 .accepts X (f r);
-  Ok = 𝓢 .Ok;
-  Fits = λ r. 𝓢 .Fits (f r);
-  same = 𝓢 .same;
-  takes = λ {X} {r} o t. 𝓢 .takes {X = X} {r = f r} o t;
-  refuses = λ X r t. 𝓢 .refuses X (f r) t;
-  put-ok = λ {X} {r} o t. 𝓢 .put-ok {X = X} {r = f r} o t;
-  get-same = λ {X} {r} o t. 𝓢 .get-same {X = X} {r = f r} o t;
-  get-other = λ {X} {r} o t j n. 𝓢 .get-other {X = X} {r = f r} o t j n;
-  ext = λ {X} {Y} o p e. 𝓢 .ext {X = X} {Y = Y} o p e;
-}
-
 module _ (𝓢 : Store) where
   abbrev pub Rows : Type 0
   Rows = List (𝓢 .Row)
