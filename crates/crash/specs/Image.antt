@@ -99,7 +99,7 @@ first-ok h s₀ r = record { read = r; contents = refl }
 pub record Fits (h : Shape) (w : Write) : Type 0 where
   pub writes : Writes h (w .group) (w .key) (w .body)
 
--- rules L5 and L7: an image of shape h can take the row, by the test that apply makes
+-- rules 79 and 81: an image of shape h can take the row, by the test that apply makes
 unfoldable pub accepted : Shape → Write → Bool
 accepted h w = rowFits h (rowFor h (w .group) (w .key) (w .body))
 
@@ -148,13 +148,15 @@ image-ext h s₀ s t o p e =
     let v : Valid h key = record { in-image = l; in-section = b } in
     sym (record-is h s key v) ∙ e key ∙ record-is h t key v)
 
--- The images with the layout of s₀, as a store.
+-- The images with the layout of s₀, as a store. Rows by record need no buffers.
 abbrev pub images : Shape → List ℕ → Store
 images h s₀ = record {
   Img = List ℕ;
   Key = Key;
   Body = List ℕ;
   Row = Write;
+  Lent = Unit {0};
+  enough = λ b s. true;
   group = λ w. w .group;
   key = λ w. w .key;
   body = λ w. w .body;

@@ -17,6 +17,10 @@ pub record Store : Type 1 where
   pub Body : Type 0
   -- one write of a plan
   pub Row : Type 0
+  -- what recovery (the papers' repair) is lent besides the image: its buffers
+  pub Lent : Type 0
+  -- whether they are long enough for recovery of an image
+  pub enough : Lent → Img → Bool
   -- a row's ordering group: it waits for the rows of lower groups
   pub group : Row → ℕ
   -- the record that a row replaces
@@ -103,3 +107,8 @@ module _ (𝓢 : Store) where
       go (yes e) q = inl (inl e)
       go (no n) (inl a) = inl (inr a)
       go (no n) (inr h) = inr (n, h)
+
+  pub spares-not : (rs : Rows) (k : 𝓢 .Key) → Spares rs k → Covers rs k → ⊥
+  spares-not [] k s c = c
+  spares-not (r ∷ rs) k s (inl e) = s .0 e
+  spares-not (r ∷ rs) k s (inr c) = spares-not rs k (s .1) c
