@@ -29,7 +29,7 @@ module _ (h : Shape) (s₀ : List ℕ) (p : Plan (images h s₀)) (recover : Lis
   abbrev 𝓙 : Change (jobs h s₀)
   𝓙 = planned h s₀ p buffer 𝓡
 
-  -- ---- on either side the same images are on the way, and the same rows lead to the goal
+  -- ---- what a row by record is to the change, its job is
 
   opens-job : (j : Job) → Takes h j → Opens 𝓒 (write h j) → Opens 𝓙 j
   opens-job j t o = record {
@@ -54,6 +54,7 @@ module _ (h : Shape) (s₀ : List ℕ) (p : Plan (images h s₀)) (recover : Lis
   cover-jobs false s js ws q c k = ⊎-elim inl (λ a. inr (do-any h (λ w. w .key ≡ k) js ws q a)) (c k)
   cover-jobs true s js ws q c k = ⊎-elim inl (λ a. inr (do-any h (λ w. w .key ≡ k) js ws q a)) (c k)
 
+  -- rows ahead of the decision and behind it are measured by the deciding one
   module _ (do-decide : Does h (𝓙 .decide) (𝓒 .decide)) where
     on-the-way : (d : Bool) (s : List ℕ) → OnTheWay 𝓙 d s → OnTheWay 𝓒 d s
     on-the-way false s i = record {
@@ -117,7 +118,7 @@ module _ (h : Shape) (s₀ : List ℕ) (p : Plan (images h s₀)) (recover : Lis
               (do-join h (𝓙 .ahead) (𝓙 .decide ∷ 𝓙 .behind) (𝓒 .ahead) (𝓒 .decide ∷ 𝓒 .behind) ahead (decide, behind)) c)) (𝓞 .complete k n);
         }
 
-    -- the image on the way by jobs is on the way by rows
+    -- an image on the way by jobs is on the way by rows
     pub way-of : (d : Bool) (s : List ℕ) → OnTheWay 𝓙 d s → OnTheWay 𝓒 d s
     way-of d s i = on-the-way (parts .1) d s i
 

@@ -93,6 +93,28 @@ module _ {𝓢 : Store} {recover : RecoverOf 𝓢} where
   abbrev pub Last : Queue 𝓢 recover → Type 0
   Last q = T (over q) → Ended (q .later)
 
+  -- after a crash no further call comes in hand: the queue meets events as the call in hand does
+  next-recovering : (q : Queue 𝓢 recover) (e : EventOf 𝓢) → step (q .change) (q .state) e .phase ≡ recovering → next q e ≡ stepped q e
+  next-recovering q e h =
+      let r = stepped q e in
+      ap (λ (b : Bool). onward b r (q .later)) (ap (λ (ph : Phase). through ph (r .state .waiting)) h)
+
+  play-recovering : (q : Queue 𝓢 recover) (es : List (EventOf 𝓢)) → All Applies es → q .state .phase ≡ recovering
+      → play q es .state ≡ run (q .change) (q .state) es
+  play-recovering q [] a h = refl
+  play-recovering q (apply i ∷ es) a h =
+      let k = step-phase (q .change) (q .state) (apply i) tt ∙ h in
+      ap (λ (r : Queue 𝓢 recover). play r es .state) (next-recovering q (apply i) k) ∙ play-recovering (stepped q (apply i)) es (a .1) k
+  play-recovering q (stray r ∷ es) a h = absurd (a .0)
+  play-recovering q (crash b ∷ es) a h = absurd (a .0)
+
+  ends-of : (q : Queue 𝓢 recover) → Safe (q .change) (q .state) → (b : 𝓢 .Lent) → T (𝓢 .enough b (q .state .img)) → Ends (next q (crash b))
+  ends-of q s b t =
+      let (es, a, d) = s .can-finish b t in
+      let h = ap (λ (o : Option (Rows 𝓢)). answered (q .change) (q .state) o .phase) (s .recoverable b t .1) in
+      let e = ap (λ (r : Queue 𝓢 recover). play r es .state) (next-recovering q (crash b) h) ∙ play-recovering (stepped q (crash b)) es a h in
+      (es, a, subst (λ (x : St (q .change)). T (x .done)) (sym e) d)
+
   module _ {X : 𝓢 .Img} (c : Chain 𝓢 recover X) where
     same-count : (m n : ℕ) → m ≡ n → imageOf m c ≡ imageOf n c
     same-count m n e = ap (λ (k : ℕ). imageOf k c) e
@@ -132,28 +154,6 @@ module _ {𝓢 : Store} {recover : RecoverOf 𝓢} where
     play-along : (q : Queue 𝓢 recover) (es : List (EventOf 𝓢)) → Along c q → Last q → Along c (play q es) × Last (play q es)
     play-along q [] a l = (a, l)
     play-along q (e ∷ es) a l = let n = next-along q e a in play-along (next q e) es (n .0) (n .1)
-
-    -- after a crash no further call comes in hand: the queue meets events as the call in hand does
-    next-recovering : (q : Queue 𝓢 recover) (e : EventOf 𝓢) → step (q .change) (q .state) e .phase ≡ recovering → next q e ≡ stepped q e
-    next-recovering q e h =
-        let r = stepped q e in
-        ap (λ (b : Bool). onward b r (q .later)) (ap (λ (ph : Phase). through ph (r .state .waiting)) h)
-
-    play-recovering : (q : Queue 𝓢 recover) (es : List (EventOf 𝓢)) → All Applies es → q .state .phase ≡ recovering
-        → play q es .state ≡ run (q .change) (q .state) es
-    play-recovering q [] a h = refl
-    play-recovering q (apply i ∷ es) a h =
-        let k = step-phase (q .change) (q .state) (apply i) tt ∙ h in
-        ap (λ (r : Queue 𝓢 recover). play r es .state) (next-recovering q (apply i) k) ∙ play-recovering (stepped q (apply i)) es (a .1) k
-    play-recovering q (stray r ∷ es) a h = absurd (a .0)
-    play-recovering q (crash b ∷ es) a h = absurd (a .0)
-
-    ends-of : (q : Queue 𝓢 recover) → Safe (q .change) (q .state) → (b : 𝓢 .Lent) → T (𝓢 .enough b (q .state .img)) → Ends (next q (crash b))
-    ends-of q s b t =
-        let (es, a, d) = s .can-finish b t in
-        let h = ap (λ (o : Option (Rows 𝓢)). answered (q .change) (q .state) o .phase) (s .recoverable b t .1) in
-        let e = ap (λ (r : Queue 𝓢 recover). play r es .state) (next-recovering q (crash b) h) ∙ play-recovering (stepped q (crash b)) es a h in
-        (es, a, subst (λ (x : St (q .change)). T (x .done)) (sym e) d)
 
     -- what the invariant says of a queue
     queued-of : (q : Queue 𝓢 recover) → Along c q → Last q → Queued c q

@@ -18,6 +18,7 @@ pub data Event (R L : Type 0) : Type 0 where
   -- the waiting rows are gone, and recovery is called with these buffers, whatever their bytes and lengths (the papers' cut)
   crash : L → Event R L
 
+-- the events of a store
 abbrev pub EventOf : Store → Type 0
 EventOf 𝓢 = Event (𝓢 .Row) (𝓢 .Lent)
 
