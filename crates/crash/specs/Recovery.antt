@@ -1,5 +1,5 @@
 -- The job that recovers an image (the papers' repair), by its number and its plan, and what it owes to the crash theorem. Assumes nothing.
-use mathlib.Core.Path.{_≡_, refl}
+use mathlib.Core.Path.{_≡_, refl, ap, _∙_}
 use mathlib.Core.Logic.{_≢_}
 use mathlib.Core.Bool.{not}
 use mathlib.Core.List.{List}
@@ -29,13 +29,13 @@ answer (suc n) plan = none
 abbrev pub answered : RecoveryJob → Buffers → List ℕ → Option (List Job)
 answered 𝓡 b s = answer (𝓡 .number b s) (𝓡 .plan b s)
 
-pub answer-zero : (n : ℕ) (plan : List ℕ) (js : List Job) → answer n plan ≡ some js → n ≡ 0
-answer-zero zero plan js e = refl
-answer-zero (suc n) plan js e = let z : _≡_ {A = ℕ} 0 1 = cc in absurd (omega arith)
-
 pub answer-none : (n : ℕ) (plan : List ℕ) → n ≢ 0 → answer n plan ≡ none
 answer-none zero plan d = absurd (d refl)
 answer-none (suc n) plan d = refl
+
+pub answer-zero : (n : ℕ) (plan : List ℕ) (js : List Job) → answer n plan ≡ some js → n ≡ 0
+answer-zero zero plan js e = refl
+answer-zero (suc n) plan js e = let z : _≡_ {A = ℕ} 0 1 = cc in absurd (omega arith)
 
 -- The job answers 0, and its plan buffer holds these rows.
 pub record Fills (h : Shape) (𝓡 : RecoveryJob) (b : Buffers) (s : List ℕ) (ws : List Write) : Type 0 where
@@ -53,7 +53,7 @@ pub record Answers (h : Shape) (s₀ : List ℕ) (recover : List ℕ → Option 
 module _ (h : Shape) (𝓡 : RecoveryJob) (b : Buffers) (s : List ℕ) (ws : List Write) (f : Fills h 𝓡 b s ws) where
   -- its answer is the rows of that plan
   pub fills-answer : answered 𝓡 b s ≡ some (jobsIn (planOf h (b .plan) ws))
-  fills-answer = rw (f .success, f .filled)
+  fills-answer = ap (λ (n : ℕ). answer n (𝓡 .plan b s)) (f .success) ∙ ap (λ (plan : List ℕ). some (jobsIn plan)) (f .filled)
 
   -- which do what the rows by record say
   pub fills-does : (s₀ : List ℕ) → Ok h s₀ s → T (enough b s) → All (Fits h) ws → Do h (jobsIn (planOf h (b .plan) ws)) ws
