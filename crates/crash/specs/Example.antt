@@ -1,13 +1,15 @@
--- A small image and a call on it that meets every demand, as four jobs of one plan; and lists of events, computed on bytes. Assumes nothing.
-use mathlib.Core.Path.{_≡_, refl, ap, subst}
+-- A small image and a call on it that meets every demand, as four jobs of one plan, with a job that recovers it; and lists of events, computed
+-- on bytes. Assumes nothing.
+use mathlib.Core.Path.{_≡_, refl, subst}
 use mathlib.Core.Logic.{inl, ⊎-elim}
-use mathlib.Core.Bool.{Bool, true, false}
+use mathlib.Core.Bool.{Bool, true, false, not, _||_, cond, or-true}
 use mathlib.Core.List.{List, [], _∷_, _++_, map}
 use mathlib.Core.Option.{Option, some, Option·some-injective}
-use Prim.Native.Nat.{ℕ, _≤_}
+use Prim.Native.Nat.{ℕ, _≤_, _<_}
 use native.Mathlib.Omega.{arith}
-use lib.Dec.{eqb, lit<, lit≤}
+use lib.Dec.{T, eqb, ltb, lit<, lit≤}
 use lib.ListN.{getD, length, replicate}
+use borrow.Author.Tests.{lt-ltb, le-ltb}
 use Rattle.seq.specs.Search.{any, all, first}
 use Rattle.seq.specs.Bytes.{part, put, zeros}
 use Rattle.seq.specs.Number.{numberAt, bytesOf}
@@ -15,19 +17,22 @@ use Rattle.layout.specs.declared.Shape.{Shape}
 use Rattle.layout.specs.Place.{Key, Valid, recordBytes}
 use Rattle.layout.specs.Contents.{Read, nameIs, rowIs, shapeOf, rowGood, rowsGood, layoutGood}
 use Rattle.layout.specs.Record.{recordAt, store}
-use Rattle.plan.specs.Form.{planRows, rowAt, headerOf, rowPut, rowsPut, cleared, noRow, rowCount}
+use Rattle.plan.specs.Form.{planRows, planBytes, rowAt, headerOf, rowPut, rowsPut, cleared, noRow, rowCount}
 use Rattle.plan.specs.Fit.{coverable, coversSection, covers, rowFits, applicable}
 use Rattle.apply.specs.Apply.{applyNumber, appliedImage}
 use Rattle.journal.specs.Store.{putAll}
 use Rattle.journal.specs.Change.{Change}
-use Rattle.journal.specs.Events.{Event, apply, stray, crash, decided, start, run}
+use Rattle.journal.specs.Events.{EventOf, apply, stray, crash, decided, start, run}
 use Rattle.journal.specs.Obligations.{Obligations}
-use Rattle.journal.specs.Plan.{by-row, Plan, behindOf, change, WellFormed, Recovers}
+use Rattle.journal.specs.Plan.{by-row, Plan, behindOf, WellFormed, Recovers}
 use Rattle.journal.specs.Planned.{clear-settles, behind-all}
 use Rattle.crash.specs.Image.{Write, Fits, other-section, isValid, recordOf, read-of, first-ok, accepted, putWrite, images, storeAll}
-use Rattle.crash.specs.Job.{Job, jobs}
+use Rattle.crash.specs.Buffers.{Buffers, enough, enough-is, is-enough, too-short}
+use Rattle.crash.specs.Job.{jobs}
 use Rattle.crash.specs.Rows.{jobsIn, planOf}
-use Rattle.crash.specs.Operation.{answerIn, plan-answers, rowsIn, planned, planned-in-order, planned-owed}
+use Rattle.crash.specs.Recovery.{RecoveryJob, Answers}
+use Rattle.crash.specs.Operation.{rowsIn, planned}
+use Rattle.crash.specs.Safe.{planned-in-order, planned-owed, planned-recovers}
 
 -- one inode at 40, one entry at 72, the journal record at 104, and the end at 136
 abbrev pub shape : Shape
@@ -72,14 +77,17 @@ call = record {
   clear = row 4 journalKey 0;
 }
 
--- recovery, by the first bytes of the journal record and of the entry
-abbrev pub answer : Bool → Bool → Option (List Write)
-answer true on = some []
-answer false true = some (behindOf (images shape image) call)
-answer false false = some (call .clear ∷ [])
+-- recovery, by whether the journal record is clear and whether the entry was written
+abbrev pub rowsFor : Bool → Bool → List Write
+rowsFor true on = []
+rowsFor false true = behindOf (images shape image) call
+rowsFor false false = call .clear ∷ []
+
+abbrev pub found : List ℕ → List Write
+found s = rowsFor (eqb (getD (recordOf shape s journalKey) 0 0) 0) (eqb (getD (recordOf shape s entryKey) 0 0) 5)
 
 abbrev pub recover : List ℕ → Option (List Write)
-recover s = answer (eqb (getD (recordOf shape s journalKey) 0 0) 0) (eqb (getD (recordOf shape s entryKey) 0 0) 5)
+recover s = some (found s)
 
 row-fits : (g : ℕ) (k : Key) (b : ℕ) → 1 ≤ g → g ≤ 4 → Valid shape k → coverable (k .section) ≡ true → 32 ≡ recordBytes shape (k .section) → Fits shape (row g k b)
 row-fits g k b l m v a e = record { writes = record { first = l; last = m; valid = v; allowed = a; whole = e } }
@@ -123,34 +131,61 @@ call-recovers = record {
   );
 }
 
+-- ---- the recovery job: 205 and all as it was where a buffer is too short, else 0 and a plan of these rows
+
+abbrev pub short : Buffers → List ℕ → Bool
+short b s = ltb (length (b .plan)) planBytes || ltb (length (b .scratch)) (length s)
+
+abbrev pub job : RecoveryJob
+job = record {
+  number = λ b s. cond (short b s) 205 0;
+  plan = λ b s. cond (short b s) (b .plan) (planOf shape (b .plan) (found s));
+}
+
+few : (s : List ℕ) → length (found s) ≤ planRows
+few s = go (eqb (getD (recordOf shape s journalKey) 0 0) 0) (eqb (getD (recordOf shape s entryKey) 0 0) 5)
+  where
+    go : (clear on : Bool) → length (rowsFor clear on) ≤ planRows
+    go true on = lit≤ tt
+    go false true = lit≤ tt
+    go false false = lit≤ tt
+
+long-enough : (b : Buffers) (s : List ℕ) → T (enough b s) → short b s ≡ false
+long-enough b s t = let (l, m) = enough-is b s t in rw (le-ltb _ _ l, le-ltb _ _ m)
+
+not-enough : (b : Buffers) (s : List ℕ) → T (not (enough b s)) → short b s ≡ true
+not-enough b s t =
+    ⊎-elim (λ (l : length (b .plan) < planBytes). rw (lt-ltb _ _ l))
+    (λ (l : length (b .scratch) < length s). rw (lt-ltb _ _ l) (or-true (ltb (length (b .plan)) planBytes))) (too-short b s t)
+
+pub job-answers : Answers shape image recover job
+job-answers = record {
+  fills = λ b s o t ws e.
+      let long = long-enough b s t in
+      let same : found s ≡ ws = Option·some-injective _ _ e in
+      record {
+        success = rw long;
+        filled = rw (long, same);
+        room = subst (λ (x : List Write). length x ≤ planRows) same (few s);
+      };
+  refuses = λ b s o t. let e = not-enough b s t in rw e (omega arith);
+}
+
 -- ---- the call as four jobs
 
--- an empty buffer, handed to the call and to each recovery
+-- the caller's buffer
 abbrev pub buffer : List ℕ
 buffer = replicate 648 0
 
 abbrev pub bytes : List ℕ
 bytes = planOf shape buffer (rowsIn shape image call)
 
-abbrev pub answered : List ℕ → Option (List Job)
-answered s = answerIn shape buffer (recover s)
-
-few : (s : List ℕ) (ws : List Write) → recover s ≡ some ws → length ws ≤ planRows
-few s ws e = go (eqb (getD (recordOf shape s journalKey) 0 0) 0) (eqb (getD (recordOf shape s entryKey) 0 0) 5) e
-  where
-    go : (a b : Bool) → answer a b ≡ some ws → length ws ≤ planRows
-    go true b e = subst (λ (x : List Write). length x ≤ planRows) (Option·some-injective _ _ e) (lit≤ tt)
-    go false true e = subst (λ (x : List Write). length x ≤ planRows) (Option·some-injective _ _ e) (lit≤ tt)
-    go false false e = subst (λ (x : List Write). length x ≤ planRows) (Option·some-injective _ _ e) (lit≤ tt)
-
 abbrev pub jobCall : Change (jobs shape image)
-jobCall = planned shape image call buffer recover answered
+jobCall = planned shape image call buffer job
 
 -- every demand of the crash theorem is met, on bytes
 pub call-owed : Obligations jobCall
-call-owed =
-    planned-owed shape image call call-formed buffer (lit≤ tt) (lit≤ tt) recover call-recovers answered
-    (plan-answers shape image (change (images shape image) call recover) answered (λ s ws o e. (buffer, lit≤ tt, few s ws e, ap (answerIn shape buffer) e)))
+call-owed = planned-owed shape image call call-formed buffer (lit≤ tt) (lit≤ tt) recover call-recovers job job-answers
 
 -- the plan applied as it stands, without a crash
 pub call-applied : putAll (jobs shape image) image (jobsIn bytes) ≡ storeAll shape image (row 2 entryKey 5 ∷ row 3 inodeKey 7 ∷ [])
@@ -159,22 +194,56 @@ call-applied = planned-in-order shape image call call-formed buffer (lit≤ tt) 
   ((lit≤ tt, (lit≤ tt, tt)), ((lit≤ tt, tt), (tt, tt))),
 )
 
--- whether a recovery is done, whether the call is decided, and the image
-abbrev pub seen : List (Event Job) → Bool × Bool × List ℕ
-seen es = let s = run jobCall (start jobCall) es in (s .done, decided jobCall s, s .img)
+-- ---- events
+
+abbrev pub Happening : Type 0
+Happening = EventOf (jobs shape image)
+
+-- whatever happened, recovery answers 0 where its plan has room for a plan and its scratch for the image
+pub always-answers : (es : List Happening) (b : Buffers) → planBytes ≤ length (b .plan) → length (run jobCall (start jobCall) es .img) ≤ length (b .scratch)
+    → job .number b (run jobCall (start jobCall) es .img) ≡ 0
+always-answers es b l m =
+    planned-recovers shape image call call-formed buffer (lit≤ tt) (lit≤ tt) recover call-recovers job job-answers es b (is-enough b _ l m)
+
+-- whether a recovery is done, whether the call is decided, for each waiting row how long its plan buffer is, and the image
+abbrev pub seen : List Happening → Bool × Bool × List ℕ × List ℕ
+seen es = let s = run jobCall (start jobCall) es in (s .done, decided jobCall s, map (λ j. length (j .plan)) (s .waiting), s .img)
 
 -- row i of the plan, tried at any time
-abbrev tried : ℕ → Event Job
+abbrev tried : ℕ → Happening
 tried i = stray (record { plan = bytes; number = i })
 
--- a crash before the decision: the journal record was set, a number past the rows was refused, one recovery too, and the next takes the call back
-abbrev pub early : List (Event Job)
-early = apply 0 ∷ tried 4 ∷ crash false ∷ crash true ∷ apply 0 ∷ []
+-- a crash, with buffers of these lengths filled with a byte
+abbrev crashed : ℕ → ℕ → ℕ → Happening
+crashed plan scratch byte = crash (record { plan = replicate plan byte; scratch = replicate scratch byte })
 
--- a crash after it: the entry was written, a row was out of turn, and recovery writes the inode
-abbrev pub late : List (Event Job)
-late = apply 0 ∷ apply 0 ∷ crash true ∷ apply 1 ∷ apply 0 ∷ apply 0 ∷ []
+-- the journal record was set, a number past the rows was refused, and then recovery too, for its plan and for its scratch: nothing waits,
+-- and the image is as it was
+abbrev pub refused : List Happening
+refused = apply 0 ∷ tried 4 ∷ crashed 647 136 9 ∷ crashed 648 135 9 ∷ []
 
-pub crashes : map seen (early ∷ late ∷ []) ≡ (true, false, imageOf 0 0 0) ∷ (true, true, imageOf 7 5 0) ∷ []
+-- recovery with buffers that just suffice takes the call back
+abbrev pub early : List Happening
+early = refused ++ crashed 648 136 9 ∷ apply 0 ∷ []
+
+-- a crash after the decision: recovery's rows wait in a buffer longer than a plan
+abbrev pub late : List Happening
+late = apply 0 ∷ apply 0 ∷ crashed 700 200 9 ∷ []
+
+-- a second crash during that recovery, once it has written the inode; the second recovery has another buffer
+abbrev pub during : List Happening
+during = late ++ apply 0 ∷ crashed 650 136 3 ∷ []
+
+-- a row out of turn, and then both rows
+abbrev pub again : List Happening
+again = during ++ apply 1 ∷ apply 0 ∷ apply 0 ∷ []
+
+pub crashes : map seen (refused ∷ early ∷ late ∷ during ∷ again ∷ [])
+    ≡ (false, false, [], imageOf 0 0 1)
+    ∷ (true, false, [], imageOf 0 0 0)
+    ∷ (false, true, 700 ∷ 700 ∷ [], imageOf 0 5 1)
+    ∷ (false, true, 650 ∷ 650 ∷ [], imageOf 7 5 1)
+    ∷ (true, true, [], imageOf 7 5 0)
+    ∷ []
 unfolding recordOf isValid recordAt part put zeros planOf rowsPut rowPut headerOf rowAt cleared rowCount noRow first bytesOf numberAt appliedImage applyNumber applicable rowFits covers coversSection any all layoutGood rowsGood rowGood rowIs nameIs shapeOf
 crashes = refl

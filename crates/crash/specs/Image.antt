@@ -3,19 +3,17 @@ use mathlib.Core.Path.{_≡_, refl, sym, ap, _∙_, subst}
 use mathlib.Core.Logic.{_≢_}
 use mathlib.Core.Bool.{Bool, true, false, not, cond, _&&_}
 use mathlib.Core.List.{List, [], _∷_}
-use Prim.Native.Nat.{ℕ, _<_}
-use native.Mathlib.Nat.{zero-add}
+use Prim.Native.Nat.{ℕ}
 use native.Mathlib.Decide.{ℕ-discrete}
 use lib.Dec.{ltb}
-use lib.ListN.{length, getD}
 use borrow.Author.Tests.{lt-ltb, ltb-true, not-true}
 use Rattle.seq.specs.Truth.{to-T, of-T, and-left, and-right, and-both}
-use Rattle.seq.specs.Bytes.{part, part-byte}
+use Rattle.seq.specs.Bytes.{part}
 use Rattle.layout.specs.declared.Shape.{Shape}
 use Rattle.layout.specs.Place.{Key, Valid, contentsBytes, records}
 use Rattle.layout.specs.Contents.{Laid, Read, layoutGood, shapeOf, good-laid}
 use Rattle.layout.specs.Record.{recordAt, store, store-same, store-other, store-contents, same-image}
-use Rattle.layout.specs.Commute.{shape-same, layout-same, store-shape, store-layout}
+use Rattle.layout.specs.Commute.{store-shape, store-layout}
 use Rattle.plan.specs.Fit.{Writes, rowFits, rowFor, written-fits}
 use Rattle.journal.specs.Pick.{All}
 use Rattle.journal.specs.Store.{Store, putAll}
@@ -95,26 +93,13 @@ read-of h s good shape = record { good = good; shape = shape; laid = subst (λ (
 pub first-ok : (h : Shape) (s₀ : List ℕ) → Read s₀ h → Ok h s₀ s₀
 first-ok h s₀ r = record { read = r; contents = refl }
 
--- and so has every image as long as s₀, and with its table of contents
-pub same-ok : (h : Shape) (s₀ s : List ℕ) → Read s₀ h → length s ≡ length s₀ → part s 0 contentsBytes ≡ part s₀ 0 contentsBytes → Ok h s₀ s
-same-ok h s₀ s r long same =
-    record { read = read-of h s (layout-same s s₀ long byte ∙ r .good) (r .shape ∙ sym (shape-same s s₀ long byte)); contents = same }
-  where
-    byte : (j : ℕ) → j < contentsBytes → getD s j 0 ≡ getD s₀ j 0
-    byte j l =
-        rw zero-add at (sym (part-byte s 0 contentsBytes j l) ∙ ap (λ (x : List ℕ). getD x j 0) same ∙ part-byte s₀ 0 contentsBytes j l)
-
--- the length is then that of s₀
-pub ok-length : (h : Shape) (s₀ s : List ℕ) → Read s₀ h → Ok h s₀ s → length s ≡ length s₀
-ok-length h s₀ s r o = o .read .laid .long ∙ sym (r .laid .long)
-
 -- ---- rows
 
 -- The row is one that an operation may write: a group in range, a record that exists and that a row may replace, and as many bytes as it has.
 pub record Fits (h : Shape) (w : Write) : Type 0 where
   pub writes : Writes h (w .group) (w .key) (w .body)
 
--- rules L5 and L7: an image of shape h can take the row, by the test that apply makes
+-- rules 79 and 81: an image of shape h can take the row, by the test that apply makes
 unfoldable pub accepted : Shape → Write → Bool
 accepted h w = rowFits h (rowFor h (w .group) (w .key) (w .body))
 
@@ -163,13 +148,15 @@ image-ext h s₀ s t o p e =
     let v : Valid h key = record { in-image = l; in-section = b } in
     sym (record-is h s key v) ∙ e key ∙ record-is h t key v)
 
--- The images with the layout of s₀, as a store.
+-- The images with the layout of s₀, as a store. Rows by record need no buffers.
 abbrev pub images : Shape → List ℕ → Store
 images h s₀ = record {
   Img = List ℕ;
   Key = Key;
   Body = List ℕ;
   Row = Write;
+  Lent = Unit {0};
+  enough = λ b s. true;
   group = λ w. w .group;
   key = λ w. w .key;
   body = λ w. w .body;

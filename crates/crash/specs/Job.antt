@@ -21,6 +21,7 @@ use Rattle.journal.specs.Store.{Store}
 use Rattle.journal.specs.Pick.{All, all-map}
 use Rattle.crash.specs.Image.{Write, Ok, Fits, same-key, recordOf, putWrite, put-is, put-ok, get-same, get-other, image-ext}
 use Rattle.crash.specs.Covered.{keyAt, key-covered, key-is}
+use Rattle.crash.specs.Buffers.{Buffers, enough}
 
 -- A row as apply (the papers' landing) is given it: a plan's bytes, and which of its rows.
 pub record Job : Type 0 where
@@ -91,6 +92,8 @@ jobs h s₀ = record {
   Key = Key;
   Body = List ℕ;
   Row = Job;
+  Lent = Buffers;
+  enough = enough;
   group = λ j. write h j .group;
   key = λ j. write h j .key;
   body = λ j. write h j .body;

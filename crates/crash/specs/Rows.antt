@@ -1,5 +1,5 @@
 -- An operation's rows as jobs: rows put into a cleared plan are, row by row, what its bytes and numbers say. Assumes nothing.
-use mathlib.Core.Path.{_≡_, refl, sym, ap, ap₂, _∙_, subst}
+use mathlib.Core.Path.{_≡_, sym, ap, _∙_, subst}
 use mathlib.Core.Logic.{inl, inr}
 use mathlib.Core.List.{List, [], _∷_, _++_, map}
 use Prim.Native.Nat.{ℕ, zero, suc, _+_, _≤_, _<_}
@@ -13,12 +13,10 @@ use Rattle.plan.specs.Form.{Row, planRows, planBytes, rowsPut, cleared, rowCoun
 use Rattle.plan.specs.Rows.{Formed, Stands}
 use Rattle.plan.specs.Many.{Each, rows-length, rows-stand, cleared-length, rows-count}
 use Rattle.plan.specs.Fit.{rowFor, image-small, written-formed}
-use Rattle.apply.specs.Apply.{appliedImage}
 use Rattle.journal.specs.Pick.{All, Any}
-use Rattle.journal.specs.Store.{putAll}
 use Rattle.journal.specs.Order.{Sorted}
-use Rattle.crash.specs.Image.{Write, Ok, Fits, images, putWrite, put-ok}
-use Rattle.crash.specs.Job.{Job, Takes, Does, write, jobs, takes-puts, takes-fits, written-does}
+use Rattle.crash.specs.Image.{Write, Fits, images}
+use Rattle.crash.specs.Job.{Job, Takes, Does, write, jobs, written-does}
 
 -- ---- jobs of a plan
 
@@ -27,7 +25,7 @@ abbrev pub jobsFrom : List ℕ → ℕ → ℕ → List Job
 jobsFrom plan i zero = []
 jobsFrom plan i (suc n) = record { plan = plan; number = i } ∷ jobsFrom plan (i + 1) n
 
--- all rows of a plan, as many as its bytes say (rule P5)
+-- all rows of a plan, as many as its bytes say (rule 73)
 abbrev pub jobsIn : List ℕ → List Job
 jobsIn plan = jobsFrom plan 0 (rowCount plan)
 
@@ -47,12 +45,6 @@ module _ (h : Shape) where
   Do [] (w ∷ ws) = ⊥
   Do (j ∷ js) [] = ⊥
   Do (j ∷ js) (w ∷ ws) = Does h j w × Do js ws
-
-  pub do-map : (js : List Job) (ws : List Write) → Do js ws → map (write h) js ≡ ws
-  do-map [] [] d = refl
-  do-map [] (w ∷ ws) d = absurd d
-  do-map (j ∷ js) [] d = absurd d
-  do-map (j ∷ js) (w ∷ ws) d = ap₂ (λ (x : Write) (xs : List Write). x ∷ xs) (d .0 .row) (do-map js ws (d .1))
 
   -- what holds of each row holds of its job
   pub do-all : (P : Write → Type 0) (Q : Job → Type 0) → ((j : Job) → Takes h j → P (write h j) → Q j) → (js : List Job) (ws : List Write) → Do js ws
@@ -81,17 +73,6 @@ module _ (h : Shape) where
         (λ i t l. subst (λ (x : Write). x .group ≤ write h i .group) (sym (d .0 .row)) l) js ws (d .1) (a .0),
     do-sorted s₀ js ws (d .1) (a .1),
   )
-
-  -- applied one after another, they leave what the rows leave
-  pub do-puts : (s₀ : List ℕ) (js : List Job) (ws : List Write) (s : List ℕ) → Ok h s₀ s → Do js ws → putAll (jobs h s₀) s js ≡ putAll (images h s₀) s ws
-  do-puts s₀ [] [] s o d = refl
-  do-puts s₀ [] (w ∷ ws) s o d = absurd d
-  do-puts s₀ (j ∷ js) [] s o d = absurd d
-  do-puts s₀ (j ∷ js) (w ∷ ws) s o d =
-      let t = d .0 .takes in
-      let e : appliedImage s (j .plan) (j .number) ≡ putWrite h s w = takes-puts h s₀ s j o t ∙ ap (λ (x : Write). putWrite h s x) (d .0 .row) in
-      let k : Ok h s₀ (putWrite h s w) = put-ok h s₀ s w o (subst (λ (x : Write). Fits h x) (d .0 .row) (takes-fits h s₀ s j o t)) in
-      ap (λ (x : List ℕ). putAll (jobs h s₀) x js) e ∙ do-puts s₀ js ws (putWrite h s w) k (d .1)
 
   pub do-join : (is js : List Job) (us vs : List Write) → Do is us → Do js vs → Do (is ++ js) (us ++ vs)
   do-join [] js [] vs d e = e
@@ -160,9 +141,6 @@ module _ (h : Shape) where
       pub plan-jobs : jobsIn (planOf buffer ws) ≡ jobsFrom (planOf buffer ws) 0 (length ws)
       plan-jobs = rw plan-count
 
+      -- row by row, the jobs of the plan's bytes do what the operation's rows say
       pub plan-does : Do (jobsIn (planOf buffer ws)) ws
       plan-does = rw plan-count plan-from
-
-      -- row by row, the jobs of the plan's bytes are the operation's rows
-      pub plan-rows : map (write h) (jobsIn (planOf buffer ws)) ≡ ws
-      plan-rows = do-map (jobsIn (planOf buffer ws)) ws plan-does

@@ -5,6 +5,10 @@ use mathlib.Core.Option.{Option}
 use Prim.Native.Nat.{ℕ}
 use Rattle.journal.specs.Store.{Store, Rows}
 
+-- What recovery (the papers' repair) answers, for the buffers that it is lent and an image: the rows to apply, or none where it refuses.
+abbrev pub RecoverOf : Store → Type 0
+RecoverOf 𝓢 = 𝓢 .Lent → 𝓢 .Img → Option (Rows 𝓢)
+
 -- A call that was accepted, as the crash theorem sees it. `plan` and `pending` say in which order its records are written.
 pub record Change (𝓢 : Store) : Type 1 where
   -- the image that the call was planned on
@@ -27,8 +31,8 @@ pub record Change (𝓢 : Store) : Type 1 where
   pub behind : Rows 𝓢
   -- the records that may differ from where the call is going: `pending false` while undecided, `pending true` from then on
   pub pending : Bool → 𝓢 .Key → Type 0
-  -- what recovery (the papers' repair) answers on an image: the rows to apply, or none where it refuses
-  pub recover : 𝓢 .Img → Option (Rows 𝓢)
+  -- the recovery that a crash calls
+  pub recover : RecoverOf 𝓢
 
 module _ {𝓢 : Store} (𝓒 : Change 𝓢) where
   -- all rows of the call's own plan

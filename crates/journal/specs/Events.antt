@@ -9,14 +9,18 @@ use Rattle.journal.specs.Turn.{lowest}
 use Rattle.journal.specs.Store.{Store, Rows}
 use Rattle.journal.specs.Change.{Change, plan}
 
--- What can happen.
-pub data Event (R : Type 0) : Type 0 where
+-- What can happen, over rows and over what recovery is lent.
+pub data Event (R L : Type 0) : Type 0 where
   -- the waiting row at a place is applied (the papers' landing); it counts only if its turn has come, with nothing of a lower group left
-  apply : ℕ → Event R
+  apply : ℕ → Event R L
   -- any row at all is tried and refused; one that would be accepted is no event, since the image has no other writer
-  stray : R → Event R
-  -- the waiting rows are gone, and recovery is called (the papers' cut); the flag says whether its buffers were long enough
-  crash : Bool → Event R
+  stray : R → Event R L
+  -- the waiting rows are gone, and recovery is called with these buffers, whatever their bytes and lengths (the papers' cut)
+  crash : L → Event R L
+
+-- the events of a store
+abbrev pub EventOf : Store → Type 0
+EventOf 𝓢 = Event (𝓢 .Row) (𝓢 .Lent)
 
 -- Whose rows wait.
 pub data Phase : Type 0 where
@@ -118,13 +122,12 @@ module _ {𝓢 : Store} (𝓒 : Change 𝓢) where
       record { img = s .img; waiting = w; phase = recovering; applied = s .applied; done = done }
 
   -- the state after an event
-  abbrev pub step : St → Event (𝓢 .Row) → St
+  abbrev pub step : St → EventOf 𝓢 → St
   step s (apply i) = turn s (pick i (s .waiting))
   step s (stray r) = tried (𝓢 .accepts (s .img) r) s r
-  step s (crash false) = answered s none
-  step s (crash true) = answered s (𝓒 .recover (s .img))
+  step s (crash b) = answered s (𝓒 .recover b (s .img))
 
   -- and after a list of them
-  abbrev pub run : St → List (Event (𝓢 .Row)) → St
+  abbrev pub run : St → List (EventOf 𝓢) → St
   run s [] = s
   run s (e ∷ es) = run (step s e) es

@@ -7,16 +7,16 @@ use mathlib.Core.Option.{Option, some}
 use Prim.Native.Nat.{ℕ}
 use native.Mathlib.Omega.{arith}
 use native.Mathlib.Decide.{ℕ-discrete}
-use lib.Dec.{T, eqb, ltb, eqb→eq, eqb-refl}
+use lib.Dec.{T, eqb, ltb, leb, eqb→eq, eqb-refl}
 use Rattle.journal.specs.Store.{Store, Rows}
-use Rattle.journal.specs.Events.{Event, apply, crash}
+use Rattle.journal.specs.Events.{EventOf, apply, crash}
 use Rattle.journal.specs.Obligations.{Obligations}
-use Rattle.journal.specs.Plan.{by-row, by-journal, Plan, afterOf, behindOf, change, WellFormed, Recovers}
+use Rattle.journal.specs.Plan.{by-row, by-journal, Plan, afterOf, behindOf, lending, change, WellFormed, Recovers}
 use Rattle.journal.specs.Planned.{clear-settles, behind-all, journaled}
 use Rattle.journal.specs.Queue.{end, call, Queue, play, decisions}
 use Rattle.journal.specs.Chain.{queue}
 
--- ---- the store: four numbers, of which the first is the journal record
+-- ---- the store: four numbers, of which the first is the journal record; recovery is lent a buffer for so many rows, and wants three
 
 pub record Write : Type 0 where
   pub group : ℕ
@@ -59,6 +59,8 @@ toy = record {
   Key = ℕ;
   Body = ℕ;
   Row = Write;
+  Lent = ℕ;
+  enough = λ room X. leb 3 room;
   group = λ r. r .group;
   key = λ r. r .key;
   body = λ r. r .body;
@@ -177,23 +179,23 @@ first-owed = journaled first recover first-formed first-recovers
 pub second-owed : Obligations (change toy second recover)
 second-owed = journaled second recover second-formed second-recovers
 
-abbrev pub played : List (Event Write) → Queue toy recover
+abbrev pub played : List (EventOf toy) → Queue toy (lending toy recover)
 played es = play (queue (change toy first recover) first-owed refl (call (change toy second recover) second-owed refl refl end)) es
 
 -- whether a recovery is done, how many deciding rows were applied, and the four records
-abbrev pub seen : List (Event Write) → Bool × ℕ × ℕ × ℕ × ℕ × ℕ
+abbrev pub seen : List (EventOf toy) → Bool × ℕ × ℕ × ℕ × ℕ × ℕ
 seen es = let q = played es in (q .state .done, decisions q, q .state .img 0, q .state .img 1, q .state .img 2, q .state .img 3)
 
 -- a crash before the decision: record 1 was created, a row was out of turn, one recovery was refused, and the next takes record 1 back
-pub crash-early : seen (apply 0 ∷ apply 0 ∷ apply 1 ∷ crash false ∷ crash true ∷ apply 1 ∷ apply 0 ∷ apply 0 ∷ []) ≡ (true, 0, 0, 0, 0, 0)
+pub crash-early : seen (apply 0 ∷ apply 0 ∷ apply 1 ∷ crash 2 ∷ crash 3 ∷ apply 1 ∷ apply 0 ∷ apply 0 ∷ []) ≡ (true, 0, 0, 0, 0, 0)
 crash-early = refl
 
 -- a crash after it: recovery writes record 3
-pub crash-late : seen (apply 0 ∷ apply 0 ∷ apply 0 ∷ crash true ∷ apply 0 ∷ apply 0 ∷ []) ≡ (true, 1, 0, 7, 1, 9)
+pub crash-late : seen (apply 0 ∷ apply 0 ∷ apply 0 ∷ crash 9 ∷ apply 0 ∷ apply 0 ∷ []) ≡ (true, 1, 0, 7, 1, 9)
 crash-late = refl
 
 -- a crash in the second call, which its journal record had decided, half way through the exchange
-pub crash-second : seen (apply 0 ∷ apply 0 ∷ apply 0 ∷ apply 0 ∷ apply 0 ∷ apply 0 ∷ apply 1 ∷ crash true ∷ apply 1 ∷ apply 0 ∷ apply 0 ∷ [])
+pub crash-second : seen (apply 0 ∷ apply 0 ∷ apply 0 ∷ apply 0 ∷ apply 0 ∷ apply 0 ∷ apply 1 ∷ crash 3 ∷ apply 1 ∷ apply 0 ∷ apply 0 ∷ [])
     ≡ (true, 2, 0, 9, 1, 7)
 crash-second = refl
 

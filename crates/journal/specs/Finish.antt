@@ -1,4 +1,4 @@
--- Recovery can always be finished: after every list of events some further one ends with its rows all applied. Assumes nothing.
+-- Recovery can always be carried through: after a crash some further events end with its rows all applied. Assumes nothing.
 use mathlib.Core.Path.{_≡_, refl, sym, subst}
 use mathlib.Core.Logic.{⊎-elim}
 use mathlib.Core.Bool.{Bool, true, false, _||_}
@@ -12,9 +12,9 @@ use Rattle.journal.specs.Pick.{All, null, empty-null, Pick, here, there,
 use Rattle.journal.specs.Turn.{lowest, has-turn}
 use Rattle.journal.specs.Store.{Store, Rows}
 use Rattle.journal.specs.Change.{Change}
-use Rattle.journal.specs.Events.{Event, apply, stray, crash, recovering, St, decided, start, turned, turn, step, run}
+use Rattle.journal.specs.Events.{Event, EventOf, apply, stray, crash, recovering, St, decided, turned, turn, step, run}
 use Rattle.journal.specs.Obligations.{Obligations}
-use Rattle.journal.specs.Invariant.{inside-of, run-inv, start-inv}
+use Rattle.journal.specs.Invariant.{Inv, inside-of}
 
 pick-length : {A : Type 0} {r : A} {xs ys : List A} → Pick r xs ys → length xs ≡ suc (length ys)
 pick-length here = refl
@@ -29,7 +29,7 @@ or-right true b t = tt
 or-right false b t = t
 
 -- the event applies a row
-abbrev pub Applies : {R : Type 0} → Event R → Type 0
+abbrev pub Applies : {R L : Type 0} → Event R L → Type 0
 Applies (apply i) = Unit {0}
 Applies (stray r) = ⊥
 Applies (crash b) = ⊥
@@ -39,8 +39,9 @@ module _ {𝓢 : Store} (𝓒 : Change 𝓢) where
   abbrev pub pending : 𝓢 .Img → Rows 𝓢 → Rows 𝓢 → Bool → St 𝓒
   pending X W log done = record { img = X; waiting = W; phase = recovering; applied = log; done = done }
 
+  -- some rows applied in turn end with a recovery done
   abbrev pub Finishes : St 𝓒 → Type 0
-  Finishes s = (es : List (Event (𝓢 .Row))) × All Applies es × T (run 𝓒 s es .done)
+  Finishes s = (es : List (EventOf 𝓢)) × All Applies es × T (run 𝓒 s es .done)
 
   take-turn : (X : 𝓢 .Img) (W log : Rows 𝓢) (done : Bool) (i : ℕ) (p : Picked W) → pick i W ≡ some p
       → T (lowest (𝓢 .group) (𝓢 .group (p .0)) (p .1))
@@ -65,10 +66,9 @@ module _ {𝓢 : Store} (𝓒 : Change 𝓢) where
       (finish n (𝓢 .put X (p .0)) (p .1) log (done || null (p .1)) (omega (arith, pick-length (p .2))) (or-right done (null (p .1)))))
       (has-turn (𝓢 .group) W)
 
-  -- after any events, a crash with a recovery that is accepted, and then rows applied in turn, end with the recovery done
-  pub can-finish : Obligations 𝓒 → (es : List (Event (𝓢 .Row))) → Finishes (step 𝓒 (run 𝓒 (start 𝓒) es) (crash true))
-  can-finish 𝓞 es =
-      let s = run 𝓒 (start 𝓒) es in
-      let w = 𝓞 .recovers (decided 𝓒 s) (s .img) (inside-of 𝓒 s (run-inv 𝓒 𝓞 (start 𝓒) es (start-inv 𝓒 (𝓞 .orderly)))) in
+  -- where the invariant holds, a crash with buffers that are long enough, and then rows applied in turn, end with the recovery done
+  pub finish-of : Obligations 𝓒 → (s : St 𝓒) → Inv 𝓒 s → (b : 𝓢 .Lent) → T (𝓢 .enough b (s .img)) → Finishes (step 𝓒 s (crash b))
+  finish-of 𝓞 s h b t =
+      let w = 𝓞 .recovers (decided 𝓒 s) (s .img) (inside-of 𝓒 s h) b t in
       let done = s .done || null (w .rows) in
       rw (w .answer) (finish (length (w .rows)) (s .img) (w .rows) (s .applied) done (omega arith) (or-right (s .done) (null (w .rows))))

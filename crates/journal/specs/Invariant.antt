@@ -11,7 +11,7 @@ use Rattle.journal.specs.Pick.{All, Has, Empty, Pick, Picked, pick, Part
 use Rattle.journal.specs.Turn.{lowest, Low, lowest-low}
 use Rattle.journal.specs.Store.{Store, Rows}
 use Rattle.journal.specs.Change.{Change, goal}
-use Rattle.journal.specs.Events.{Event, apply, stray, crash, Phase, own, recovering, stopped, logged, finished, through, St, deciding, decides, decided, start, took, turned, turn, tried, answered, step, run}
+use Rattle.journal.specs.Events.{EventOf, apply, stray, crash, Phase, own, recovering, stopped, logged, finished, through, St, deciding, decides, decided, start, took, turned, turn, tried, answered, step, run}
 use Rattle.journal.specs.Obligations.{OnTheWay, Settles, Ahead, Behind, Orderly, Obligations}
 use Rattle.journal.specs.Settle.{Settling, settle-apply, goal-on, nothing-left, ends}
 use Rattle.journal.specs.Opening.{Opening, ahead-apply, decide-apply}
@@ -183,8 +183,8 @@ module _ {𝓢 : Store} (𝓒 : Change 𝓢) where
         go true f = h
         go false f = rw (f tt) h
 
-    crash-inv : (s : St 𝓒) → Inv s → Inv (answered 𝓒 s none)
-    crash-inv s h = settling (logged-of s h) (record { inside = inside-of s h; rows = tt; kept = tt; ended = ended-of s h })
+    refused-inv : (s : St 𝓒) → Inv s → Inv (answered 𝓒 s none)
+    refused-inv s h = settling (logged-of s h) (record { inside = inside-of s h; rows = tt; kept = tt; ended = ended-of s h })
 
     pub start-inv : Inv (start 𝓒)
     start-inv = opening tt tt (record {
@@ -197,10 +197,10 @@ module _ {𝓢 : Store} (𝓒 : Change 𝓢) where
     })
 
   module _ (𝓞 : Obligations 𝓒) where
-    recover-inv : (s : St 𝓒) → Inv s → Inv (answered 𝓒 s (𝓒 .recover (s .img)))
-    recover-inv s h =
+    recover-inv : (s : St 𝓒) → Inv s → (b : 𝓢 .Lent) → T (𝓢 .enough b (s .img)) → Inv (answered 𝓒 s (𝓒 .recover b (s .img)))
+    recover-inv s h b t =
         let i = inside-of s h in
-        let w = 𝓞 .recovers (decided 𝓒 s) (s .img) i in
+        let w = 𝓞 .recovers (decided 𝓒 s) (s .img) i b t in
         rw (w .answer) (settling (logged-of s h) (record {
           inside = i;
           kept = w .cover;
@@ -208,12 +208,16 @@ module _ {𝓢 : Store} (𝓒 : Change 𝓢) where
           ended = ends 𝓒 (goal-ok (𝓞 .orderly)) recovering (decided 𝓒 s) (s .done) (w .rows) (i .ok) (w .cover) (ended-of s h);
         }))
 
-    pub step-inv : (s : St 𝓒) (e : Event (𝓢 .Row)) → Inv s → Inv (step 𝓒 s e)
+    pub step-inv : (s : St 𝓒) (e : EventOf 𝓢) → Inv s → Inv (step 𝓒 s e)
     step-inv s (apply i) h = turn-inv (𝓞 .orderly) s (pick i (s .waiting)) h
     step-inv s (stray r) h = stray-inv (𝓞 .orderly) s r h
-    step-inv s (crash false) h = crash-inv (𝓞 .orderly) s h
-    step-inv s (crash true) h = recover-inv s h
+    step-inv s (crash b) h = go (𝓢 .enough b (s .img)) (λ t. t) (λ t. t)
+      where
+        go : (e : Bool) → (T e → T (𝓢 .enough b (s .img))) → (T (not e) → T (not (𝓢 .enough b (s .img))))
+            → Inv (answered 𝓒 s (𝓒 .recover b (s .img)))
+        go true f g = recover-inv s h b (f tt)
+        go false f g = rw (𝓞 .refuses (s .img) (inside-of s h .ok) b (g tt)) (refused-inv (𝓞 .orderly) s h)
 
-    pub run-inv : (s : St 𝓒) (es : List (Event (𝓢 .Row))) → Inv s → Inv (run 𝓒 s es)
+    pub run-inv : (s : St 𝓒) (es : List (EventOf 𝓢)) → Inv s → Inv (run 𝓒 s es)
     run-inv s [] h = h
     run-inv s (e ∷ es) h = run-inv (step 𝓒 s e) es (step-inv s e h)

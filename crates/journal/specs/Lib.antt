@@ -8,8 +8,8 @@ pub mod Obligations
 pub mod Settle
 pub mod Opening
 pub mod Invariant
-pub mod Crash
 pub mod Finish
+pub mod Crash
 pub mod Order
 pub mod Plan
 pub mod Planned

@@ -1,8 +1,9 @@
 -- What an operation owes for the crash theorem, and which images are on the way. Assumes nothing.
 use mathlib.Core.Path.{_≡_}
 use mathlib.Core.Logic.{_⊎_, _≢_}
-use mathlib.Core.Bool.{Bool, true, false}
-use mathlib.Core.Option.{some}
+use mathlib.Core.Bool.{Bool, true, false, not}
+use mathlib.Core.Option.{none, some}
+use lib.Dec.{T}
 use Prim.Native.Nat.{_≤_, _<_}
 use Rattle.journal.specs.Pick.{All}
 use Rattle.journal.specs.Store.{Store, Rows, Covers}
@@ -101,12 +102,12 @@ module _ {𝓢 : Store} (𝓒 : Change 𝓢) where
     -- it is applied after the deciding row
     pub waits : 𝓢 .group (𝓒 .decide) < 𝓢 .group r
 
-  -- what recovery does on an image on the way to `goal d`
-  pub record Recovery (d : Bool) (X : 𝓢 .Img) : Type 0 where
+  -- what recovery does on an image on the way to `goal d`, with the buffers b
+  pub record Recovery (d : Bool) (X : 𝓢 .Img) (b : 𝓢 .Lent) : Type 0 where
     -- its rows
     pub rows : Rows 𝓢
     -- they are its answer
-    pub answer : 𝓒 .recover X ≡ some rows
+    pub answer : 𝓒 .recover b X ≡ some rows
     -- each leads to the goal
     pub settle : All (Settles d) rows
     -- together they leave out nothing
@@ -136,5 +137,8 @@ module _ {𝓢 : Store} (𝓒 : Change 𝓢) where
   pub record Obligations : Type 0 where
     -- its rows are in order
     pub orderly : Orderly
-    -- on any image on the way recovery answers with rows that lead to the goal and leave out nothing
-    pub recovers : (d : Bool) (X : 𝓢 .Img) → OnTheWay d X → Recovery d X
+    -- on any image on the way, with buffers that are long enough, recovery answers with rows that lead to the goal and leave out nothing.
+    -- Other buffers may give other rows
+    pub recovers : (d : Bool) (X : 𝓢 .Img) → OnTheWay d X → (b : 𝓢 .Lent) → T (𝓢 .enough b X) → Recovery d X b
+    -- and with buffers that are too short it refuses
+    pub refuses : (X : 𝓢 .Img) → 𝓢 .Ok X → (b : 𝓢 .Lent) → T (not (𝓢 .enough b X)) → 𝓒 .recover b X ≡ none

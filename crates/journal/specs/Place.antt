@@ -10,8 +10,8 @@ use lib.Dec.{T, eqb, ltb, leb, eqb→eq, ltb→lt, nltb→le, leb→le, lt→ltb
 use Rattle.journal.specs.Pick.{All, Has, Empty, empty-null, Pick, here, there, Picked, pick, further, all-has, all-join}
 use Rattle.journal.specs.Turn.{lowest}
 use Rattle.journal.specs.Store.{Store, Rows}
-use Rattle.journal.specs.Change.{Change, plan}
-use Rattle.journal.specs.Events.{Event, Phase, own, recovering, stopped, through}
+use Rattle.journal.specs.Change.{RecoverOf, Change, plan}
+use Rattle.journal.specs.Events.{EventOf, Phase, own, recovering, stopped, through}
 use Rattle.journal.specs.Obligations.{Obligations}
 use Rattle.journal.specs.Queue.{Chain, end, call, Queue, play}
 use Rattle.journal.specs.Chain.{Last, Ended, queue, chain-along}
@@ -53,7 +53,7 @@ module _ (𝓢 : Store) where
   abbrev pub counts : ℕ → Rows 𝓢 → Bool
   counts i W = comes (pick i W)
 
-module _ {𝓢 : Store} {recover : 𝓢 .Img → Option (Rows 𝓢)} where
+module _ {𝓢 : Store} {recover : RecoverOf 𝓢} where
   -- the rows of calls not yet in hand
   abbrev pub laterRows : {X : 𝓢 .Img} → ℕ → Chain 𝓢 recover X → List (Item 𝓢)
   laterRows n end = []
@@ -184,7 +184,7 @@ module _ (𝓢 : Store) where
   numbered-later n h [] = tt
   numbered-later n h (r ∷ rs) = (h, numbered-later n h rs)
 
-module _ {𝓢 : Store} {recover : 𝓢 .Img → Option (Rows 𝓢)} where
+module _ {𝓢 : Store} {recover : RecoverOf 𝓢} where
   rows-later : {X : 𝓢 .Img} (n : ℕ) → 0 < n → (c : Chain 𝓢 recover X) → All (Later 𝓢) (laterRows n c)
   rows-later n h end = tt
   rows-later n h (call 𝓒 o r e c) =
@@ -215,5 +215,5 @@ module _ {𝓢 : Store} {recover : 𝓢 .Img → Option (Rows 𝓢)} where
 
   -- in every queue that events lead to
   pub chain-placed : (𝓒 : Change 𝓢) (𝓞 : Obligations 𝓒) (r : 𝓒 .recover ≡ recover) (later : Chain 𝓢 recover (𝓒 .after))
-      (es : List (Event (𝓢 .Row))) (i : ℕ) → Placed (play (queue 𝓒 𝓞 r later) es) i
+      (es : List (EventOf 𝓢)) (i : ℕ) → Placed (play (queue 𝓒 𝓞 r later) es) i
   chain-placed 𝓒 𝓞 r later es i = placed (play (queue 𝓒 𝓞 r later) es) (chain-along 𝓒 𝓞 r later es .1) i

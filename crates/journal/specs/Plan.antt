@@ -2,11 +2,11 @@
 use mathlib.Core.Path.{_≡_}
 use mathlib.Core.Bool.{Bool, true, false}
 use mathlib.Core.List.{List, [], _∷_, _++_}
-use mathlib.Core.Option.{Option, some}
+use mathlib.Core.Option.{Option, none, some}
 use Prim.Native.Nat.{_<_}
 use Rattle.journal.specs.Pick.{All}
 use Rattle.journal.specs.Store.{Store, Rows, Covers, Spares, Distinct, putAll}
-use Rattle.journal.specs.Change.{Change}
+use Rattle.journal.specs.Change.{RecoverOf, Change}
 use Rattle.journal.specs.Obligations.{OnTheWay, Settles}
 
 -- Which row decides.
@@ -77,6 +77,15 @@ module _ (𝓢 : Store) where
   pendingOf p false k = Covers 𝓢 (createdOf (p .decider)) k
   pendingOf p true k = Covers 𝓢 (p .rest) k
 
+  -- an answer, where the buffers are long enough for one
+  abbrev pub ifEnough : Bool → Option (Rows 𝓢) → Option (Rows 𝓢)
+  ifEnough true answer = answer
+  ifEnough false answer = none
+
+  -- recovery by what it finds on the image; with buffers that are too short it refuses
+  abbrev pub lending : (𝓢 .Img → Option (Rows 𝓢)) → RecoverOf 𝓢
+  lending recover b X = ifEnough (𝓢 .enough b X) (recover X)
+
   -- the change that the rows make, with a recovery
   abbrev pub change : Plan → (𝓢 .Img → Option (Rows 𝓢)) → Change 𝓢
   change p recover = record {
@@ -90,7 +99,7 @@ module _ (𝓢 : Store) where
     decide = decideRow p;
     behind = behindOf p;
     pending = pendingOf p;
-    recover = recover;
+    recover = lending recover;
   }
 
   -- What is asked of the rows.
@@ -120,7 +129,8 @@ module _ (𝓢 : Store) where
     -- which comes after the deciding row, also where there is no rest
     pub clear-group : 𝓢 .group (decideRow p) < 𝓢 .group (p .clear)
 
-  -- What is asked of recovery: where it has nothing to do, and its rows on every other image on the way.
+  -- What is asked of recovery: where it has nothing to do, and its rows on every other image on the way. Rows say what becomes of records,
+  -- and that is a matter of the image alone: buffers can only be too short.
   pub record Recovers (p : Plan) (recover : 𝓢 .Img → Option (Rows 𝓢)) : Type 0 where
     -- the rows that take the call back
     pub undo : Rows 𝓢

@@ -1,18 +1,19 @@
 -- From rows of distinct records, and a recovery that fits them, to what the crash theorem asks. Assumes nothing.
 use mathlib.Core.Path.{_≡_, refl, sym, ap, _∙_}
 use mathlib.Core.Logic.{_⊎_, inl, inr, ⊎-elim, _≢_}
-use mathlib.Core.Bool.{Bool, true, false}
+use mathlib.Core.Bool.{Bool, true, false, not}
 use mathlib.Core.List.{List, [], _∷_, _++_}
-use mathlib.Core.Option.{Option, some}
+use mathlib.Core.Option.{Option, none, some}
 use Prim.Native.Nat.{_<_}
 use native.Mathlib.Omega.{arith}
+use lib.Dec.{T}
 use Rattle.journal.specs.Pick.{All, Any, Has, all-map, any-map, all-zip, all-has, has-all, all-right, all-join, any-left, any-right, any-split}
-use Rattle.journal.specs.Store.{Store, Rows, Covers, Spares, putAll, covers?, all-ok, all-other, all-same}
+use Rattle.journal.specs.Store.{Store, Rows, Covers, Spares, Distinct, putAll, covers?, spares-not, all-ok, all-other, all-same}
 use Rattle.journal.specs.Change.{Change, goal}
 use Rattle.journal.specs.Obligations.{OnTheWay, MayMark, Opens, Settles, Cover, Ahead, Behind, Recovery, Orderly, Obligations}
 use Rattle.journal.specs.Settle.{settled}
 use Rattle.journal.specs.Invariant.{goal-ok}
-use Rattle.journal.specs.Plan.{Decider, by-row, by-journal, createdOf, aheadOf, decideOf, writesOf, ByRow, Plan, writes, decideRow, afterOf, behindOf, pendingOf, change, WellFormed, Recovers}
+use Rattle.journal.specs.Plan.{Decider, by-row, by-journal, createdOf, aheadOf, decideOf, writesOf, ByRow, Plan, writes, decideRow, afterOf, behindOf, pendingOf, ifEnough, lending, change, WellFormed, Recovers}
 
 module _ {R : Type 0} where
   ahead-of : (P : R → Type 0) (set : R) (D : Decider R) → (ByRow D → P set) → (ByRow D → All P (createdOf D)) → All P (aheadOf set D)
@@ -127,6 +128,31 @@ module _ {𝓢 : Store} (p : Plan 𝓢) (recover : 𝓢 .Img → Option (Rows �
         (λ s. inl (sym (all-other 𝓢 (writes 𝓢 p) (𝓦 .ok) (𝓦 .fits) k s))) (covers? 𝓢 (writes 𝓢 p) k);
   }
 
+  -- ---- records on the way
+
+  -- once decided, the deciding row's record is as that row writes it
+  pub decided-record : {X : 𝓢 .Img} → ByRow (p .decider) → OnTheWay 𝓒 true X → 𝓢 .get X (𝓢 .key (decideRow 𝓢 p)) ≡ 𝓢 .body (decideRow 𝓢 p)
+  decided-record b i =
+      ⊎-elim (λ c. absurd (once (p .decider) (𝓦 .distinct) b c)) (λ e. e ∙ sym (written (decideRow 𝓢 p) (among (p .decider) b)))
+      (i .fixed (𝓢 .key (decideRow 𝓢 p)) (decide-elsewhere b))
+    where
+      among : (D : Decider (𝓢 .Row)) → ByRow D → Has (writesOf D (p .rest)) (decideOf (p .set) D)
+      among (by-row created r) b = any-right (λ x. x ≡ r) created (r ∷ p .rest) (inl refl)
+      among by-journal b = absurd b
+
+      tail : (xs ys : Rows 𝓢) → Distinct 𝓢 (xs ++ ys) → Distinct 𝓢 ys
+      tail [] ys d = d
+      tail (x ∷ xs) ys d = tail xs ys (d .1)
+
+      once : (D : Decider (𝓢 .Row)) → Distinct 𝓢 (writesOf D (p .rest)) → ByRow D → Covers 𝓢 (p .rest) (𝓢 .key (decideOf (p .set) D)) → ⊥
+      once (by-row created r) d b c = spares-not 𝓢 (p .rest) (𝓢 .key r) (tail created (r ∷ p .rest) d .0) c
+      once by-journal d b c = absurd b
+
+  -- while undecided, a record that the call does not create is as before
+  pub undecided-record : {X : 𝓢 .Img} → OnTheWay 𝓒 false X → (k : 𝓢 .Key) → k ≢ 𝓢 .key (p .set) → Spares 𝓢 (createdOf (p .decider)) k
+      → 𝓢 .get X k ≡ 𝓢 .get (p .before) k
+  undecided-record i k n s = ⊎-elim (λ c. absurd (spares-not 𝓢 (createdOf (p .decider)) k s c)) (λ e. e) (i .fixed k n)
+
   -- ---- recovery
 
   -- rows that write every pending record and the journal's leave out nothing
@@ -189,18 +215,38 @@ module _ {𝓢 : Store} (p : Plan 𝓢) (recover : 𝓢 .Img → Option (Rows �
     at-goal false = ρ .at-before
     at-goal true = ρ .at-after
 
-    when-set : (d : Bool) (X : 𝓢 .Img) → OnTheWay 𝓒 d X → 𝓢 .get X (𝓢 .key (p .set)) ≡ 𝓢 .body (p .set) → MayMark 𝓒 d → Recovery 𝓒 d X
-    when-set true X i m k =
-        let c = side-cover true (ρ .redo) (ρ .redo-all) tt i in
-        record { rows = ρ .redo; answer = ρ .on X i m; settle = ρ .redoes; cover = c }
-    when-set false X i m k =
-        let b = by-row-of (p .decider) k in
-        record { rows = ρ .undo; answer = ρ .back X b i m; settle = ρ .undoes; cover = side-cover false (ρ .undo) (ρ .undo-all) b i }
+    -- buffers that are long enough change nothing about the answer
+    long-enough : (X : 𝓢 .Img) (b : 𝓢 .Lent) → T (𝓢 .enough b X) → lending 𝓢 recover b X ≡ recover X
+    long-enough X b t = go (𝓢 .enough b X) t
+      where
+        go : (e : Bool) → T e → ifEnough 𝓢 e (recover X) ≡ recover X
+        go true t = refl
+        go false t = absurd t
+
+    too-short : (X : 𝓢 .Img) (b : 𝓢 .Lent) → T (not (𝓢 .enough b X)) → lending 𝓢 recover b X ≡ none
+    too-short X b t = go (𝓢 .enough b X) t
+      where
+        go : (e : Bool) → T (not e) → ifEnough 𝓢 e (recover X) ≡ none
+        go true t = absurd t
+        go false t = refl
+
+    module _ (X : 𝓢 .Img) (b : 𝓢 .Lent) (t : T (𝓢 .enough b X)) where
+      when-set : (d : Bool) → OnTheWay 𝓒 d X → 𝓢 .get X (𝓢 .key (p .set)) ≡ 𝓢 .body (p .set) → MayMark 𝓒 d → Recovery 𝓒 d X b
+      when-set true i m k =
+          let c = side-cover true (ρ .redo) (ρ .redo-all) tt i in
+          record { rows = ρ .redo; answer = long-enough X b t ∙ ρ .on X i m; settle = ρ .redoes; cover = c }
+      when-set false i m k =
+          let r = by-row-of (p .decider) k in
+          let c = side-cover false (ρ .undo) (ρ .undo-all) r i in
+          record { rows = ρ .undo; answer = long-enough X b t ∙ ρ .back X r i m; settle = ρ .undoes; cover = c }
+
+      when-clear : (d : Bool) → X ≡ goal 𝓒 d → Recovery 𝓒 d X b
+      when-clear d e = record { rows = []; answer = long-enough X b t ∙ ap recover e ∙ at-goal d; settle = tt; cover = λ k. inl (rw e) }
 
     -- all that the crash theorem asks
     pub journaled : Obligations 𝓒
     journaled = record {
       orderly = orderly;
-      recovers = λ d X i. ⊎-elim (λ m. when-set d X i (m .0) (m .1))
-          (λ e. record { rows = []; answer = rw e (at-goal d); settle = tt; cover = λ k. inl (rw e) }) (i .journal);
+      recovers = λ d X i b t. ⊎-elim (λ m. when-set X b t d i (m .0) (m .1)) (when-clear X b t d) (i .journal);
+      refuses = λ X o. too-short X;
     }

@@ -3,15 +3,14 @@
 use mathlib.Core.Path.{_≡_}
 use mathlib.Core.Bool.{Bool, true, false}
 use mathlib.Core.List.{List, [], _∷_}
-use mathlib.Core.Option.{Option}
 use Prim.Native.Nat.{ℕ, zero, suc, _+_}
-use Rattle.journal.specs.Store.{Store, Rows}
-use Rattle.journal.specs.Change.{Change}
-use Rattle.journal.specs.Events.{Event, through, St, decided, begin, step}
+use Rattle.journal.specs.Store.{Store}
+use Rattle.journal.specs.Change.{RecoverOf, Change}
+use Rattle.journal.specs.Events.{EventOf, through, St, decided, begin, step}
 use Rattle.journal.specs.Obligations.{Obligations}
 
 -- The calls from an image on. Recovery is one and the same for all of them: it is not told which call was in hand.
-pub data Chain (𝓢 : Store) (recover : 𝓢 .Img → Option (Rows 𝓢)) : 𝓢 .Img → Type 1 where
+pub data Chain (𝓢 : Store) (recover : RecoverOf 𝓢) : 𝓢 .Img → Type 1 where
   -- no call
   end : {X : 𝓢 .Img} → Chain 𝓢 recover X
   -- a call that meets its obligations, was planned on the image, and is followed by others from its outcome on
@@ -20,7 +19,7 @@ pub data Chain (𝓢 : Store) (recover : 𝓢 .Img → Option (Rows 𝓢)) : �
 -- A row waits for all rows of earlier calls, so only those of the first call left can be applied: that call is in hand, and a place past
 -- its rows names one whose turn has not come. A call that is entered while others wait belongs to the chain from the start, since its rows
 -- could not be applied sooner. One that writes nothing has no rows, and is in no queue.
-pub record Queue (𝓢 : Store) (recover : 𝓢 .Img → Option (Rows 𝓢)) : Type 1 where
+pub record Queue (𝓢 : Store) (recover : RecoverOf 𝓢) : Type 1 where
   -- the call in hand
   pub change : Change 𝓢
   -- what it owes
@@ -37,7 +36,7 @@ abbrev pub one : Bool → ℕ
 one false = 0
 one true = 1
 
-module _ {𝓢 : Store} {recover : 𝓢 .Img → Option (Rows 𝓢)} where
+module _ {𝓢 : Store} {recover : RecoverOf 𝓢} where
   -- how many calls
   abbrev pub calls : {X : 𝓢 .Img} → Chain 𝓢 recover X → ℕ
   calls end = 0
@@ -54,7 +53,7 @@ module _ {𝓢 : Store} {recover : 𝓢 .Img → Option (Rows 𝓢)} where
   decisions q = q .past + one (decided (q .change) (q .state))
 
   -- the call in hand meets an event
-  abbrev pub stepped : Queue 𝓢 recover → Event (𝓢 .Row) → Queue 𝓢 recover
+  abbrev pub stepped : Queue 𝓢 recover → EventOf 𝓢 → Queue 𝓢 recover
   stepped q e = record { change = q .change; owed = q .owed; state = step (q .change) (q .state) e; later = q .later; past = q .past }
 
   -- whether its own rows have all been applied, and no crash came
@@ -68,10 +67,10 @@ module _ {𝓢 : Store} {recover : 𝓢 .Img → Option (Rows 𝓢)} where
   onward true q (call 𝓒 o r e c) = record { change = 𝓒; owed = o; state = begin 𝓒 (q .state .img); later = c; past = decisions q }
 
   -- the queue after an event
-  abbrev pub next : Queue 𝓢 recover → Event (𝓢 .Row) → Queue 𝓢 recover
+  abbrev pub next : Queue 𝓢 recover → EventOf 𝓢 → Queue 𝓢 recover
   next q e = let r = stepped q e in onward (over r) r (q .later)
 
   -- and after a list of them
-  abbrev pub play : Queue 𝓢 recover → List (Event (𝓢 .Row)) → Queue 𝓢 recover
+  abbrev pub play : Queue 𝓢 recover → List (EventOf 𝓢) → Queue 𝓢 recover
   play q [] = q
   play q (e ∷ es) = play (next q e) es

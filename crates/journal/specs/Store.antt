@@ -17,6 +17,10 @@ pub record Store : Type 1 where
   pub Body : Type 0
   -- one write of a plan
   pub Row : Type 0
+  -- what recovery (the papers' repair) is lent besides the image: its buffers
+  pub Lent : Type 0
+  -- whether they are long enough for recovery of an image
+  pub enough : Lent → Img → Bool
   -- a row's ordering group: it waits for the rows of lower groups
   pub group : Row → ℕ
   -- the record that a row replaces
@@ -47,30 +51,6 @@ pub record Store : Type 1 where
   pub get-other : {X : Img} {r : Row} → Ok X → Fits r → (j : Key) → j ≢ key r → get (put X r) j ≡ get X j
   -- images of the layout with the same records are the same
   pub ext : {X Y : Img} → Ok X → Ok Y → ((k : Key) → get X k ≡ get Y k) → X ≡ Y
-
--- The same store with rows in another form, such as a plan's bytes and a row's number.
-abbrev pub withRows : (𝓢 : Store) (R : Type 0) → (R → 𝓢 .Row) → Store
-withRows 𝓢 R f = record {
-  Img = 𝓢 .Img;
-  Key = 𝓢 .Key;
-  Body = 𝓢 .Body;
-  Row = R;
-  group = λ r. 𝓢 .group (f r);
-  key = λ r. 𝓢 .key (f r);
-  body = λ r. 𝓢 .body (f r);
-  get = 𝓢 .get;
-  put = λ X r. 𝓢 .put X (f r);
-  accepts = λ X r. 𝓢 .accepts X (f r);
-  Ok = 𝓢 .Ok;
-  Fits = λ r. 𝓢 .Fits (f r);
-  same = 𝓢 .same;
-  takes = λ {X} {r} o t. 𝓢 .takes {X = X} {r = f r} o t;
-  refuses = λ X r t. 𝓢 .refuses X (f r) t;
-  put-ok = λ {X} {r} o t. 𝓢 .put-ok {X = X} {r = f r} o t;
-  get-same = λ {X} {r} o t. 𝓢 .get-same {X = X} {r = f r} o t;
-  get-other = λ {X} {r} o t j n. 𝓢 .get-other {X = X} {r = f r} o t j n;
-  ext = λ {X} {Y} o p e. 𝓢 .ext {X = X} {Y = Y} o p e;
-}
 
 module _ (𝓢 : Store) where
   abbrev pub Rows : Type 0
@@ -127,3 +107,8 @@ module _ (𝓢 : Store) where
       go (yes e) q = inl (inl e)
       go (no n) (inl a) = inl (inr a)
       go (no n) (inr h) = inr (n, h)
+
+  pub spares-not : (rs : Rows) (k : 𝓢 .Key) → Spares rs k → Covers rs k → ⊥
+  spares-not [] k s c = c
+  spares-not (r ∷ rs) k s (inl e) = s .0 e
+  spares-not (r ∷ rs) k s (inr c) = spares-not rs k (s .1) c
