@@ -1,0 +1,3 @@
+pub mod Inode
+pub mod Entry
+pub mod Journal
