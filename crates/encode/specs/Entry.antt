@@ -35,6 +35,7 @@ entry-put width parent target name fits = put-zeros-join width (entryHead parent
 -- The bytes x are an entry's, with parent p, target t and name n, and zeros where they belong.
 pub record Names (x : List ℕ) (width p t : ℕ) (n : List ℕ) : Type 0 where
   pub long : length x ≡ width
+  pub fits : 8 + length n ≤ width
   pub parent : entryParent x ≡ p
   pub target : entryTarget x ≡ t
   pub name-length : entryNameLength x ≡ length n
@@ -48,7 +49,7 @@ pub names-itself : (r : List ℕ) (width : ℕ) → length r ≡ width → 8 + e
     → zeros r (8 + entryNameLength r) (width - 8 - entryNameLength r) ≡ true → Names r width (entryParent r) (entryTarget r) (entryName r)
 names-itself r width long fits padded filled =
     let e : entryNameLength r ≡ length (entryName r) = sym (part-length r 8 (entryNameLength r) (omega arith)) in
-    record { long = long; parent = refl; target = refl; name-length = e; name = refl; padded = padded; filled = rw e at filled }
+    record { long = long; fits = omega arith; parent = refl; target = refl; name-length = e; name = refl; padded = padded; filled = rw e at filled }
 
 -- an entry is read back
 module _ (width p t : ℕ) (n : List ℕ) (fits : 8 + length n ≤ width) where
@@ -75,6 +76,7 @@ module _ (width p t : ℕ) (n : List ℕ) (fits : 8 + length n ≤ width) where
   unfolding entryBytes bytesOf numberAt zeros all
   entry-names sp st = record {
     long = made-long;
+    fits = fits;
     parent = omega arith;
     target = omega arith;
     name-length = refl;
@@ -84,14 +86,15 @@ module _ (width p t : ℕ) (n : List ℕ) (fits : 8 + length n ≤ width) where
   }
 
 -- with another target, all the rest is as before
-pub names-target : (x : List ℕ) (width p t : ℕ) (n : List ℕ) → 4 ≤ width → Names x width p t n → (v : ℕ) → v < 65536 → Names (retargeted v x) width p v n
-names-target x width p t n wide names v small =
+pub names-target : {x : List ℕ} {width p t : ℕ} {n : List ℕ} → Names x width p t n → (v : ℕ) → v < 65536 → Names (retargeted v x) width p v n
+names-target {x} {width} {p} {t} {n} names v small =
     let l = bytesOf-length 2 v in
     let same-length = put-after (bytesOf 2 v) x 2 4 (omega arith) in
     record {
       long = put-length x 2 _ ∙ names .long;
+      fits = names .fits;
       parent = number-put-other 2 x 2 _ 0 (inl (omega arith)) ∙ names .parent;
-      target = number-put 2 x 2 v (omega (arith, names .long)) small;
+      target = number-put 2 x 2 v (omega (arith, names .long, names .fits)) small;
       name-length = same-length ∙ names .name-length;
       name = ap (λ (k : ℕ). part (put x 2 (bytesOf 2 v)) 8 k) same-length ∙ put-part-other x 2 _ 8 _ (inr (omega arith)) ∙ names .name;
       padded = zeros-put-other x 2 _ 5 3 (inr (omega arith)) ∙ names .padded;

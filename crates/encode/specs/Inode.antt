@@ -68,7 +68,7 @@ beside : (k : ℕ) (x : List ℕ) (at v j i : ℕ) → (i + j ≤ at) ⊎ (at + 
 beside k x at v j i h = number-put-other j x at (bytesOf k v) i (rw (bytesOf-length k v) h)
 
 -- each writer changes what it is named for, and one may follow another
-module _ (r x : List ℕ) (n f m c : ℕ) (says : Says r x n f m c) where
+module _ {r x : List ℕ} {n f m c : ℕ} (says : Says r x n f m c) where
   wide : length x ≡ 32
   wide = says .head .long
 
