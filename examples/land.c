@@ -41,7 +41,7 @@ struct contents {
     size_t len;
 };
 
-static void fail(int status, const char *name, const char *sentence)
+static _Noreturn void fail(int status, const char *name, const char *sentence)
 {
     fprintf(stderr, "land: %s: %s\n", name, sentence);
     exit(status);
@@ -72,7 +72,6 @@ static struct contents read_file(const char *name, int file, size_t longest, con
         contents.len += (size_t)count;
     }
     fail(UNUSABLE, name, too_long);
-    return contents;
 }
 
 /* A header of eight zeros is no row. The plan has at least 648 bytes here, since mp_land did not answer 205. */
@@ -167,13 +166,13 @@ int main(int argc, char **argv)
     int plan_file = open_file(argv[2], O_RDONLY);
     struct contents image = read_file(argv[1], image_file, LONGEST_IMAGE, "it is longer than any image, 53448 bytes");
     struct contents plan = read_file(argv[2], plan_file, LONGEST_PLAN, "it is longer than 65536 bytes; a plan takes 648");
+    if (close(plan_file) != 0)
+        fail(UNUSABLE, argv[2], strerror(errno));
     size_t rows = land_rows(image, plan);
     for (uint8_t group = 1; group <= GROUPS; group++)
         write_group(argv[1], image_file, plan, rows, group);
     if (close(image_file) != 0)
         fail(UNFINISHED, argv[1], strerror(errno));
-    if (close(plan_file) != 0)
-        fail(UNUSABLE, argv[2], strerror(errno));
     free(plan.bytes);
     free(image.bytes);
     return 0;
