@@ -1,5 +1,6 @@
 pub mod Form
 pub mod Rows
 pub mod Many
+pub mod Unused
 pub mod Fit
 pub mod Bench

@@ -47,7 +47,7 @@ fields plan i = record {
   position = sym (number-part 2 plan (headerAt i) headerBytes 6 (omega arith));
 }
 
-header-length : (i : ℕ) (r : Row) → length (headerOf i r) ≡ headerBytes
+pub header-length : (i : ℕ) (r : Row) → length (headerOf i r) ≡ headerBytes
 unfolding headerOf bytesOf
 header-length i r = refl
 

@@ -35,6 +35,7 @@ pub fn all() -> Collection {
         collection.add_on(&tree, lookups::cases(&tree, &spread(used_slots(&tree))));
         collection.add_on(&tree, wander::cases(&tree, count, random));
     }
+    collection.add_on(&maze(), permissions::under_a_file());
     collection
 }
 

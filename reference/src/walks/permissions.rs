@@ -1,8 +1,8 @@
-//! One directory of the maze with every mode, asked for search by every kind of caller.
+//! One directory of the maze with every mode, asked for search by every kind of caller; and a file that nobody else may search.
 
-use super::{request, Told, WalkCase, WalkCases};
-use crate::errno::EACCES;
-use crate::maze::{maze, D, E, GROUP, ON_D, OWNER, ROOT, SEARCH_D, SEARCH_ROOT};
+use super::{from_current, request, Told, WalkCase, WalkCases};
+use crate::errno::{EACCES, ENOTDIR};
+use crate::maze::{maze, D, E, F, GROUP, ON_D, OWNER, ROOT, SEARCH_D, SEARCH_ROOT};
 use crate::permission::Credentials;
 use crate::request::{Operand, Request, CURRENT};
 use crate::walk::WALKED;
@@ -94,4 +94,19 @@ pub fn cases() -> WalkCases {
         }
     }
     cases
+}
+
+/// A component under somebody else's file, as old and as new: that it is no directory is told before that search is denied.
+pub fn under_a_file() -> WalkCases {
+    let mut tree = maze();
+    let file = &mut tree.inodes[usize::from(F)];
+    (file.mode, file.owner, file.group) = (0o600, 200, 200);
+    let (under, good) = (from_current(b"f/x"), from_current(b"/d/f"));
+    let case = |old: &Operand, new: &Operand, steps| WalkCase {
+        class: "not a directory",
+        tree: tree.clone(),
+        request: request(old.clone(), new.clone()),
+        told: Some(Told { number: ENOTDIR, steps }),
+    };
+    vec![case(&under, &good, [2, 0]), case(&good, &under, [2, 2])]
 }

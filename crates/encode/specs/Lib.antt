@@ -1,0 +1,4 @@
+pub mod Inode
+pub mod Entry
+pub mod Journal
+pub mod Bench
