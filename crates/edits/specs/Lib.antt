@@ -13,6 +13,5 @@ pub mod Formed
 pub mod Bodies
 pub mod FinishedBodies
 pub mod Refusals
-pub mod Writers
 pub mod Written
 pub mod Bench

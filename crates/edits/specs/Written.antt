@@ -1,5 +1,5 @@
 -- The finished image of a rename, record by record in bytes: its records are well formed, and its bodies are consistent. Assumes nothing.
-use mathlib.Core.Path.{_≡_, refl, sym, ap, _∙_}
+use mathlib.Core.Path.{_≡_, refl, sym, ap, _∙_, subst}
 use mathlib.Core.Logic.{_≢_, _⊎_, inl, inr, ⊎-elim}
 use mathlib.Core.Bool.{Bool, true, false, cond}
 use mathlib.Core.List.{List}
@@ -10,13 +10,14 @@ use native.Mathlib.Omega.{arith}
 use lib.ListN.{length, getD, replicate, getD-replicate}
 use borrow.Author.Tests.{eqb-false, not-true}
 use Rattle.seq.specs.Search.{all}
-use Rattle.seq.specs.Bytes.{part, zeros, noZero, part-byte, put-after, put-part-other}
-use Rattle.seq.specs.Number.{numberAt, bytesOf, bytesOf-length, number-same, number-put}
+use Rattle.seq.specs.Bytes.{part, zeros, noZero, part-byte, zeros-replicate}
+use Rattle.seq.specs.Number.{number-same}
 use Rattle.layout.specs.declared.Shape.{Shape}
 use Rattle.layout.specs.Contents.{Laid}
 use Rattle.layout.specs.Record.{record-length}
 use Rattle.layout.specs.Fields.{inodeKind, inodeLinks, entryParent, entryTarget, entryNameLength, entryName, textLength, handleState, handleInode}
 use Rattle.layout.specs.View.{View, viewOf, inodeAt, entryAt, textAt, handleAt, entryUsed, nameRoom}
+use Rattle.encode.specs.Entry.{entryBytes, retargeted, Names, names-itself, names-target, entry-names}
 use Rattle.names.specs.Name.{nameGood}
 use Rattle.tree.specs.Tree.{entriesOf, childDirectories}
 use Rattle.consistency.specs.Facts.{Bodies}
@@ -27,7 +28,6 @@ use Rattle.edits.specs.Moved.{Allowed, Replaced, Gone, replaced?, gone?,
 use Rattle.edits.specs.Formed.{EntryForm, TextForm, Formed, formed-changed}
 use Rattle.edits.specs.Bodies.{bodies-consistent, bodies-formed}
 use Rattle.edits.specs.FinishedBodies.{rename-consistent}
-use Rattle.edits.specs.Writers.{retargeted, entryBytes, number-beside, zeros-beside, zeros-all, made-parent, made-target, made-length, made-name, made-padded, made-filled}
 
 -- the inodes whose records a rename writes
 abbrev pub Touched : View → ℕ → ℕ → ℕ → ℕ → ℕ → Type 0
@@ -38,7 +38,7 @@ pub record Written (h : Shape) (s t : List ℕ) (old new moved from into : ℕ) 
   -- the old entry is cleared, the new one names the moved inode, all others are as before
   pub entry : (j : ℕ) → j < h .entries → j ≢ old → j ≢ new → entryAt h t j ≡ entryAt h s j
   pub cleared : entryAt h t old ≡ replicate (h .width) 0
-  pub written : entryAt h t new ≡ cond (entryUsed (viewOf h s) new) (retargeted (entryAt h s new) moved) (entryBytes (h .width) into moved called)
+  pub written : entryAt h t new ≡ cond (entryUsed (viewOf h s) new) (retargeted moved (entryAt h s new)) (entryBytes (h .width) into moved called)
   -- an inode is as before, or zero, or has its first twelve bytes as before and these numbers behind them
   pub inode : (i : ℕ) → i < h .inodes → (Touched (viewOf h s) new moved from into i → ⊥) → inodeAt h t i ≡ inodeAt h s i
   pub freed : (i : ℕ) → i < h .inodes → Gone (viewOf h s) (viewOf h t) new i → inodeAt h t i ≡ replicate 32 0
@@ -69,17 +69,7 @@ same-entry h s t j e = record { parent = ap entryParent e; target = ap entryTarg
 -- a text of zeros is free
 blank-text : (h : Shape) (t : List ℕ) (x : ℕ) → textAt h t x ≡ replicate 64 0 → TextForm h t x
 unfolding viewOf noZero part all
-blank-text h t x e = record { short = rw e (omega arith); filled = rw e (zeros-all 64 1 63 (omega arith)); bytes = rw e }
-
--- an entry of directory `into` that names the moved inode
-record NewEntry (h : Shape) (into moved : ℕ) (called r : List ℕ) : Type 0 where
-  parent : numberAt 2 r 0 ≡ into
-  target : numberAt 2 r 2 ≡ moved
-  used : getD r 4 0 ≢ 0
-  name : part r 8 (getD r 4 0) ≡ called
-  short : getD r 4 0 ≤ nameRoom h
-  padded : zeros r 5 3 ≡ true
-  filled : zeros r (8 + getD r 4 0) (nameRoom h - getD r 4 0) ≡ true
+blank-text h t x e = record { short = rw e (omega arith); filled = rw e (zeros-replicate 64 1 63 (omega arith)); bytes = rw e }
 
 module _ {h : Shape} {s t : List ℕ} {old new moved from into : ℕ} {called : List ℕ} (laid : Laid h s) (f : Bodies h s)
     (ok : Allowed (viewOf h s) old new moved from into called) (m : Written h s t old new moved from into called)
@@ -110,51 +100,36 @@ module _ {h : Shape} {s t : List ℕ} {old new moved from into : ℕ} {called : 
       let byte = head-byte _ _ (m .head i l n) in
       record { kind = byte 0 (omega arith); system = byte 1 (omega arith); mode = number-same 2 _ _ 2 2 (λ k b. byte (2 + k) (omega arith)) }
 
-  -- the new entry where a slot is taken over
-  taken-over : EntryUsed v new → NewEntry h into moved called (retargeted (entryAt h s new) moved)
+  -- the new entry where a slot is taken over, which has parent and name already
+  taken-over : EntryUsed v new → Names (retargeted moved (entryAt h s new)) (h .width) into moved called
   unfolding viewOf
   taken-over u =
       let r = entryAt h s new in
       let e = form .entry new (u .0) (u .1) in
       let long : length r ≡ h .width = record-length h s 1 new (laid .long) (omega arith) (u .0) in
-      let two : length (bytesOf 2 moved) ≡ 2 = bytesOf-length 2 moved in
-      let four : getD (retargeted r moved) 4 0 ≡ getD r 4 0 = put-after (bytesOf 2 moved) r 2 4 (omega arith) in
-      record {
-        parent = number-beside r 2 (bytesOf 2 moved) 2 0 (inl (omega arith)) ∙ ok .new-parent u;
-        target = number-put 2 r 2 moved (omega (arith, laid .width-least)) (omega (arith, moved-below, laid .inodes-most));
-        used = λ z. u .1 (sym four ∙ z);
-        name = rw four (put-part-other r 2 (bytesOf 2 moved) 8 (getD r 4 0) (inr (omega arith)) ∙ ok .new-name u);
-        short = rw four (e .short);
-        padded = zeros-beside r 2 (bytesOf 2 moved) 5 3 (inr (omega arith)) ∙ e .padded;
-        filled = rw four (zeros-beside r 2 (bytesOf 2 moved) (8 + getD r 4 0) (nameRoom h - getD r 4 0) (inr (omega arith)) ∙ e .filled);
-      }
+      let itself = names-itself r (h .width) long (omega (arith, e .short, laid .width-least)) (e .padded) (e .filled) in
+      let there = names-target itself moved (omega (arith, moved-below, laid .inodes-most)) in
+      subst (λ (n : List ℕ). Names (retargeted moved r) (h .width) into moved n) (ok .new-name u)
+      (subst (λ (p : ℕ). Names (retargeted moved r) (h .width) p moved (entryName r)) (ok .new-parent u) there)
 
-  -- and where it is made
-  made : NewEntry h into moved called (entryBytes (h .width) into moved called)
-  made =
-      let fits : 8 + length called ≤ h .width = omega (arith, fitting, laid .width-least) in
-      let len = made-length (h .width) into moved called fits in
-      record {
-        parent = made-parent (h .width) into moved called fits (omega (arith, into-below, laid .inodes-most));
-        target = made-target (h .width) into moved called fits (omega (arith, moved-below, laid .inodes-most));
-        used = λ z. nonempty (sym len ∙ z);
-        name = rw len (made-name (h .width) into moved called fits);
-        short = rw len fitting;
-        padded = made-padded (h .width) into moved called fits;
-        filled = made-filled (h .width) into moved called fits _ len;
-      }
-
-  new-entry : NewEntry h into moved called (entryAt h t new)
+  new-entry : Names (entryAt h t new) (h .width) into moved called
   unfolding viewOf
   new-entry = rw (m .written) (go (entryUsed v new) refl)
     where
-      go : (b : Bool) → entryUsed v new ≡ b → NewEntry h into moved called (cond b (retargeted (entryAt h s new) moved) (entryBytes (h .width) into moved called))
+      go : (b : Bool) → entryUsed v new ≡ b → Names (cond b (retargeted moved (entryAt h s new)) (entryBytes (h .width) into moved called)) (h .width) into moved called
       go true u = taken-over (ok .new-below, eqb-false _ _ (not-true _ u))
-      go false u = made
+      go false u =
+          entry-names (h .width) into moved called (omega (arith, fitting, laid .width-least)) (omega (arith, into-below, laid .inodes-most))
+          (omega (arith, moved-below, laid .inodes-most))
 
   new-form : EntryForm h t new
   unfolding viewOf
-  new-form = record { short = new-entry .short; padded = new-entry .padded; filled = new-entry .filled; name = rw (new-entry .name) named }
+  new-form = record {
+    short = rw (new-entry .name-length) fitting;
+    padded = new-entry .padded;
+    filled = rw (new-entry .name-length) (new-entry .filled);
+    name = rw (new-entry .name) named;
+  }
 
   -- the inodes that a rename writes were in use
   touched? : (i : ℕ) → Dec (Touched v new moved from into i)
@@ -184,7 +159,7 @@ module _ {h : Shape} {s t : List ℕ} {old new moved from into : ℕ} {called : 
     size = record { inodes = refl; entries = refl; texts = refl; handles = refl };
     entry = λ j l a b. same-entry h s t j (m .entry j l a b);
     cleared = rw (m .cleared) (getD-replicate (h .width) 4 0 0 (omega (arith, laid .width-least)));
-    used = new-entry .used;
+    used = λ z. nonempty (sym (new-entry .name-length) ∙ z);
     parent = new-entry .parent;
     target = new-entry .target;
     name = new-entry .name;
@@ -207,7 +182,7 @@ module _ {h : Shape} {s t : List ℕ} {old new moved from into : ℕ} {called : 
       go : Dec (Touched v new moved from into i) → Dec (Gone v w new i)
           → (inodeAt h t i ≡ inodeAt h s i) ⊎ (w .kind i ≡ 0 → zeros (inodeAt h t i) 0 32 ≡ true)
       go (no n) d = inl (m .inode i l n)
-      go (yes c) (yes g) = inr (λ _. rw (m .freed i l g) (zeros-all 32 0 32 (omega arith)))
+      go (yes c) (yes g) = inr (λ _. rw (m .freed i l g) (zeros-replicate 32 0 32 (omega arith)))
       go (yes c) (no g) = inr (λ z. absurd (touched-used i c (sym (same-head i l g .kind) ∙ z)))
 
   entry-form : (j : ℕ) → j < h .entries → (entryAt h t j ≡ entryAt h s j)
@@ -215,7 +190,7 @@ module _ {h : Shape} {s t : List ℕ} {old new moved from into : ℕ} {called : 
   entry-form j l = go (ℕ-discrete j old) (ℕ-discrete j new)
     where
       blank : zeros (entryAt h t old) 0 (h .width) ≡ true
-      blank = rw (m .cleared) (zeros-all (h .width) 0 (h .width) (omega arith))
+      blank = rw (m .cleared) (zeros-replicate (h .width) 0 (h .width) (omega arith))
 
       go : Dec (j ≡ old) → Dec (j ≡ new) → (entryAt h t j ≡ entryAt h s j)
           ⊎ ((w .nameLength j ≡ 0 → zeros (entryAt h t j) 0 (h .width) ≡ true) × (w .nameLength j ≢ 0 → EntryForm h t j))
