@@ -11,10 +11,9 @@ use Rattle.layout.specs.Contents.{shapeOf}
 use Rattle.layout.specs.Record.{recordAt}
 use Rattle.layout.specs.View.{View, viewOf}
 use Rattle.layout.specs.Bench.{bench}
-use Rattle.tree.specs.Tree.{entriesOf}
+use Rattle.tree.specs.Tree.{entriesOf, reaches}
 use Rattle.consistency.specs.Facts.{consistent-is}
 use Rattle.consistency.specs.Bench.{bench-consistent}
-use Rattle.edits.specs.WayUp.{reaches}
 use Rattle.edits.specs.ConsistentView.{ConsistentView}
 use Rattle.edits.specs.Moved.{Allowed}
 use Rattle.edits.specs.Renamed.{renamed, renamed-consistent}

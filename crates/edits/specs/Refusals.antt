@@ -12,7 +12,8 @@ use Rattle.seq.specs.Bytes.{sameBytes, same-refl}
 use Rattle.seq.specs.Climb.{up}
 use Rattle.layout.specs.View.{View, entryUsed, handleOpen}
 use Rattle.edits.specs.Kinds.{IsDirectory, EntryUsed, HandleOpen}
-use Rattle.edits.specs.WayUp.{reaches, no-way}
+use Rattle.tree.specs.Tree.{reaches}
+use Rattle.edits.specs.WayUp.{no-way}
 use Rattle.edits.specs.ConsistentView.{ConsistentView, parent-directory}
 
 module _ (v : View) where

@@ -1,24 +1,19 @@
 -- The way up from a directory, by the fields of inodes: the tests for it, and what they say as a number of steps (rule 36). Assumes nothing.
 use mathlib.Core.Path.{_≡_}
 use mathlib.Core.Logic.{_≢_}
-use mathlib.Core.Bool.{Bool, true, false, _&&_, _||_, or-true}
+use mathlib.Core.Bool.{true, false, or-true}
 use Prim.Native.Nat.{ℕ, zero, suc, _≤_}
 use native.Mathlib.Nat.{le-of-suc-le-suc}
 use native.Mathlib.Decide.{ℕ-discrete}
 use native.Mathlib.Omega.{arith}
-use lib.Dec.{eqb, ltb}
+use lib.Dec.{ltb}
 use borrow.Author.Tests.{eqb-true, eq-eqb, ne-eqb, lt-ltb}
 use Rattle.seq.specs.Truth.{and-right, not-both}
 use Rattle.seq.specs.Climb.{up, short-way}
-use Rattle.layout.specs.View.{View, isDirectory}
-use Rattle.tree.specs.Tree.{leads}
+use Rattle.layout.specs.View.{View}
+use Rattle.tree.specs.Tree.{leads, reaches}
 use Rattle.edits.specs.Kinds.{IsDirectory}
 use Rattle.edits.specs.Tests.{is-kind}
-
--- inode i is the goal, or its field names a directory from which the fields lead to the goal in fewer steps
-unfoldable pub reaches : View → ℕ → ℕ → ℕ → Bool
-reaches v goal zero i = eqb i goal
-reaches v goal (suc n) i = eqb i goal || isDirectory v (v .field i) && reaches v goal n (v .field i)
 
 module _ (v : View) where
   -- rule 36 as a number of steps

@@ -1,0 +1,2 @@
+// The order of refusal of a rename once both walks are whole.
+pub mod case;
