@@ -61,8 +61,12 @@ abbrev pub freeRecord : Shape → ℕ → List ℕ
 freeRecord h k = replicate (recordBytes h k) 0
 
 -- results: the moved inode gets its time of change, and a directory its new parent
+abbrev pub reparented : Bool → ℕ → List ℕ → List ℕ
+reparented true into r = withField into r
+reparented false into r = r
+
 unfoldable pub movedBytes : ℕ → ℕ → List ℕ → List ℕ
-movedBytes into time r = withChanged time (cond (eqb (inodeKind r) 2) (withField into r) r)
+movedBytes into time r = reparented (eqb (inodeKind r) 2) into (withChanged time r)
 
 -- results: the old and the new parent get their link count and both times
 unfoldable pub holderBytes : ℕ → ℕ → List ℕ → List ℕ
