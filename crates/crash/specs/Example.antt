@@ -19,6 +19,7 @@ use Rattle.layout.specs.Contents.{Read, nameIs, rowIs, shapeOf, rowGood, rowsGo
 use Rattle.layout.specs.Record.{recordAt, store}
 use Rattle.plan.specs.Form.{planRows, planBytes, rowAt, headerOf, rowPut, rowsPut, cleared, noRow, rowCount}
 use Rattle.plan.specs.Fit.{coverable, coversSection, covers, rowFits, applicable}
+use Rattle.plan.specs.Write.{Write, inodeKey, entryKey, journalKey}
 use Rattle.apply.specs.Apply.{applyNumber, appliedImage}
 use Rattle.journal.specs.Store.{putAll}
 use Rattle.journal.specs.Change.{Change}
@@ -26,7 +27,7 @@ use Rattle.journal.specs.Events.{EventOf, apply, stray, crash, decided, start, 
 use Rattle.journal.specs.Obligations.{Obligations}
 use Rattle.journal.specs.Plan.{by-row, Plan, behindOf, WellFormed, Recovers}
 use Rattle.journal.specs.Planned.{clear-settles, behind-all}
-use Rattle.crash.specs.Image.{Write, Fits, other-section, isValid, recordOf, read-of, first-ok, accepted, putWrite, images, storeAll}
+use Rattle.crash.specs.Image.{Fits, other-section, isValid, recordOf, read-of, first-ok, accepted, putWrite, images, storeAll}
 use Rattle.crash.specs.Buffers.{Buffers, enough, enough-is, is-enough, too-short}
 use Rattle.crash.specs.Job.{jobs}
 use Rattle.crash.specs.Rows.{jobsIn, planOf}
@@ -56,15 +57,6 @@ image-read = read-of shape image refl refl
 
 -- ---- the call: the journal record is set, the entry decides, the inode follows, the journal record is cleared
 
-abbrev pub inodeKey : Key
-inodeKey = record { section = 0; index = 0 }
-
-abbrev pub entryKey : Key
-entryKey = record { section = 1; index = 0 }
-
-abbrev pub journalKey : Key
-journalKey = record { section = 4; index = 0 }
-
 abbrev pub row : ℕ → Key → ℕ → Write
 row group key byte = record { group = group; key = key; body = replicate 32 byte }
 
@@ -72,8 +64,8 @@ abbrev pub call : Plan (images shape image)
 call = record {
   before = image;
   set = row 1 journalKey 1;
-  decider = by-row [] (row 2 entryKey 5);
-  rest = row 3 inodeKey 7 ∷ [];
+  decider = by-row [] (row 2 (entryKey 0) 5);
+  rest = row 3 (inodeKey 0) 7 ∷ [];
   clear = row 4 journalKey 0;
 }
 
@@ -84,7 +76,7 @@ rowsFor false true = behindOf (images shape image) call
 rowsFor false false = call .clear ∷ []
 
 abbrev pub found : List ℕ → List Write
-found s = rowsFor (eqb (getD (recordOf shape s journalKey) 0 0) 0) (eqb (getD (recordOf shape s entryKey) 0 0) 5)
+found s = rowsFor (eqb (getD (recordOf shape s journalKey) 0 0) 0) (eqb (getD (recordOf shape s (entryKey 0)) 0 0) 5)
 
 abbrev pub recover : List ℕ → Option (List Write)
 recover s = some (found s)
@@ -99,11 +91,11 @@ call-formed = record {
   set-fits = row-fits 1 journalKey 1 (lit≤ tt) (lit≤ tt) (record { in-image = lit< tt; in-section = lit< tt }) refl refl;
   clear-fits = row-fits 4 journalKey 0 (lit≤ tt) (lit≤ tt) (record { in-image = lit< tt; in-section = lit< tt }) refl refl;
   fits = (
-    row-fits 2 entryKey 5 (lit≤ tt) (lit≤ tt) (record { in-image = lit< tt; in-section = lit< tt }) refl refl,
-    (row-fits 3 inodeKey 7 (lit≤ tt) (lit≤ tt) (record { in-image = lit< tt; in-section = lit< tt }) refl refl, tt),
+    row-fits 2 (entryKey 0) 5 (lit≤ tt) (lit≤ tt) (record { in-image = lit< tt; in-section = lit< tt }) refl refl,
+    (row-fits 3 (inodeKey 0) 7 (lit≤ tt) (lit≤ tt) (record { in-image = lit< tt; in-section = lit< tt }) refl refl, tt),
   );
-  distinct = ((other-section inodeKey entryKey (omega arith), tt), (tt, tt));
-  apart = (other-section entryKey journalKey (omega arith), (other-section inodeKey journalKey (omega arith), tt));
+  distinct = ((other-section (inodeKey 0) (entryKey 0) (omega arith), tt), (tt, tt));
+  apart = (other-section (entryKey 0) journalKey (omega arith), (other-section (inodeKey 0) journalKey (omega arith), tt));
   clears = refl;
   restores = refl;
   created-groups = tt;
@@ -123,11 +115,11 @@ call-recovers = record {
   redo-all = λ k c. c;
   at-before = refl;
   at-after = refl;
-  back = λ X b i m. rw (m, ⊎-elim (λ n. absurd n) (λ e. e) (i .fixed entryKey (other-section entryKey journalKey (omega arith))));
+  back = λ X b i m. rw (m, ⊎-elim (λ n. absurd n) (λ e. e) (i .fixed (entryKey 0) (other-section (entryKey 0) journalKey (omega arith))));
   on = λ X i m. rw (
     m,
-    ⊎-elim (⊎-elim (λ e. absurd (other-section inodeKey entryKey (omega arith) e)) (λ n. absurd n)) (λ e. e)
-        (i .fixed entryKey (other-section entryKey journalKey (omega arith))),
+    ⊎-elim (⊎-elim (λ e. absurd (other-section (inodeKey 0) (entryKey 0) (omega arith) e)) (λ n. absurd n)) (λ e. e)
+        (i .fixed (entryKey 0) (other-section (entryKey 0) journalKey (omega arith))),
   );
 }
 
@@ -143,7 +135,7 @@ job = record {
 }
 
 few : (s : List ℕ) → length (found s) ≤ planRows
-few s = go (eqb (getD (recordOf shape s journalKey) 0 0) 0) (eqb (getD (recordOf shape s entryKey) 0 0) 5)
+few s = go (eqb (getD (recordOf shape s journalKey) 0 0) 0) (eqb (getD (recordOf shape s (entryKey 0)) 0 0) 5)
   where
     go : (clear on : Bool) → length (rowsFor clear on) ≤ planRows
     go true on = lit≤ tt
@@ -188,7 +180,7 @@ pub call-owed : Obligations jobCall
 call-owed = planned-owed shape image call call-formed buffer (lit≤ tt) (lit≤ tt) recover call-recovers job job-answers
 
 -- the plan applied as it stands, without a crash
-pub call-applied : putAll (jobs shape image) image (jobsIn bytes) ≡ storeAll shape image (row 2 entryKey 5 ∷ row 3 inodeKey 7 ∷ [])
+pub call-applied : putAll (jobs shape image) image (jobsIn bytes) ≡ storeAll shape image (row 2 (entryKey 0) 5 ∷ row 3 (inodeKey 0) 7 ∷ [])
 call-applied = planned-in-order shape image call call-formed buffer (lit≤ tt) (lit≤ tt) (
   (lit≤ tt, (lit≤ tt, (lit≤ tt, tt))),
   ((lit≤ tt, (lit≤ tt, tt)), ((lit≤ tt, tt), (tt, tt))),

@@ -14,15 +14,10 @@ use Rattle.layout.specs.Place.{Key, Valid, contentsBytes, records}
 use Rattle.layout.specs.Contents.{Laid, Read, layoutGood, shapeOf, good-laid}
 use Rattle.layout.specs.Record.{recordAt, store, store-same, store-other, store-contents, same-image}
 use Rattle.layout.specs.Commute.{store-shape, store-layout}
-use Rattle.plan.specs.Fit.{Writes, rowFits, rowFor, written-fits}
+use Rattle.plan.specs.Fit.{Writes, rowFits, written-fits}
+use Rattle.plan.specs.Write.{Write, rowFrom}
 use Rattle.journal.specs.Pick.{All}
 use Rattle.journal.specs.Store.{Store, putAll}
-
--- One write of an operation: its ordering group, the record that it replaces, and the record's new bytes.
-pub record Write : Type 0 where
-  pub group : ℕ
-  pub key : Key
-  pub body : List ℕ
 
 -- ---- keys
 
@@ -101,7 +96,7 @@ pub record Fits (h : Shape) (w : Write) : Type 0 where
 
 -- rules 79 and 81: an image of shape h can take the row, by the test that apply makes
 unfoldable pub accepted : Shape → Write → Bool
-accepted h w = rowFits h (rowFor h (w .group) (w .key) (w .body))
+accepted h w = rowFits h (rowFrom h w)
 
 -- the image with the row's bytes in place of its record
 unfoldable pub putWrite : Shape → List ℕ → Write → List ℕ

@@ -14,12 +14,13 @@ use Rattle.layout.specs.declared.Shape.{Shape}
 use Rattle.layout.specs.Place.{Key, recordBytes, place}
 use Rattle.plan.specs.Form.{Row, planRows, planBytes, bodyAt, rowLength, rowOffset, rowAt}
 use Rattle.plan.specs.Rows.{Stands}
-use Rattle.plan.specs.Fit.{Covered, Applicable, applicable-is, applicable-fits, rowFor, stands-applicable, written-fits}
+use Rattle.plan.specs.Fit.{Covered, Applicable, applicable-is, applicable-fits, stands-applicable, written-fits}
+use Rattle.plan.specs.Write.{Write, rowFrom}
 use Rattle.apply.specs.Apply.{applyNumber, appliedImage}
 use Rattle.apply.specs.Laws.{Applies, applies-zero, refused-same, applied-done, applied-store}
 use Rattle.journal.specs.Store.{Store}
 use Rattle.journal.specs.Pick.{All, all-map}
-use Rattle.crash.specs.Image.{Write, Ok, Fits, same-key, recordOf, putWrite, put-is, put-ok, get-same, get-other, image-ext}
+use Rattle.crash.specs.Image.{Ok, Fits, same-key, recordOf, putWrite, put-is, put-ok, get-same, get-other, image-ext}
 use Rattle.crash.specs.Covered.{keyAt, key-covered, key-is}
 use Rattle.crash.specs.Buffers.{Buffers, enough}
 
@@ -127,7 +128,7 @@ pub record Does (h : Shape) (j : Job) (w : Write) : Type 0 where
 
 -- a row that an operation wrote, and that stands in a plan, is such
 pub written-does : (h : Shape) → 1 ≤ h .width → (plan : List ℕ) (i : ℕ) (w : Write) → planBytes ≤ length plan → i < planRows → Fits h w
-    → Stands plan i (rowFor h (w .group) (w .key) (w .body))
+    → Stands plan i (rowFrom h w)
     → Does h (record { plan = plan; number = i }) w
 written-does h some plan i w long below f stands = record {
   takes = record {
@@ -140,5 +141,5 @@ written-does h some plan i w long below f stands = record {
     covered : Covered h (place h (w .key .section) (w .key .index)) (length (w .body))
     covered = record { key = w .key; valid = f .writes .valid; allowed = f .writes .allowed; begins = refl; whole = f .writes .whole }
 
-    back : writeOf h (rowFor h (w .group) (w .key) (w .body)) ≡ w
+    back : writeOf h (rowFrom h w) ≡ w
     back = λ t. record { group = w .group; key = key-is h some _ _ covered t; body = w .body }

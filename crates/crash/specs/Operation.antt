@@ -4,10 +4,11 @@ use mathlib.Core.List.{List, _∷_, _++_}
 use Prim.Native.Nat.{ℕ, _+_}
 use lib.ListN.{length}
 use Rattle.layout.specs.declared.Shape.{Shape}
+use Rattle.plan.specs.Write.{Write}
 use Rattle.journal.specs.Change.{Change}
 use Rattle.journal.specs.Events.{EventOf, State, start, run}
 use Rattle.journal.specs.Plan.{Plan, aheadOf, decideRow, behindOf, afterOf, pendingOf}
-use Rattle.crash.specs.Image.{Write, images}
+use Rattle.crash.specs.Image.{images}
 use Rattle.crash.specs.Job.{Job, jobs}
 use Rattle.crash.specs.Rows.{jobsFrom, planOf}
 use Rattle.crash.specs.Recovery.{RecoveryJob, answered}

@@ -9,12 +9,13 @@ use native.Mathlib.Nat.{zero-add}
 use lib.ListN.{length}
 use Rattle.layout.specs.declared.Shape.{Shape}
 use Rattle.plan.specs.Form.{planRows, planBytes}
+use Rattle.plan.specs.Write.{Write}
 use Rattle.journal.specs.Pick.{All, all-map, all-join}
 use Rattle.journal.specs.Change.{Change, plan, goal}
 use Rattle.journal.specs.Obligations.{OnTheWay, Opens, Settles, Cover, Ahead, Behind, Orderly, Obligations}
 use Rattle.journal.specs.Plan.{Plan, WellFormed, Recovers, change}
 use Rattle.journal.specs.Planned.{orderly, journaled}
-use Rattle.crash.specs.Image.{Write, Fits, images}
+use Rattle.crash.specs.Image.{Fits, images}
 use Rattle.crash.specs.Job.{Job, Takes, Does, write, jobs}
 use Rattle.crash.specs.Rows.{jobsIn, jobs-append, Do, do-all, do-any, do-join, do-split, planOf, plan-from, plan-jobs}
 use Rattle.crash.specs.Recovery.{RecoveryJob, Answers, answer-none, fills-answer, fills-does}

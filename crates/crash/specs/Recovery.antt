@@ -10,8 +10,9 @@ use lib.Dec.{T}
 use lib.ListN.{length}
 use Rattle.layout.specs.declared.Shape.{Shape}
 use Rattle.plan.specs.Form.{planRows}
+use Rattle.plan.specs.Write.{Write}
 use Rattle.journal.specs.Pick.{All}
-use Rattle.crash.specs.Image.{Write, Ok, Fits}
+use Rattle.crash.specs.Image.{Ok, Fits}
 use Rattle.crash.specs.Buffers.{Buffers, enough, enough-is}
 use Rattle.crash.specs.Job.{Job}
 use Rattle.crash.specs.Rows.{jobsIn, Do, planOf, plan-does}

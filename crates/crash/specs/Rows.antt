@@ -1,7 +1,7 @@
 -- An operation's rows as jobs: rows put into a cleared plan are, row by row, what its bytes and numbers say. Assumes nothing.
 use mathlib.Core.Path.{_≡_, sym, ap, _∙_, subst}
 use mathlib.Core.Logic.{inl, inr}
-use mathlib.Core.List.{List, [], _∷_, _++_, map}
+use mathlib.Core.List.{List, [], _∷_, _++_}
 use Prim.Native.Nat.{ℕ, zero, suc, _+_, _≤_, _<_}
 use native.Mathlib.Nat.{add-zero}
 use native.Mathlib.Omega.{arith}
@@ -12,10 +12,11 @@ use Rattle.layout.specs.Contents.{Read}
 use Rattle.plan.specs.Form.{Row, planRows, planBytes, rowsPut, cleared, rowCount}
 use Rattle.plan.specs.Rows.{Formed, Stands}
 use Rattle.plan.specs.Many.{Each, rows-length, rows-stand, cleared-length, rows-count}
-use Rattle.plan.specs.Fit.{rowFor, image-small, written-formed}
+use Rattle.plan.specs.Fit.{image-small, written-formed}
+use Rattle.plan.specs.Write.{Write, rowsFrom}
 use Rattle.journal.specs.Pick.{All, Any}
 use Rattle.journal.specs.Order.{Sorted}
-use Rattle.crash.specs.Image.{Write, Fits, images}
+use Rattle.crash.specs.Image.{Fits, images}
 use Rattle.crash.specs.Job.{Job, Takes, Does, write, jobs, written-does}
 
 -- ---- jobs of a plan
@@ -91,16 +92,12 @@ module _ (h : Shape) where
 
   -- ---- the plan that an operation fills
 
-  -- its rows as a plan holds them
-  abbrev pub rowsOf : List Write → List Row
-  rowsOf ws = map (λ w. rowFor h (w .group) (w .key) (w .body)) ws
-
   -- the caller's buffer with the plan of these rows
   unfoldable pub planOf : List ℕ → List Write → List ℕ
-  planOf buffer ws = rowsPut (cleared buffer) 0 (rowsOf ws)
+  planOf buffer ws = rowsPut (cleared buffer) 0 (rowsFrom h ws)
 
   stand-do : 1 ≤ h .width → (plan : List ℕ) → planBytes ≤ length plan → (d : Row) (ws : List Write) (i : ℕ) → i + length ws ≤ planRows → All (Fits h) ws
-      → ((k : ℕ) → k < length ws → Stands plan (i + k) (getD (rowsOf ws) k d))
+      → ((k : ℕ) → k < length ws → Stands plan (i + k) (getD (rowsFrom h ws) k d))
       → Do (jobsFrom plan i (length ws)) ws
   stand-do some plan long d [] i room f s = tt
   stand-do some plan long d (w ∷ ws) i room f s = (
@@ -111,14 +108,14 @@ module _ (h : Shape) where
   )
 
   module _ (s : List ℕ) (read : Read s h) where
-    formed : (ws : List Write) → All (Fits h) ws → Each Formed (rowsOf ws)
+    formed : (ws : List Write) → All (Fits h) ws → Each Formed (rowsFrom h ws)
     formed [] f = tt
     formed (w ∷ ws) f = (written-formed h s (read .laid) small (w .group) (w .key) (w .body) (f .0 .writes), formed ws (f .1))
       where
         small : imageBytes h ≤ 65536
         small = rw (read .shape) (image-small s (read .good))
 
-    grouped : (ws : List Write) → All (Fits h) ws → Each (λ r. 1 ≤ r .group) (rowsOf ws)
+    grouped : (ws : List Write) → All (Fits h) ws → Each (λ r. 1 ≤ r .group) (rowsFrom h ws)
     grouped [] f = tt
     grouped (w ∷ ws) f = (f .0 .writes .first, grouped ws (f .1))
 
@@ -126,17 +123,17 @@ module _ (h : Shape) where
       -- the plan has as many rows
       pub plan-count : rowCount (planOf buffer ws) ≡ length ws
       unfolding planOf
-      plan-count = rows-count (rowsOf ws) buffer long (rw length-map room) (formed ws f) (grouped ws f) ∙ length-map ws _
+      plan-count = rows-count (rowsFrom h ws) buffer long (rw length-map room) (formed ws f) (grouped ws f) ∙ length-map ws _
 
       -- and its jobs do what the rows say
       pub plan-from : Do (jobsFrom (planOf buffer ws) 0 (length ws)) ws
       unfolding planOf
       plan-from =
           let d : Row = record { group = 0; offset = 0; bytes = 0; body = [] } in
-          let n : length (rowsOf ws) ≡ length ws = length-map ws _ in
+          let n : length (rowsFrom h ws) ≡ length ws = length-map ws _ in
           let l : planBytes ≤ length (cleared buffer) = rw cleared-length long in
-          stand-do (omega (arith, read .laid .width-least)) (rowsPut (cleared buffer) 0 (rowsOf ws)) (rw rows-length l) d ws 0 (omega arith) f (λ k b.
-          rows-stand d (rowsOf ws) (cleared buffer) 0 l (omega arith) (formed ws f) k (omega arith))
+          stand-do (omega (arith, read .laid .width-least)) (rowsPut (cleared buffer) 0 (rowsFrom h ws)) (rw rows-length l) d ws 0 (omega arith) f (λ k b.
+          rows-stand d (rowsFrom h ws) (cleared buffer) 0 l (omega arith) (formed ws f) k (omega arith))
 
       pub plan-jobs : jobsIn (planOf buffer ws) ≡ jobsFrom (planOf buffer ws) 0 (length ws)
       plan-jobs = rw plan-count

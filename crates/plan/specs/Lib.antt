@@ -3,4 +3,5 @@ pub mod Rows
 pub mod Many
 pub mod Unused
 pub mod Fit
+pub mod Write
 pub mod Bench

@@ -1,0 +1,4 @@
+pub mod Results
+pub mod Links
+pub mod Records
+pub mod Bench

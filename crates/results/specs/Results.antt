@@ -1,0 +1,133 @@
+-- What a rename leaves in each record that it touches, in bytes, and its rows behind the deciding one: one definition for rename and for
+-- recovery, which count the entries as edited, whether the edit has been applied or not. Assumes nothing.
+use mathlib.Core.Bool.{Bool, true, false, _&&_, not, cond}
+use mathlib.Core.List.{List, [], _∷_, _++_}
+use Prim.Native.Nat.{ℕ, _+_}
+use lib.Dec.{eqb}
+use lib.ListN.{replicate}
+use Rattle.seq.specs.Search.{count}
+use Rattle.layout.specs.declared.Shape.{Shape}
+use Rattle.layout.specs.Place.{Key, recordBytes}
+use Rattle.layout.specs.Fields.{inodeKind}
+use Rattle.layout.specs.View.{View, viewOf, inodeAt, isDirectory}
+use Rattle.tree.specs.Tree.{targets, holdsDirectory}
+use Rattle.encode.specs.Inode.{withLinks, withField, withModified, withChanged}
+use Rattle.encode.specs.Journal.{absent}
+use Rattle.plan.specs.Write.{Write, inodeKey, entryKey, textKey, journalKey}
+use Rattle.results.specs.declared.Move.{Move}
+
+-- rule 12: the number names a replaced inode, or a text
+abbrev pub present : ℕ → Bool
+present n = not (eqb n absent)
+
+-- results: the ordering groups of a rename's rows behind the deciding one
+abbrev pub resultGroup : ℕ
+resultGroup = 3
+
+abbrev pub clearGroup : ℕ
+clearGroup = 4
+
+-- ---- the entries as edited, counted on the image as it stands
+
+-- what slot j counts for: the old slot for nothing, the new one as the edit makes it, whatever stands there, and any other as it stands
+abbrev pub edited : Move → ℕ → Bool → Bool → Bool
+edited m j made stands = cond (eqb j (m .old)) false (cond (eqb j (m .new)) made stands)
+
+module _ (v : View) (m : Move) where
+  -- the entry in slot j, as edited, targets inode i
+  abbrev pub targetsAfter : ℕ → ℕ → Bool
+  targetsAfter i j = edited m j (eqb (m .moved) i) (targets v i j)
+
+  -- results: how many entries are left that target inode i
+  unfoldable pub entriesAfter : ℕ → ℕ
+  entriesAfter i = count (targetsAfter i) (v .entries)
+
+  -- the entry in slot j, as edited, lies in directory d and targets a directory
+  abbrev pub holdsAfter : ℕ → ℕ → Bool
+  holdsAfter d j = edited m j (eqb (m .into) d && isDirectory v (m .moved)) (holdsDirectory v d j)
+
+  -- results: how many child directories directory d has then
+  unfoldable pub childrenAfter : ℕ → ℕ
+  childrenAfter d = count (holdsAfter d) (v .entries)
+
+  -- results: the link count, as a consistent image has it (rules 37 and 38)
+  unfoldable pub linksAfter : ℕ → ℕ
+  linksAfter i = cond (isDirectory v i) (2 + childrenAfter i) (entriesAfter i)
+
+-- ---- the records, made from their bytes as they stand
+
+-- a record of zeros in section k
+abbrev pub freeRecord : Shape → ℕ → List ℕ
+freeRecord h k = replicate (recordBytes h k) 0
+
+-- results: the moved inode gets its time of change, and a directory its new parent
+abbrev pub reparented : Bool → ℕ → List ℕ → List ℕ
+reparented true into r = withField into r
+reparented false into r = r
+
+unfoldable pub movedBytes : ℕ → ℕ → List ℕ → List ℕ
+movedBytes into time r = reparented (eqb (inodeKind r) 2) into (withChanged time r)
+
+-- results: the old and the new parent get their link count and both times
+unfoldable pub holderBytes : ℕ → ℕ → List ℕ → List ℕ
+holderBytes links time r = withChanged time (withModified time (withLinks links r))
+
+-- results: the replaced inode gets its link count and its time of change; with no entry left it is free
+unfoldable pub replacedBytes : Shape → ℕ → ℕ → ℕ → List ℕ → List ℕ
+replacedBytes h left links time r = cond (eqb left 0) (freeRecord h 0) (withChanged time (withLinks links r))
+
+-- ---- the rows
+
+abbrev pub resultRow : Key → List ℕ → Write
+resultRow key body = record { group = resultGroup; key = key; body = body }
+
+-- a row where it is asked for
+abbrev pub when : Bool → Write → List Write
+when true w = w ∷ []
+when false w = []
+
+module _ (h : Shape) (s : List ℕ) (m : Move) where
+  -- the new bytes of the inodes
+  abbrev pub movedAfter : List ℕ
+  movedAfter = movedBytes (m .into) (m .now) (inodeAt h s (m .moved))
+
+  abbrev pub holderAfter : ℕ → List ℕ
+  holderAfter i = holderBytes (linksAfter (viewOf h s) m i) (m .now) (inodeAt h s i)
+
+  abbrev pub replacedAfter : List ℕ
+  replacedAfter =
+      replacedBytes h (entriesAfter (viewOf h s) m (m .replaced)) (linksAfter (viewOf h s) m (m .replaced)) (m .now) (inodeAt h s (m .replaced))
+
+  -- a row for each record
+  abbrev pub oldRow : Write
+  oldRow = resultRow (entryKey (m .old)) (freeRecord h 1)
+
+  abbrev pub movedRow : Write
+  movedRow = resultRow (inodeKey (m .moved)) movedAfter
+
+  abbrev pub holderRow : ℕ → Write
+  holderRow i = resultRow (inodeKey i) (holderAfter i)
+
+  abbrev pub replacedRow : Write
+  replacedRow = resultRow (inodeKey (m .replaced)) replacedAfter
+
+  abbrev pub textRow : Write
+  textRow = resultRow (textKey (m .text)) (freeRecord h 2)
+
+  -- results: those of the new parent if it is another directory, of the replaced inode if there is one, of the text if one is freed
+  abbrev pub intoRows : List Write
+  intoRows = when (not (eqb (m .into) (m .from))) (holderRow (m .into))
+
+  abbrev pub replacedRows : List Write
+  replacedRows = when (present (m .replaced)) replacedRow
+
+  abbrev pub textRows : List Write
+  textRows = when (present (m .text)) textRow
+
+  -- results: the old entry cleared, the moved inode, the old parent, and these
+  unfoldable pub results : List Write
+  results = oldRow ∷ movedRow ∷ holderRow (m .from) ∷ intoRows ++ replacedRows ++ textRows
+
+-- results: the last row clears the journal record
+abbrev pub clearRow : Shape → Write
+clearRow h = record { group = clearGroup; key = journalKey; body = freeRecord h 4 }

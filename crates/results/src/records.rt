@@ -1,0 +1,61 @@
+// What a rename leaves in the inodes that it touches, made from their bytes as they stand.
+use crate::Move;
+use layout::Shape;
+ghost use mathlib.Core.Path.{_≡_};
+ghost use Prim.Native.Nat.{_<_};
+ghost use Rattle.layout.specs.Contents.{Laid};
+ghost use Rattle.layout.specs.View.{inodeAt};
+ghost use Rattle.results.specs.Results.{movedAfter, holderAfter, replacedAfter};
+
+fn inode(s: &[u8], h: Shape, i: usize) -> [u8; 32]
+    requires { ⌜ Laid h (now s) × (i < h .inodes) ⌝ }
+    ensures { λ r. ⌜ r ≡ inodeAt h (now (s .entry)) i ⌝ }
+{
+    let mut r = [0u8; 32];
+    layout::bytes::copy(&mut r, 0, layout::records::inode(s, h, i));
+    r
+}
+
+// The moved inode.
+pub fn moved(s: &[u8], h: Shape, m: Move) -> [u8; 32]
+    requires { ⌜ Laid h (now s) × (m .moved < h .inodes) ⌝ }
+    ensures { λ r. ⌜ r ≡ movedAfter h (now (s .entry)) m ⌝ }
+{
+    let mut r = inode(s, h, m.moved);
+    let kind = r[0];
+    encode::inode::set_changed(&mut r, m.now);
+    if kind != 2 {
+        return r;
+    }
+    encode::inode::set_field(&mut r, m.into);
+    r
+}
+
+// The old or the new parent, inode i.
+pub fn holder(s: &[u8], h: Shape, m: Move, i: usize) -> [u8; 32]
+    requires { ⌜ Laid h (now s) × (i < h .inodes) ⌝ }
+    ensures { λ r. ⌜ r ≡ holderAfter h (now (s .entry)) m i ⌝ }
+{
+    let links = crate::recount::links_after(s, h, m, i);
+    let mut r = inode(s, h, i);
+    encode::inode::set_links(&mut r, links);
+    encode::inode::set_modified(&mut r, m.now);
+    encode::inode::set_changed(&mut r, m.now);
+    r
+}
+
+// The replaced inode.
+pub fn replaced(s: &[u8], h: Shape, m: Move) -> [u8; 32]
+    requires { ⌜ Laid h (now s) × (m .replaced < h .inodes) ⌝ }
+    ensures { λ r. ⌜ r ≡ replacedAfter h (now (s .entry)) m ⌝ }
+{
+    let i = m.replaced;
+    if crate::recount::entries_after(s, h, m, i) == 0 {
+        return [0u8; 32];
+    }
+    let links = crate::recount::links_after(s, h, m, i);
+    let mut r = inode(s, h, i);
+    encode::inode::set_links(&mut r, links);
+    encode::inode::set_changed(&mut r, m.now);
+    r
+}

@@ -1,0 +1,95 @@
+// Entries counted as a move edits them, on the image as it stands.
+use crate::Move;
+use layout::Shape;
+ghost use mathlib.Core.Path.{_≡_};
+ghost use Prim.Native.Nat.{_≤_, _<_};
+ghost use Rattle.layout.specs.Contents.{Laid};
+ghost use Rattle.layout.specs.View.{viewOf};
+ghost use Rattle.results.specs.Results.{targetsAfter, entriesAfter, holdsAfter, childrenAfter, linksAfter};
+
+// Whether the entry in slot j, as edited, targets inode i.
+fn targets_after(s: &[u8], h: Shape, m: Move, i: usize, j: usize) -> bool
+    requires { ⌜ Laid h (now s) × (j < h .entries) ⌝ }
+    ensures { λ r. ⌜ r ≡ targetsAfter (viewOf h (now (s .entry))) m i j ⌝ }
+{
+    if j == m.old {
+        return false;
+    }
+    if j == m.new {
+        return m.moved == i;
+    }
+    let e = layout::records::entry(s, h, j);
+    if layout::entry::name_length(e) == 0 {
+        return false;
+    }
+    layout::entry::target(e) == i
+}
+
+// How many entries, as edited, target inode i.
+pub fn entries_after(s: &[u8], h: Shape, m: Move, i: usize) -> usize
+    requires { ⌜ Laid h (now s) ⌝ }
+    ensures { λ r. ⌜ (r ≡ entriesAfter (viewOf h (now (s .entry))) m i) × (r ≤ 1024) ⌝ }
+{
+    let n = h.entries;
+    let mut found: usize = 0;
+    let mut j: usize = 0;
+    while j < n {
+        if targets_after(s, h, m, i, j) {
+            found += 1;
+        }
+        j += 1;
+    }
+    found
+}
+
+// Whether the entry in slot j, as edited, lies in directory d and targets a directory.
+fn holds_after(s: &[u8], h: Shape, m: Move, d: usize, j: usize) -> bool
+    requires { ⌜ Laid h (now s) × (j < h .entries) ⌝ }
+    ensures { λ r. ⌜ r ≡ holdsAfter (viewOf h (now (s .entry))) m d j ⌝ }
+{
+    if j == m.old {
+        return false;
+    }
+    if j == m.new {
+        if m.into != d {
+            return false;
+        }
+        return layout::lookup::is_directory(s, h, m.moved);
+    }
+    let e = layout::records::entry(s, h, j);
+    if layout::entry::name_length(e) == 0 {
+        return false;
+    }
+    if layout::entry::parent(e) != d {
+        return false;
+    }
+    layout::lookup::is_directory(s, h, layout::entry::target(e))
+}
+
+// How many child directories directory d has, by the entries as edited.
+pub fn children_after(s: &[u8], h: Shape, m: Move, d: usize) -> usize
+    requires { ⌜ Laid h (now s) ⌝ }
+    ensures { λ r. ⌜ (r ≡ childrenAfter (viewOf h (now (s .entry))) m d) × (r ≤ 1024) ⌝ }
+{
+    let n = h.entries;
+    let mut found: usize = 0;
+    let mut j: usize = 0;
+    while j < n {
+        if holds_after(s, h, m, d, j) {
+            found += 1;
+        }
+        j += 1;
+    }
+    found
+}
+
+// The link count of inode i, by the entries as edited.
+pub fn links_after(s: &[u8], h: Shape, m: Move, i: usize) -> usize
+    requires { ⌜ Laid h (now s) ⌝ }
+    ensures { λ r. ⌜ (r ≡ linksAfter (viewOf h (now (s .entry))) m i) × (r ≤ 1026) ⌝ }
+{
+    if layout::lookup::is_directory(s, h, i) {
+        return children_after(s, h, m, i) + 2;
+    }
+    entries_after(s, h, m, i)
+}
