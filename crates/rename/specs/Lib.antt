@@ -1,0 +1,4 @@
+pub mod Plan
+pub mod Order
+pub mod Job
+
