@@ -1,13 +1,13 @@
 -- Looking a name up in a directory (rule 52). Assumes nothing.
 use mathlib.Core.Path.{_≡_}
-use mathlib.Core.Bool.{Bool, true, _&&_}
+use mathlib.Core.Bool.{Bool, true, false, _&&_}
 use mathlib.Core.List.{List}
 use Prim.Native.Nat.{ℕ, _≤_, _<_}
 use native.Mathlib.Omega.{arith}
 use lib.Dec.{eqb}
 use borrow.Author.Tests.{eqb-true}
 use Rattle.seq.specs.Truth.{and-left, and-right}
-use Rattle.seq.specs.Search.{first, first-le, first-passes}
+use Rattle.seq.specs.Search.{any, any-false, first, first-le, first-passes, first-before}
 use Rattle.seq.specs.Bytes.{sameBytes, same-bytes}
 use Rattle.layout.specs.View.{View, entryUsed}
 
@@ -46,3 +46,8 @@ lookup-used v d name j e below = lookup-held v d name j e below .used
 pub lookup-none : (v : View) (d : ℕ) (name : List ℕ) → v .entries ≤ lookup v d name → lookup v d name ≡ v .entries
 unfolding lookup
 lookup-none v d name above = let l = first-le (isNamed v d name) (v .entries) in omega arith
+
+-- and then no slot holds the name
+pub lookup-misses : (v : View) (d : ℕ) (name : List ℕ) → lookup v d name ≡ v .entries → any (isNamed v d name) (v .entries) ≡ false
+unfolding lookup
+lookup-misses v d name e = any-false (isNamed v d name) (v .entries) (λ k l. first-before (isNamed v d name) (v .entries) k (rw e l))
