@@ -1,4 +1,5 @@
 pub mod Plan
+pub mod Texts
 pub mod Order
 pub mod Job
 
