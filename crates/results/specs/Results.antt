@@ -1,8 +1,9 @@
 -- What a rename leaves in each record that it touches, in bytes, and its rows behind the deciding one: one definition for rename and for
 -- recovery, which count the entries as edited, whether the edit has been applied or not. Assumes nothing.
+use mathlib.Core.Logic.{_≢_}
 use mathlib.Core.Bool.{Bool, true, false, _&&_, not, cond}
 use mathlib.Core.List.{List, [], _∷_, _++_}
-use Prim.Native.Nat.{ℕ, _+_}
+use Prim.Native.Nat.{ℕ, _+_, _<_}
 use lib.Dec.{eqb}
 use lib.ListN.{replicate}
 use Rattle.seq.specs.Search.{count}
@@ -26,6 +27,16 @@ resultGroup = 3
 
 abbrev pub clearGroup : ℕ
 clearGroup = 4
+
+-- The numbers of a move are those of records of the image.
+pub record InImage (h : Shape) (m : Move) : Type 0 where
+  pub old : m .old < h .entries
+  pub new : m .new < h .entries
+  pub moved : m .moved < h .inodes
+  pub from : m .from < h .inodes
+  pub into : m .into < h .inodes
+  pub replaced : m .replaced ≢ absent → m .replaced < h .inodes
+  pub text : m .text ≢ absent → m .text < h .texts
 
 -- ---- the entries as edited, counted on the image as it stands
 
@@ -114,7 +125,11 @@ module _ (h : Shape) (s : List ℕ) (m : Move) where
   abbrev pub textRow : Write
   textRow = resultRow (textKey (m .text)) (freeRecord h 2)
 
-  -- results: those of the new parent if it is another directory, of the replaced inode if there is one, of the text if one is freed
+  -- results: always the old entry cleared, the moved inode and the old parent
+  abbrev pub alwaysRows : List Write
+  alwaysRows = oldRow ∷ movedRow ∷ holderRow (m .from) ∷ []
+
+  -- results: the new parent if it is another directory, the replaced inode if there is one, the text if one is freed
   abbrev pub intoRows : List Write
   intoRows = when (not (eqb (m .into) (m .from))) (holderRow (m .into))
 
@@ -124,9 +139,9 @@ module _ (h : Shape) (s : List ℕ) (m : Move) where
   abbrev pub textRows : List Write
   textRows = when (present (m .text)) textRow
 
-  -- results: the old entry cleared, the moved inode, the old parent, and these
+  -- results: the rows in the order of the plan
   unfoldable pub results : List Write
-  results = oldRow ∷ movedRow ∷ holderRow (m .from) ∷ intoRows ++ replacedRows ++ textRows
+  results = alwaysRows ++ intoRows ++ replacedRows ++ textRows
 
 -- results: the last row clears the journal record
 abbrev pub clearRow : Shape → Write
