@@ -1,5 +1,7 @@
 pub mod Plan
 pub mod Texts
+pub mod Entries
+pub mod Rows
 pub mod Order
 pub mod Job
 
