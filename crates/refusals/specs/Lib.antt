@@ -1,2 +1,4 @@
 pub mod Case
+pub mod Within
 pub mod Steps
+pub mod Decide

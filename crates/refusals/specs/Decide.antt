@@ -1,0 +1,50 @@
+-- What the first rule that holds decides, for a list of rules taken in parts. Assumes nothing.
+use mathlib.Core.Path.{_≡_, refl}
+use mathlib.Core.Bool.{Bool, true, false, _&&_, not, cond}
+use mathlib.Core.List.{List, [], _∷_, _++_}
+use Prim.Native.Nat.{ℕ}
+use lib.Dec.{eqb}
+use borrow.Author.Tests.{eqb-false, not-true}
+use Rattle.seq.specs.Truth.{and-left, and-right}
+use Rattle.refusals.specs.declared.case.Answer.{Answer}
+use Rattle.refusals.specs.declared.case.Answer.the-variants.{Refused, Same, Planned}
+use Rattle.refusals.specs.Steps.{Rule, numberOf, decide}
+
+-- each rule refuses, by a number that is not 0
+abbrev pub refusing : List Rule → Bool
+refusing [] = true
+refusing (r ∷ rs) = not (eqb (numberOf (r .answer)) 0) && refusing rs
+
+-- one rule
+pub decide-here : (r : Rule) (rs : List Rule) → r .test ≡ true → decide (r ∷ rs) ≡ r .answer
+decide-here r rs e = rw e
+
+pub decide-on : (r : Rule) (rs : List Rule) → r .test ≡ false → decide (r ∷ rs) ≡ decide rs
+decide-on r rs e = rw e
+
+-- an answer with a number is a refusal by it
+numbered : (a : Answer) → (numberOf a ≡ 0 → ⊥) → a ≡ Refused (numberOf a)
+numbered (Refused n) some = refl
+numbered Same some = absurd (some refl)
+numbered Planned some = absurd (some refl)
+
+-- A list whose rules refuse decides by its number: a refusal ends the order, and 0 leaves it to the rules behind.
+module _ (ys : List Rule) where
+  pub decide-refused : (xs : List Rule) → (numberOf (decide xs) ≡ 0 → ⊥) → decide (xs ++ ys) ≡ Refused (numberOf (decide xs))
+  decide-refused [] some = absurd (some refl)
+  decide-refused (r ∷ rs) some = go (decide-refused rs) (r .test) some
+    where
+      go : ((numberOf (decide rs) ≡ 0 → ⊥) → decide (rs ++ ys) ≡ Refused (numberOf (decide rs)))
+          → (b : Bool) → (numberOf (cond b (r .answer) (decide rs)) ≡ 0 → ⊥)
+          → cond b (r .answer) (decide (rs ++ ys)) ≡ Refused (numberOf (cond b (r .answer) (decide rs)))
+      go rest true some = numbered (r .answer) some
+      go rest false some = rest some
+
+  pub decide-passed : (xs : List Rule) → refusing xs ≡ true → numberOf (decide xs) ≡ 0 → decide (xs ++ ys) ≡ decide ys
+  decide-passed [] each none = refl
+  decide-passed (r ∷ rs) each none = go (decide-passed rs (and-right (not (eqb (numberOf (r .answer)) 0)) _ each)) (r .test) none
+    where
+      go : (numberOf (decide rs) ≡ 0 → decide (rs ++ ys) ≡ decide ys)
+          → (b : Bool) → numberOf (cond b (r .answer) (decide rs)) ≡ 0 → cond b (r .answer) (decide (rs ++ ys)) ≡ decide ys
+      go rest true none = absurd (eqb-false _ _ (not-true (eqb (numberOf (r .answer)) 0) (and-left _ (refusing rs) each)) none)
+      go rest false none = rest none
