@@ -9,7 +9,9 @@ returns : tie.Need-returns
 returns c = simp (c .before .before .before .pre .1, eq-eqb _ _ (c .if1 .taken))
 
 allows-requires : tie.Need-allows-requires
-allows-requires c κs = let l = isKind-below _ _ _ 2 (c .before .before .before .pre .1) in (c .before .before .before .pre .0, l, search needs, search needs)
+allows-requires c κs =
+    let pre = c .before .before .before .pre in
+    (pre .0, isKind-below _ _ _ 2 (pre .1), search needs, search needs)
 
 returns-2 : tie.Need-returns-2
 returns-2 c = simp (c .before .before .before .before .pre .1, ne-eqb _ _ (c .before .if1 .left), c .allows .ensures)

@@ -10,10 +10,14 @@ kind-requires : tie.Need-kind-requires
 kind-requires c κs = search needs
 
 of-directory-requires : tie.Need-of-directory-requires
-of-directory-requires c κs = (c .before .before .before .pre .0, c .before .before .before .pre .1, kind-of _ _ 2 (sym (c .before .kind .ensures) ∙ c .match .keys1) (omega arith))
+of-directory-requires c κs =
+    let pre = c .before .before .before .pre in
+    (pre .0, pre .1, kind-of _ _ 2 (sym (c .before .kind .ensures) ∙ c .match .keys1) (omega arith))
 
 of-other-requires : tie.Need-of-other-requires
-of-other-requires c κs = (c .before .before .before .pre .0, c .before .before .before .pre .1, other-kind _ _ 2 (λ e. c .match .rest .1 (c .before .kind .ensures ∙ e)))
+of-other-requires c κs =
+    let pre = c .before .before .before .pre in
+    (pre .0, pre .1, other-kind _ _ 2 (λ e. c .match .rest .1 (c .before .kind .ensures ∙ e)))
 
 returns : tie.Need-returns
 returns c = search needs
