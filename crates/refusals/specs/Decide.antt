@@ -5,7 +5,7 @@ use mathlib.Core.List.{List, [], _∷_, _++_}
 use Prim.Native.Nat.{ℕ}
 use lib.Dec.{eqb}
 use borrow.Author.Tests.{eqb-false, not-true, eq-eqb, ne-eqb}
-use Rattle.seq.specs.Truth.{and-left, and-right}
+use Rattle.seq.specs.Truth.{and-left, and-right, by-test}
 use Rattle.layout.specs.View.{View}
 use Rattle.refusals.specs.declared.case.Case.{Case}
 use Rattle.refusals.specs.Case.{sameFile}
@@ -13,10 +13,14 @@ use Rattle.refusals.specs.declared.case.Answer.{Answer}
 use Rattle.refusals.specs.declared.case.Answer.the-variants.{Refused, Same, Planned}
 use Rattle.refusals.specs.Steps.{Rule, numberOf, decide, parentRules, kindRules, targetRules, steps}
 
+-- the number of each rule passes
+abbrev pub numbers : (ℕ → Bool) → List Rule → Bool
+numbers p [] = true
+numbers p (r ∷ rs) = p (numberOf (r .answer)) && numbers p rs
+
 -- each rule refuses, by a number that is not 0
 abbrev pub refusing : List Rule → Bool
-refusing [] = true
-refusing (r ∷ rs) = not (eqb (numberOf (r .answer)) 0) && refusing rs
+refusing rs = numbers (λ n. not (eqb n 0)) rs
 
 -- one rule
 pub decide-here : (r : Rule) (rs : List Rule) → r .test ≡ true → decide (r ∷ rs) ≡ r .answer
@@ -24,6 +28,13 @@ decide-here r rs e = rw e
 
 pub decide-on : (r : Rule) (rs : List Rule) → r .test ≡ false → decide (r ∷ rs) ≡ decide rs
 decide-on r rs e = rw e
+
+-- the number decided is a rule's, or 0
+pub decide-number : (p : ℕ → Bool) (rs : List Rule) → p 0 ≡ true → numbers p rs ≡ true → p (numberOf (decide rs)) ≡ true
+decide-number p [] none each = none
+decide-number p (r ∷ rs) none each =
+    by-test (λ a. p (numberOf a) ≡ true) (r .test) (r .answer) (decide rs) (λ e. and-left _ (numbers p rs) each)
+    (λ e. decide-number p rs none (and-right (p (numberOf (r .answer))) _ each))
 
 -- an answer with a number is a refusal by it
 numbered : (a : Answer) → (numberOf a ≡ 0 → ⊥) → a ≡ Refused (numberOf a)

@@ -3,3 +3,4 @@ pub mod Within
 pub mod Kinds
 pub mod Steps
 pub mod Decide
+pub mod Passed

@@ -7,7 +7,7 @@ ghost use mathlib.Core.Path.{_≡_};
 ghost use Prim.Native.Nat.{_<_};
 ghost use Rattle.layout.specs.Contents.{Laid};
 ghost use Rattle.layout.specs.View.{viewOf};
-ghost use Rattle.refusals.specs.Case.{readOnlyParent, otherSystem, mountedIn, mounted, parentDenied, stickyDenied, insideItself};
+ghost use Rattle.refusals.specs.Case.{readOnlyParent, otherSystem, mountedIn, mounted, parentDenied, sticky, owns, stickyDenied, insideItself};
 ghost use Rattle.refusals.specs.Within.{Within};
 ghost use Rattle.refusals.specs.Steps.{numberOf, decide, parentRules};
 
@@ -72,23 +72,39 @@ fn denied(s: &[u8], h: Shape, c: Case) -> bool
     !permission::allows(s, h, c.who, c.into, 2)
 }
 
+// Whether directory d has the sticky bit.
+fn is_sticky(s: &[u8], h: Shape, d: usize) -> bool
+    requires { ⌜ Laid h (now s) × (d < h .inodes) ⌝ }
+    ensures { λ r. ⌜ r ≡ sticky (viewOf h (now (s .entry))) d ⌝ }
+{
+    let r = layout::records::inode(s, h, d);
+    layout::inode::mode(r) / 512 % 2 == 1
+}
+
+// Whether the caller owns inode i.
+fn owns(s: &[u8], h: Shape, who: Credentials, i: usize) -> bool
+    requires { ⌜ Laid h (now s) × (i < h .inodes) ⌝ }
+    ensures { λ r. ⌜ r ≡ owns (viewOf h (now (s .entry))) who i ⌝ }
+{
+    let r = layout::records::inode(s, h, i);
+    who.user == layout::inode::owner(r)
+}
+
 // Step 6: whether the sticky bit of directory d keeps the caller from inode i in it.
 fn sticky_denied(s: &[u8], h: Shape, who: Credentials, d: usize, i: usize) -> bool
     requires { ⌜ Laid h (now s) × (d < h .inodes) × (i < h .inodes) ⌝ }
     ensures { λ r. ⌜ r ≡ stickyDenied (viewOf h (now (s .entry))) who d i ⌝ }
 {
-    let directory = layout::records::inode(s, h, d);
-    if layout::inode::mode(directory) / 512 % 2 != 1 {
+    if !is_sticky(s, h, d) {
         return false;
     }
     if who.user == 0 {
         return false;
     }
-    let r = layout::records::inode(s, h, i);
-    if who.user == layout::inode::owner(r) {
+    if owns(s, h, who, i) {
         return false;
     }
-    who.user != layout::inode::owner(directory)
+    !owns(s, h, who, d)
 }
 
 // Step 7.

@@ -1,5 +1,5 @@
 -- `refusals::parents::read_only` meets its contract. Assumes nothing.
-use mathlib.Core.Path.{sym, ap, _∙_}
+use mathlib.Core.Path.{sym}
 use borrow.Author.Tests.{le-leb, lt-leb}
 use borrow.Author.Needs.{needs}
 use Rattle.refusals.proofs.parents.read_only.Statement.{statement}

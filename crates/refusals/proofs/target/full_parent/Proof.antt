@@ -1,5 +1,4 @@
 -- `refusals::target::full_parent` meets its contract. Assumes nothing.
-use mathlib.Core.Path.{sym, _∙_}
 use borrow.Author.Tests.{eq-eqb, ne-eqb}
 use borrow.Author.Needs.{needs}
 use Rattle.seq.specs.Truth.{fails, holds}
@@ -19,7 +18,12 @@ returns-2 : tie.Need-returns-2
 returns-2 c = simp (holds (c .before .before .before .is-directory .ensures) (c .before .before .if1 .left), eq-eqb _ _ (c .if2 .taken))
 
 returns-3 : tie.Need-returns-3
-returns-3 c = simp (holds (c .before .before .before .before .before .is-directory .ensures) (c .before .before .before .before .if1 .left), ne-eqb _ _ (c .before .before .if2 .left), ne-eqb _ _ (c .if3 .taken))
+returns-3 c =
+    simp (
+      holds (c .before .before .before .before .before .is-directory .ensures) (c .before .before .before .before .if1 .left),
+      ne-eqb _ _ (c .before .before .if2 .left),
+      ne-eqb _ _ (c .if3 .taken),
+    )
 
 inode-requires : tie.Need-inode-requires
 inode-requires c κs = search needs
@@ -30,8 +34,12 @@ links-requires c κs = search needs
 returns-4 : tie.Need-returns-4
 unfolding viewOf
 returns-4 c =
-    let l = field-of inodeLinks (c .before .inode .ensures) (c .links .ensures .0) in
-    simp (holds (c .before .before .before .before .before .before .before .is-directory .ensures) (c .before .before .before .before .before .before .if1 .left), ne-eqb _ _ (c .before .before .before .before .if2 .left), eq-eqb _ _ (c .before .before .if3 .left), l)
+    simp (
+      holds (c .before .before .before .before .before .before .before .is-directory .ensures) (c .before .before .before .before .before .before .if1 .left),
+      ne-eqb _ _ (c .before .before .before .before .if2 .left),
+      eq-eqb _ _ (c .before .before .if3 .left),
+      field-of inodeLinks (c .before .inode .ensures) (c .links .ensures .0),
+    )
 
 pub full-parent-spec : {M : Type 1} → statement M
 full-parent-spec =
