@@ -1,7 +1,6 @@
--- The inodes of a case, but for the one it replaces, are below their number. Assumes nothing.
-use Prim.Native.Nat.{_<_}
+-- The inodes of a case lie in their section, but for the replaced one, which may be absent. Assumes nothing.
 use mathlib.Core.List.{List}
-use Prim.Native.Nat.{ℕ}
+use Prim.Native.Nat.{ℕ, _<_}
 use Rattle.layout.specs.declared.Shape.{Shape}
 use Rattle.layout.specs.View.{viewOf, isKind-below, isUsed-below}
 use Rattle.refusals.specs.declared.case.Case.{Case}

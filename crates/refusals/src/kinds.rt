@@ -10,7 +10,7 @@ ghost use Rattle.layout.specs.View.{viewOf, isDirectory};
 ghost use Rattle.refusals.specs.Case.{movedDenied, CaseIn};
 ghost use Rattle.refusals.specs.Steps.{numberOf, decide, kindRules};
 
-// Step 9 of a directory.
+// Step 9 of a directory: it gets another parent, and write permission is denied on it.
 fn moved_denied(s: &[u8], h: Shape, c: Case) -> bool
     requires { ⌜ Laid h (now s) × (isDirectory (viewOf h (now s)) (c .moved) ≡ true) ⌝ }
     ensures { λ r. ⌜ r ≡ movedDenied (viewOf h (now (s .entry))) c ⌝ }

@@ -20,7 +20,7 @@ fn system(s: &[u8], h: Shape, i: usize) -> u8
     layout::inode::system(r)
 }
 
-// Step 2.
+// Step 2: a parent is on a read-only file system.
 fn read_only(s: &[u8], h: Shape, c: Case) -> bool
     requires { ⌜ Laid h (now s) × Within h c ⌝ }
     ensures { λ r. ⌜ r ≡ readOnlyParent (viewOf h (now (s .entry))) c ⌝ }
@@ -31,7 +31,7 @@ fn read_only(s: &[u8], h: Shape, c: Case) -> bool
     128 <= system(s, h, c.into)
 }
 
-// Step 3.
+// Step 3: the parents are on different file systems.
 fn other_system(s: &[u8], h: Shape, c: Case) -> bool
     requires { ⌜ Laid h (now s) × Within h c ⌝ }
     ensures { λ r. ⌜ r ≡ otherSystem (viewOf h (now (s .entry))) c ⌝ }
@@ -50,7 +50,7 @@ fn mounted_in(s: &[u8], h: Shape, d: usize, i: usize) -> bool
     system(s, h, i) != system(s, h, d)
 }
 
-// Step 4. A replaced inode that is absent is no directory.
+// Step 4: the moved or the replaced inode is such a directory. One that is absent is no directory.
 fn mounted(s: &[u8], h: Shape, c: Case) -> bool
     requires { ⌜ Laid h (now s) × Within h c ⌝ }
     ensures { λ r. ⌜ r ≡ mounted (viewOf h (now (s .entry))) c ⌝ }
@@ -61,7 +61,7 @@ fn mounted(s: &[u8], h: Shape, c: Case) -> bool
     mounted_in(s, h, c.into, c.replaced)
 }
 
-// Step 5.
+// Step 5: write permission is denied on a parent.
 fn denied(s: &[u8], h: Shape, c: Case) -> bool
     requires { ⌜ Laid h (now s) × Within h c ⌝ }
     ensures { λ r. ⌜ r ≡ parentDenied (viewOf h (now (s .entry))) c ⌝ }
@@ -107,7 +107,7 @@ fn sticky_denied(s: &[u8], h: Shape, who: Credentials, d: usize, i: usize) -> bo
     !owns(s, h, who, d)
 }
 
-// Step 7.
+// Step 7: the moved inode is the new parent, or above it.
 fn inside_itself(s: &[u8], h: Shape, c: Case) -> bool
     requires { ⌜ Laid h (now s) × Within h c ⌝ }
     ensures { λ r. ⌜ r ≡ insideItself (viewOf h (now (s .entry))) c ⌝ }

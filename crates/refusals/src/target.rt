@@ -1,4 +1,4 @@
-// Steps 11 to 13 of the order of refusal: what is asked of the target, and the entries and handles of an inode.
+// The target of a rename: whether it has entries, and steps 11 to 13 of the order of refusal.
 use crate::case;
 use crate::case::Case;
 use layout::Shape;
@@ -67,7 +67,7 @@ fn is_opened(s: &[u8], h: Shape, i: usize) -> bool
     false
 }
 
-// Step 11.
+// Step 11: the replaced inode would lose its last entry, and is the current directory or under an open handle.
 fn busy(s: &[u8], h: Shape, c: Case) -> bool
     requires { ⌜ Laid h (now s) ⌝ }
     ensures { λ r. ⌜ r ≡ busy (viewOf h (now (s .entry))) c ⌝ }
@@ -85,7 +85,7 @@ fn busy(s: &[u8], h: Shape, c: Case) -> bool
     is_opened(s, h, replaced)
 }
 
-// Step 12.
+// Step 12: the new parent would get a link more than there may be.
 fn full_parent(s: &[u8], h: Shape, c: Case) -> bool
     requires { ⌜ Laid h (now s) × Within h c ⌝ }
     ensures { λ r. ⌜ r ≡ fullParent (viewOf h (now (s .entry))) c ⌝ }
@@ -103,7 +103,7 @@ fn full_parent(s: &[u8], h: Shape, c: Case) -> bool
     layout::inode::links(r) == 64
 }
 
-// Step 13, of any image of this shape: the number of its slots is all that is asked.
+// Step 13: no entry is free. This holds of any image of the shape, since the number of slots is all that is asked.
 fn no_slot(h: Shape, c: Case) -> bool
     ensures { λ r. ⌜ ((s : List ℕ) → r ≡ noSlot (viewOf h s) c) ⌝ }
 {
