@@ -78,15 +78,21 @@ module _ (v : View) where
   movedDenied c = reparents c && not (mayWrite (c .who) (c .moved))
 
   -- step 10: the replaced directory has entries
+  abbrev pub entryIn : ℕ → ℕ → Bool
+  entryIn d j = entryUsed v j && eqb (v .parent j) d
+
   unfoldable pub hasEntries : ℕ → Bool
-  hasEntries d = any (λ j. entryUsed v j && eqb (v .parent j) d) (v .entries)
+  hasEntries d = any (entryIn d) (v .entries)
 
   abbrev pub notEmpty : Case → Bool
   notEmpty c = isDirectory v (c .replaced) && hasEntries (c .replaced)
 
   -- step 11: the replaced inode would lose its last entry, and is the current directory or under an open handle
+  abbrev pub openOn : ℕ → ℕ → Bool
+  openOn i n = handleOpen v n && eqb (v .opened n) i
+
   unfoldable pub isOpened : ℕ → Bool
-  isOpened i = any (λ n. handleOpen v n && eqb (v .opened n) i) (v .handles)
+  isOpened i = any (openOn i) (v .handles)
 
   abbrev pub busy : Case → Bool
   busy c = exists c && eqb (entriesOf v (c .replaced)) 1 && (eqb (c .replaced) (c .current) || isOpened (c .replaced))

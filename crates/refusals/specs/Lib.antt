@@ -1,2 +1,6 @@
 pub mod Case
+pub mod Within
+pub mod Kinds
 pub mod Steps
+pub mod Decide
+pub mod Passed

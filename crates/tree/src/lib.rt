@@ -4,7 +4,7 @@ ghost use mathlib.Core.Path.{_≡_};
 ghost use Prim.Native.Nat.{_≤_, _<_};
 ghost use Rattle.layout.specs.Contents.{Laid};
 ghost use Rattle.layout.specs.View.{viewOf};
-ghost use Rattle.tree.specs.Tree.{targets, entriesOf, holdsDirectory, childDirectories, leads};
+ghost use Rattle.tree.specs.Tree.{targets, entriesOf, holdsDirectory, childDirectories, leads, reaches};
 
 pub mod inodes;
 
@@ -89,4 +89,25 @@ pub fn leads_to_root(s: &[u8], h: Shape, i: usize) -> bool
         left -= 1;
     }
     at == 0
+}
+
+// Whether inode i is the goal, or the goal is above it. The root is its own parent, so the search stays there until its steps are used up.
+pub fn is_above(s: &[u8], h: Shape, goal: usize, i: usize) -> bool
+    requires { ⌜ Laid h (now s) × (i < h .inodes) ⌝ }
+    ensures { λ r. ⌜ r ≡ reaches (viewOf h (now (s .entry))) goal (h .inodes) i ⌝ }
+{
+    let mut at = i;
+    let mut left = h.inodes;
+    while 0 < left {
+        if at == goal {
+            return true;
+        }
+        let r = layout::records::inode(s, h, at);
+        at = layout::inode::field(r);
+        if !layout::lookup::is_directory(s, h, at) {
+            return false;
+        }
+        left -= 1;
+    }
+    at == goal
 }

@@ -1,0 +1,56 @@
+-- `refusals::target::has_entries` meets its contract. Assumes nothing.
+use mathlib.Core.Path.{_≡_, sym, _∙_}
+use mathlib.Core.Bool.{false}
+use Prim.Native.Nat.{_≤_, _-_}
+use native.Mathlib.Omega.{arith}
+use borrow.Author.Needs.{needs}
+use Rattle.seq.specs.Search.{any, any-none, any-miss, any-hit}
+use Rattle.layout.specs.View.{viewOf}
+use Rattle.refusals.specs.Case.{entryIn, hasEntries}
+use Rattle.refusals.proofs.target.has_entries.Statement.{statement}
+use Rattle.refusals.proofs.target.has_entries.Tie as tie
+
+abbrev Inv-loop : tie.InvT-loop
+Inv-loop s h d n j₀ j = (j ≤ n) × (any (entryIn (viewOf h s) d) j ≡ false)
+
+abbrev μ-loop : tie.MeasureT-loop
+μ-loop s h d n j₀ j = n - j
+
+loop-holds : tie.Need-loop-holds Inv-loop μ-loop
+loop-holds c = (search needs, any-none _)
+
+entry-in-requires : tie.Need-entry-in-requires Inv-loop μ-loop
+entry-in-requires c κs = search needs
+
+returns : tie.Need-returns Inv-loop μ-loop
+unfolding hasEntries viewOf
+returns c = sym (any-hit _ _ _ (c .before .before .loop-test .taken) (sym (c .before .entry-in .ensures) ∙ c .if1 .taken))
+
+add-j : tie.Need-add-j Inv-loop μ-loop
+add-j c = search needs
+
+loop-less : tie.Need-loop-less Inv-loop μ-loop
+loop-less c = search needs
+
+loop-again : tie.Need-loop-again Inv-loop μ-loop
+loop-again c = (search needs, any-miss _ _ (c .before .before .before .loop .inv .1) (sym (c .before .entry-in .ensures) ∙ c .if1 .left))
+
+returns-2 : tie.Need-returns-2 Inv-loop μ-loop
+unfolding hasEntries viewOf
+returns-2 c =
+    let e : c .before .loop .j ≡ c .before .before .before .args .h .entries = omega arith in
+    sym (rw e at (c .before .loop .inv .1))
+
+pub has-entries-spec : {M : Type 1} → statement M
+has-entries-spec =
+    tie.close
+    (tie.spec
+    Inv-loop
+    μ-loop
+    loop-holds
+    entry-in-requires
+    returns
+    add-j
+    loop-less
+    loop-again
+    returns-2)

@@ -1,0 +1,78 @@
+// Steps 8 to 10 of the order of refusal: the two type numbers decide.
+use crate::case::Case;
+use crate::target;
+use layout::Shape;
+use paths::permission;
+ghost use mathlib.Core.Path.{_≡_};
+ghost use mathlib.Core.Bool.{true, false};
+ghost use Rattle.layout.specs.Contents.{Laid};
+ghost use Rattle.layout.specs.View.{viewOf, isDirectory};
+ghost use Rattle.refusals.specs.Case.{movedDenied, CaseIn};
+ghost use Rattle.refusals.specs.Steps.{numberOf, decide, kindRules};
+
+// Step 9 of a directory: it gets another parent, and write permission is denied on it.
+fn moved_denied(s: &[u8], h: Shape, c: Case) -> bool
+    requires { ⌜ Laid h (now s) × (isDirectory (viewOf h (now s)) (c .moved) ≡ true) ⌝ }
+    ensures { λ r. ⌜ r ≡ movedDenied (viewOf h (now (s .entry))) c ⌝ }
+{
+    if c.from == c.into {
+        return false;
+    }
+    !permission::allows(s, h, c.who, c.moved, 2)
+}
+
+// Steps 8 to 10 of a directory. It may replace nothing, or a directory that has no entries.
+fn of_directory(s: &[u8], h: Shape, c: Case) -> u8
+    requires { ⌜ Laid h (now s) × CaseIn (viewOf h (now s)) c × (isDirectory (viewOf h (now s)) (c .moved) ≡ true) ⌝ }
+    ensures { λ r. ⌜ r ≡ numberOf (decide (kindRules (viewOf h (now (s .entry))) c)) ⌝ }
+{
+    let replaced = layout::lookup::kind(s, h, c.replaced);
+    match replaced {
+        0 => {
+            if moved_denied(s, h, c) {
+                return 13;
+            }
+            0
+        }
+        2 => {
+            if moved_denied(s, h, c) {
+                return 13;
+            }
+            if target::has_entries(s, h, c.replaced) {
+                return 39;
+            }
+            0
+        }
+        _ => 20,
+    }
+}
+
+// Step 8 of anything else, of which steps 9 and 10 ask nothing.
+fn of_other(s: &[u8], h: Shape, c: Case) -> u8
+    requires { ⌜ Laid h (now s) × CaseIn (viewOf h (now s)) c × (isDirectory (viewOf h (now s)) (c .moved) ≡ false) ⌝ }
+    ensures { λ r. ⌜ r ≡ numberOf (decide (kindRules (viewOf h (now (s .entry))) c)) ⌝ }
+{
+    let replaced = layout::lookup::kind(s, h, c.replaced);
+    match replaced {
+        0 => {
+            if c.slash {
+                return 20;
+            }
+            0
+        }
+        2 => 21,
+        _ => 0,
+    }
+}
+
+// The number of the first of steps 8 to 10 that refuses, or 0.
+pub fn number(s: &[u8], h: Shape, c: Case) -> u8
+    requires { ⌜ Laid h (now s) × CaseIn (viewOf h (now s)) c ⌝ }
+    ensures { λ r. ⌜ r ≡ numberOf (decide (kindRules (viewOf h (now (s .entry))) c)) ⌝ }
+{
+    let moved = layout::lookup::kind(s, h, c.moved);
+    match moved {
+        2 => of_directory(s, h, c),
+        _ => of_other(s, h, c),
+    }
+}

@@ -1,0 +1,34 @@
+// Steps 1 to 13 of the order of refusal.
+use crate::case::Answer;
+use crate::case::Case;
+use crate::kinds;
+use crate::parents;
+use crate::target;
+use layout::Shape;
+ghost use mathlib.Core.Path.{_≡_};
+ghost use Rattle.layout.specs.View.{viewOf, Readable};
+ghost use Rattle.refusals.specs.Case.{CaseIn};
+ghost use Rattle.refusals.specs.Steps.{decide, steps};
+
+// How a rename is answered, whose walks have found this case.
+pub fn judge(s: &[u8], h: Shape, c: Case) -> Answer
+    requires { ⌜ Readable h (now s) × CaseIn (viewOf h (now s)) c ⌝ }
+    ensures { λ r. ⌜ r ≡ decide (steps (viewOf h (now (s .entry))) c) ⌝ }
+{
+    if c.moved == c.replaced {
+        return Answer::Same;
+    }
+    let by_parents = parents::number(s, h, c);
+    if by_parents != 0 {
+        return Answer::Refused(by_parents);
+    }
+    let by_kinds = kinds::number(s, h, c);
+    if by_kinds != 0 {
+        return Answer::Refused(by_kinds);
+    }
+    let by_target = target::number(s, h, c);
+    if by_target != 0 {
+        return Answer::Refused(by_target);
+    }
+    Answer::Planned
+}

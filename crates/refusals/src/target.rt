@@ -1,0 +1,131 @@
+// The target of a rename: whether it has entries, and steps 11 to 13 of the order of refusal.
+use crate::case;
+use crate::case::Case;
+use layout::Shape;
+ghost use mathlib.Core.Path.{_≡_};
+ghost use mathlib.Core.List.{List};
+ghost use Prim.Native.Nat.{ℕ, _<_};
+ghost use Rattle.layout.specs.Contents.{Laid};
+ghost use Rattle.layout.specs.View.{viewOf};
+ghost use Rattle.refusals.specs.Case.{entryIn, hasEntries, openOn, isOpened, busy, fullParent, noSlot};
+ghost use Rattle.refusals.specs.Within.{Within};
+ghost use Rattle.refusals.specs.Steps.{numberOf, decide, targetRules};
+
+// Whether the entry in slot j is in use and lies in directory d.
+fn entry_in(s: &[u8], h: Shape, d: usize, j: usize) -> bool
+    requires { ⌜ Laid h (now s) × (j < h .entries) ⌝ }
+    ensures { λ r. ⌜ r ≡ entryIn (viewOf h (now (s .entry))) d j ⌝ }
+{
+    let e = layout::records::entry(s, h, j);
+    if layout::entry::name_length(e) == 0 {
+        return false;
+    }
+    layout::entry::parent(e) == d
+}
+
+// Whether directory d has entries.
+pub fn has_entries(s: &[u8], h: Shape, d: usize) -> bool
+    requires { ⌜ Laid h (now s) ⌝ }
+    ensures { λ r. ⌜ r ≡ hasEntries (viewOf h (now (s .entry))) d ⌝ }
+{
+    let n = h.entries;
+    let mut j: usize = 0;
+    while j < n {
+        if entry_in(s, h, d, j) {
+            return true;
+        }
+        j += 1;
+    }
+    false
+}
+
+// Whether handle n is open on inode i.
+fn open_on(s: &[u8], h: Shape, i: usize, n: usize) -> bool
+    requires { ⌜ Laid h (now s) × (n < h .handles) ⌝ }
+    ensures { λ r. ⌜ r ≡ openOn (viewOf h (now (s .entry))) i n ⌝ }
+{
+    let r = layout::records::handle(s, h, n);
+    if layout::handle::state(r) == 0 {
+        return false;
+    }
+    layout::handle::inode(r) == i
+}
+
+// Whether inode i is under an open handle.
+fn is_opened(s: &[u8], h: Shape, i: usize) -> bool
+    requires { ⌜ Laid h (now s) ⌝ }
+    ensures { λ r. ⌜ r ≡ isOpened (viewOf h (now (s .entry))) i ⌝ }
+{
+    let handles = h.handles;
+    let mut n: usize = 0;
+    while n < handles {
+        if open_on(s, h, i, n) {
+            return true;
+        }
+        n += 1;
+    }
+    false
+}
+
+// Step 11: the replaced inode would lose its last entry, and is the current directory or under an open handle.
+fn busy(s: &[u8], h: Shape, c: Case) -> bool
+    requires { ⌜ Laid h (now s) ⌝ }
+    ensures { λ r. ⌜ r ≡ busy (viewOf h (now (s .entry))) c ⌝ }
+{
+    let replaced = c.replaced;
+    if replaced == case::ABSENT {
+        return false;
+    }
+    if tree::entries_of(s, h, replaced) != 1 {
+        return false;
+    }
+    if replaced == c.current {
+        return true;
+    }
+    is_opened(s, h, replaced)
+}
+
+// Step 12: the new parent would get a link more than there may be.
+fn full_parent(s: &[u8], h: Shape, c: Case) -> bool
+    requires { ⌜ Laid h (now s) × Within h c ⌝ }
+    ensures { λ r. ⌜ r ≡ fullParent (viewOf h (now (s .entry))) c ⌝ }
+{
+    if !layout::lookup::is_directory(s, h, c.moved) {
+        return false;
+    }
+    if c.from == c.into {
+        return false;
+    }
+    if c.replaced != case::ABSENT {
+        return false;
+    }
+    let r = layout::records::inode(s, h, c.into);
+    layout::inode::links(r) == 64
+}
+
+// Step 13: no entry is free. This holds of any image of the shape, since the number of slots is all that is asked.
+fn no_slot(h: Shape, c: Case) -> bool
+    ensures { λ r. ⌜ ((s : List ℕ) → r ≡ noSlot (viewOf h s) c) ⌝ }
+{
+    if c.replaced != case::ABSENT {
+        return false;
+    }
+    h.entries <= c.new
+}
+
+// The number of the first of steps 11 to 13 that refuses, or 0.
+pub fn number(s: &[u8], h: Shape, c: Case) -> u8
+    requires { ⌜ Laid h (now s) × Within h c ⌝ }
+    ensures { λ r. ⌜ r ≡ numberOf (decide (targetRules (viewOf h (now (s .entry))) c)) ⌝ }
+{
+    if busy(s, h, c) {
+        return 16;
+    }
+    if full_parent(s, h, c) {
+        return 31;
+    }
+    if no_slot(h, c) {
+        return 28;
+    }
+    0
+}
