@@ -12,7 +12,7 @@ struct Draft {
     layout: Layout,
 }
 
-/// The whole image after a rename that is not refused; nothing where a walk is. One inode under both names stays as it is.
+/// The whole image after a rename that is not refused; nothing where a walk is. Two names of one inode both stay.
 pub fn finished(before: &[u8], request: &Request, now: u64) -> Option<Vec<u8>> {
     let layout = Layout::read(before)?;
     let [old, new] = walk_both(&Image::read(before)?, request).found?;

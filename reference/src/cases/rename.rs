@@ -7,7 +7,7 @@ use crate::generate::{generate, small_aim, FULL, SPARSE};
 use crate::maze::maze;
 use crate::random::Random;
 use crate::rename::{rename, Answer};
-use crate::renames::{bench, buffers, images, limits, paths, permissions, scenes, slots, times, uses, wander, ways};
+use crate::renames::{bench, buffers, images, limits, paths, permissions, slots, steps, times, uses, wander, ways};
 use crate::renames::{RenameCases, Told};
 use crate::samples::{many_names, workshop};
 use crate::vectors::{checksum, Buffer, Renaming};
@@ -29,7 +29,7 @@ pub fn all() -> Collection {
     collection.add_renames(&bench_tree(), slots::cases());
     collection.add_renames(&bench_tree(), images::cases(random));
     let on_the_yard = [
-        scenes::cases(random),
+        steps::cases(random),
         ways::cases(),
         permissions::cases(),
         uses::cases(),

@@ -1,6 +1,6 @@
 //! Plan buffers of every length under every kind of answer: too short a buffer comes before all else.
 
-use super::{case, request, scenes, RenameCase, RenameCases, Told};
+use super::{case, request, steps, RenameCase, RenameCases, Told};
 use crate::check::{INCONSISTENT, JOURNAL_PENDING};
 use crate::errno::{EACCES, EBADF, EBUSY, EINVAL, ELOOP, ENAMETOOLONG, ENOENT, ENOTDIR};
 use crate::land::BUFFER_TOO_SHORT;
@@ -69,7 +69,7 @@ fn damaged() -> RenameCases {
 }
 
 pub fn cases(random: &mut Random) -> RenameCases {
-    let answers = [answers(), damaged(), scenes::one_of_each_step(CLASS, random)].concat();
+    let answers = [answers(), damaged(), steps::one_of_each_step(CLASS, random)].concat();
     let mut cases = vec![];
     for (i, case) in answers.iter().enumerate() {
         for (j, len) in LENGTHS.into_iter().enumerate() {

@@ -1,6 +1,6 @@
 //! Link counts at their limit: sixty-four names, sixty-two subdirectories.
 
-use super::{case, request, RenameCases, Told};
+use super::{case, request, RenameCase, RenameCases, Told};
 use crate::builder::{Entry, Tree};
 use crate::errno::{EMLINK, ENOTDIR, ENOTEMPTY, EROFS};
 use crate::layout::FREE;
@@ -9,13 +9,13 @@ use crate::samples::{many_names, many_subdirectories};
 
 const CLASS: &str = "link counts";
 
-fn line(tree: &Tree, (old, new): (&str, &str), number: u8, rows: u8) -> super::RenameCase {
+fn line(tree: &Tree, (old, new): (&str, &str), number: u8, rows: u8) -> RenameCase {
     let mut request = request(old, new);
     request.who = Credentials { user: SUPERUSER, group: 0 };
     case(CLASS, tree, request, Told { number, rows, steps: None })
 }
 
-/// One file has the names f0 and on, one symlink l0 and on; each loses one or changes one. The sample itself is read-only.
+/// One file has the names f0 and on, one symlink l0 and on. The sample itself is read-only.
 pub fn names() -> RenameCases {
     let mut tree = many_names();
     tree.inodes.iter_mut().filter(|inode| inode.kind != FREE).for_each(|inode| inode.file_system = 0);
@@ -70,11 +70,16 @@ pub fn subdirectories() -> RenameCases {
     let (wide, one_less, refilled) = (wide(), one_less(), refilled());
     let lines = [
         (&wide, ("/top/0", "/top/new"), 0, 6),
+        (&wide, ("/top/m", "/top/new"), 0, 6),
+        (&wide, ("/top/5/", "/top/new/"), 0, 6),
         (&wide, ("/top/0", "/top/2"), 0, 7),
         (&wide, ("/top/0", "/new"), 0, 7),
         (&wide, ("/top/0", "/top/2/new"), 0, 7),
         (&wide, ("/top", "/new"), 0, 6),
         (&one_less, ("/1", "/top/1"), 0, 7),
+        (&one_less, ("/1", "/top/new"), 0, 7),
+        (&one_less, ("/1/", "/top/new/"), 0, 7),
+        (&one_less, ("/1", "/top/m/../new"), 0, 7),
         (&one_less, ("/1", "/top/2"), 0, 8),
         (&one_less, ("/1", "/top"), ENOTEMPTY, 0),
         (&one_less, ("/top/0", "/1"), 0, 8),

@@ -42,6 +42,15 @@ fn time(random: &mut Random) -> u64 {
     }
 }
 
+/// Opens some handle, if the tree has any, on some inode.
+fn open_one(tree: &mut Tree, random: &mut Random) {
+    let used: Vec<u16> = (0..tree.inodes.len() as u16).filter(|&inode| tree.kind(inode) != FREE).collect();
+    let place = random.below(tree.handles.len() + 1);
+    if let Some(handle) = tree.handles.get_mut(place) {
+        *handle = Handle { state: 1 + random.byte() % 2, inode: *random.pick(&used) };
+    }
+}
+
 /// A request on the tree with up to two modes and a handle changed.
 fn attempt(tree: &Tree, random: &mut Random) -> RenameCase {
     let mut tree = tree.clone();
@@ -50,11 +59,8 @@ fn attempt(tree: &Tree, random: &mut Random) -> RenameCase {
     for _ in 0..random.below(3) {
         tree.inodes[usize::from(*random.pick(&directories))].mode = *random.pick(&MODES);
     }
-    if !tree.handles.is_empty() && random.one_in(5) {
-        let place = random.below(tree.handles.len());
-        let inode = random.below(tree.inodes.len()) as u16;
-        let state = if tree.kind(inode) == FREE { 0 } else { 1 + random.byte() % 2 };
-        tree.handles[place] = if state == 0 { Handle::default() } else { Handle { state, inode } };
+    if random.one_in(5) {
+        open_one(&mut tree, random);
     }
     let old = if random.one_in(3) { operand(&tree, current, 6, random) } else { straight(&tree, false, random) };
     let fresh = random.one_in(3);

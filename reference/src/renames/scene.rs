@@ -1,16 +1,14 @@
-//! Requests on the yard in which any of the refusals after the walks meet: what applies is told from the scene alone.
+//! Renames on the yard described by what is moved, replaced and in the way: that alone tells which steps apply.
 
-use super::{case, components, request, RenameCase, RenameCases, Told};
+use super::{case, components, request, RenameCase, Told};
 use crate::builder::{Entry, Handle, Tree};
 use crate::errno::{EACCES, EBUSY, EINVAL, EISDIR, EMLINK, ENOSPC, ENOTDIR, ENOTEMPTY, EPERM, EROFS, EXDEV};
 use crate::permission::Credentials;
 use crate::random::Random;
-use crate::vectors::edits;
-use crate::yard::{inode_at, yard, AREAS, CLOSED, FREE_SLOT, GROUP, OWNER};
-use std::collections::BTreeSet;
+use crate::yard::{inode_at, AREAS, CLOSED, FREE_SLOT, GROUP, OWNER};
 
 #[derive(Clone, Copy, Debug, PartialEq, Eq, PartialOrd, Ord)]
-enum Moved {
+pub enum Moved {
     File,
     Symlink,
     Directory,
@@ -25,7 +23,7 @@ use Moved::{Directory, File, Mount, Parent, Symlink};
 const MOVED: [Moved; 5] = [File, Symlink, Directory, Parent, Mount];
 
 #[derive(Clone, Copy, Debug, PartialEq, Eq, PartialOrd, Ord)]
-enum Replaced {
+pub enum Replaced {
     Nothing,
     LastFile,
     KeptFile,
@@ -46,7 +44,7 @@ const REPLACED: [Replaced; 10] =
 
 /// Where the new name is.
 #[derive(Clone, Copy, Debug, PartialEq, Eq, PartialOrd, Ord)]
-enum Place {
+pub enum Place {
     SameParent,
     Elsewhere,
     /// The directory whose link count is at its limit. It lies below the moved one if that is the first area's parent.
@@ -62,25 +60,26 @@ use Place::{Below, BelowMount, Elsewhere, Itself, SameParent, Wide};
 const PLACES: [Place; 6] = [SameParent, Elsewhere, Wide, Below, BelowMount, Itself];
 
 #[derive(Clone, Copy, Debug, PartialEq, Eq, PartialOrd, Ord)]
-enum Caller {
+pub enum Caller {
     Owner,
     Other,
     Superuser,
 }
 
 #[derive(Clone, Copy, Debug, PartialEq, Eq, PartialOrd, Ord)]
-enum Use {
-    Unused,
+pub enum InUse {
+    No,
     Current,
+    /// By a handle of that state.
     Open(u8),
 }
 
 /// Areas stand for file systems by their index; the last one is read-only.
 #[derive(Clone, Copy, Debug, PartialEq, Eq, PartialOrd, Ord)]
-struct Scene {
-    moved: Moved,
-    replaced: Replaced,
-    place: Place,
+pub struct Scene {
+    pub moved: Moved,
+    pub replaced: Replaced,
+    pub place: Place,
     areas: [usize; 2],
     caller: Caller,
     /// Write permission taken from the old parent, the new one, the moved inode.
@@ -88,7 +87,7 @@ struct Scene {
     sticky: bool,
     /// The moved inode, the old parent belong to the caller who owns nothing else.
     owned: [bool; 2],
-    replaced_use: Use,
+    replaced_use: InUse,
     no_free_slot: bool,
     slash: bool,
 }
@@ -97,10 +96,11 @@ const READ_ONLY: usize = 2;
 const OTHER: u32 = 300;
 
 impl Scene {
-    fn any(random: &mut Random) -> Scene {
+    /// Any values, whether or not they go together.
+    pub fn any(random: &mut Random) -> Scene {
         let area = |random: &mut Random| *random.pick(&[0, 0, 0, 1, READ_ONLY]);
         let old_area = area(random);
-        let uses = [Use::Unused, Use::Unused, Use::Current, Use::Open(1), Use::Open(2)];
+        let uses = [InUse::No, InUse::No, InUse::Current, InUse::Open(1), InUse::Open(2)];
         Scene {
             moved: *random.pick(&MOVED),
             replaced: *random.pick(&REPLACED),
@@ -129,7 +129,7 @@ impl Scene {
     }
 
     /// Whether the yard has such a scene, and no flag is without meaning in it.
-    fn is_possible(&self) -> bool {
+    pub fn is_possible(&self) -> bool {
         let place = match self.place {
             SameParent => !self.denied[1],
             Elsewhere => true,
@@ -152,9 +152,9 @@ impl Scene {
         };
         let one_area = matches!(self.place, Elsewhere | Wide) || self.areas[0] == self.areas[1];
         let in_use = match self.replaced_use {
-            Use::Unused => true,
-            Use::Current => self.replaces_a_directory(),
-            Use::Open(_) => self.replaced != Nothing,
+            InUse::No => true,
+            InUse::Current => self.replaces_a_directory(),
+            InUse::Open(_) => self.replaced != Nothing,
         };
         let slash = !self.slash || self.replaced == Nothing || self.replaces_a_directory();
         let owned = self.caller == Caller::Other || self.owned == [false; 2];
@@ -162,7 +162,7 @@ impl Scene {
     }
 
     /// The steps that apply, with the number of each; none does where the rename has rows.
-    fn steps(&self) -> Vec<(u8, u8)> {
+    pub fn steps(&self) -> Vec<(u8, u8)> {
         let (moved, replaced) = (self.moves_a_directory(), self.replaces_a_directory());
         let in_mount = self.place == BelowMount || (self.place, self.moved) == (Itself, Mount);
         let denied = |which: usize| self.denied[which] && self.caller != Caller::Superuser;
@@ -187,7 +187,7 @@ impl Scene {
             (8, types.is_some(), types.unwrap_or(0)),
             (9, moved && apart && denied(2), EACCES),
             (10, self.replaced == Full || self.replaced == SameName && matches!(self.moved, Parent | Mount), ENOTEMPTY),
-            (11, self.replaced_use != Use::Unused && !kept, EBUSY),
+            (11, self.replaced_use != InUse::No && !kept, EBUSY),
             (12, moved && apart && self.replaced == Nothing && self.place == Wide, EMLINK),
             (13, self.replaced == Nothing && self.no_free_slot, ENOSPC),
         ];
@@ -252,9 +252,9 @@ impl Scene {
         for (inode, _) in [inodes[2], inodes[0]].into_iter().zip(self.owned).filter(|(_, owned)| *owned) {
             tree.inodes[inode].owner = OTHER;
         }
-        if let Use::Open(state) = self.replaced_use {
+        if let InUse::Open(state) = self.replaced_use {
             let inode = inode_at(yard, &self.new_path());
-            tree.handles[CLOSED[usize::from(self.sticky)]] = Handle { state, inode };
+            tree.handles[CLOSED[usize::from(state - 1)]] = Handle { state, inode };
         }
         if self.no_free_slot {
             let kept = inode_at(yard, "/w/q/kept");
@@ -264,14 +264,14 @@ impl Scene {
         tree
     }
 
-    fn case(&self, class: &'static str, yard: &Tree) -> RenameCase {
+    pub fn case(&self, class: &'static str, yard: &Tree) -> RenameCase {
         let mut request = request(&self.old_path(), &self.new_path());
         request.who = match self.caller {
             Caller::Owner => Credentials { user: OWNER, group: GROUP },
             Caller::Other => Credentials { user: OTHER, group: OTHER },
             Caller::Superuser => Credentials { user: 0, group: 0 },
         };
-        if self.replaced_use == Use::Current {
+        if self.replaced_use == InUse::Current {
             request.current = inode_at(yard, &self.new_path());
         }
         let steps = Some([components(&self.old_path()), components(&self.new_path())]);
@@ -286,72 +286,4 @@ impl Scene {
         let two_parents = self.place != SameParent;
         6 + u8::from(two_parents) + u8::from(self.replaced != Nothing) + u8::from(self.replaced == LastSymlink)
     }
-}
-
-/// How many scenes are looked at, and how many of a kind are taken, or a few more.
-const TRIES: usize = 200_000;
-const OF_ONE_STEP: usize = 24;
-const OF_TWO_STEPS: usize = 12;
-const OF_NO_STEP: usize = 300;
-
-type Shape = (Moved, Replaced, Place);
-
-/// Scenes of every kind with the steps that apply, those with the fewest steps first.
-struct Stock {
-    yard: Tree,
-    home: Vec<u8>,
-    scenes: Vec<(Scene, Vec<u8>)>,
-}
-
-impl Stock {
-    fn new(random: &mut Random) -> Stock {
-        let scenes: BTreeSet<Scene> = (0..TRIES).map(|_| Scene::any(random)).filter(Scene::is_possible).collect();
-        let steps = |scene: Scene| (scene, scene.steps().into_iter().map(|(step, _)| step).collect());
-        let mut scenes: Vec<(Scene, Vec<u8>)> = scenes.into_iter().map(steps).collect();
-        random.shuffle(&mut scenes);
-        scenes.sort_by_key(|(_, steps)| steps.len());
-        Stock { yard: yard(), home: yard().encode(), scenes }
-    }
-
-    /// The first scenes that are wanted, but for those that are too far from the yard to be stored as edits.
-    fn take(&self, class: &'static str, count: usize, wanted: impl Fn(&Scene, &[u8]) -> bool) -> RenameCases {
-        let chosen = self.scenes.iter().filter(|(scene, steps)| wanted(scene, steps));
-        let cases = chosen.map(|(scene, _)| scene.case(class, &self.yard));
-        cases.filter(|case| edits(&self.home, &case.image).is_some()).take(count).collect()
-    }
-
-    /// Scenes in which just these steps apply, two or more of every shape.
-    fn of_every_shape(&self, class: &'static str, count: usize, wanted: &[u8]) -> RenameCases {
-        let shape = |scene: &Scene| -> Shape { (scene.moved, scene.replaced, scene.place) };
-        let scenes = self.scenes.iter().filter(|(_, steps)| steps == wanted);
-        let shapes: BTreeSet<Shape> = scenes.map(|(scene, _)| shape(scene)).collect();
-        let each = count.div_ceil(shapes.len()).max(2);
-        let of_shape = |of: Shape| self.take(class, each, |scene, steps| steps == wanted && shape(scene) == of);
-        shapes.into_iter().flat_map(of_shape).collect()
-    }
-}
-
-/// Every step alone; every two steps that can meet, the earlier one being the answer; and renames that no step
-/// applies to, though most are near one.
-pub fn cases(random: &mut Random) -> RenameCases {
-    let stock = Stock::new(random);
-    let mut cases = vec![];
-    for step in 1..=13 {
-        cases.extend(stock.of_every_shape("one step applies", OF_ONE_STEP, &[step]));
-    }
-    for first in 1..=13 {
-        for second in first + 1..=13 {
-            cases.extend(stock.take("two steps meet", OF_TWO_STEPS, |_, steps| {
-                steps.first() == Some(&first) && steps.contains(&second)
-            }));
-        }
-    }
-    cases.extend(stock.of_every_shape("shapes of a rename", OF_NO_STEP, &[]));
-    cases
-}
-
-/// A scene for each of the steps, in which it applies alone.
-pub fn one_of_each_step(class: &'static str, random: &mut Random) -> RenameCases {
-    let stock = Stock::new(random);
-    (1..=13).flat_map(|step| stock.take(class, 1, |_, steps| *steps == [step])).collect()
 }
