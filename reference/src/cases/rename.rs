@@ -62,6 +62,7 @@ impl Collection {
     fn add_full_tree(&mut self, random: &mut Random) {
         let mut tree = generate(FULL, 3);
         walks::wander::furnish(&mut tree, random);
+        slots::arrange(&mut tree);
         self.add_renames(&tree, wander::cases(&tree, 180, random));
         self.add_renames(&tree, slots::in_a_full_tree(&tree, random));
     }

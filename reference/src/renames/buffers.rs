@@ -2,7 +2,7 @@
 
 use super::{case, request, steps, RenameCase, RenameCases, Told};
 use crate::check::{INCONSISTENT, JOURNAL_PENDING};
-use crate::errno::{EACCES, EBADF, EBUSY, EINVAL, ELOOP, ENAMETOOLONG, ENOENT, ENOTDIR};
+use crate::errno::{EACCES, EBADF, EBUSY, EINVAL, EISDIR, ELOOP, ENAMETOOLONG, ENOENT, ENOTDIR};
 use crate::land::BUFFER_TOO_SHORT;
 use crate::layout::{Layout, CONTENTS_LEN, JOURNAL};
 use crate::plan::PLAN_LEN;
@@ -21,7 +21,7 @@ fn on_yard(old: &str, new: &str, told: Told) -> RenameCase {
     case(CLASS, &yard(), request(old, new), told)
 }
 
-/// Renames that plan rows, and walks and requests that are refused.
+/// Renames that plan rows, and ones that are refused for their types, a walk or the request.
 fn answers() -> RenameCases {
     let planned = |rows: u8| Told { number: 0, rows, steps: None };
     let long = "/".repeat(256);
@@ -31,6 +31,7 @@ fn answers() -> RenameCases {
         on_yard("/w/p/f", "/w/q/file", planned(8)),
         on_yard("/w/p/f", "/w/q/link", planned(9)),
         on_yard("/w/p/f", "/w/q/pf", planned(0)),
+        on_yard("/w/p/f", "/w/q/empty", Told::refused(EISDIR)),
         on_yard("", "/w/p/new", Told::refused(ENOENT)),
         on_yard("/w/p/f", "/", Told::refused(EBUSY)),
         on_yard("/w/p/f", &long, Told::refused(ENAMETOOLONG)),

@@ -11,8 +11,6 @@ use crate::vectors::{edits, Buffer};
 
 const OF_A_CLAUSE: usize = 4;
 
-const NO_TIME: u64 = 0;
-
 /// One that plans rows, one that is wrong, and ones that a walk or a step refuses.
 fn requests() -> [Request; 5] {
     let paths = [("/a/f", "/a/k"), ("/a/f\0", "/a/k"), ("nope", "/a/k"), ("/a/f", "/a/d"), ("/a/f", "/b/h")];
@@ -34,7 +32,7 @@ fn of_clause(class: &'static str, clause: &Clause, subject: &Subject, random: &m
         let told = Told { number: if short { BUFFER_TOO_SHORT } else { number }, rows: 0, steps: Some([0, 0]) };
         let buffer = short.then(|| Buffer { len: random.below(648) as u16, fill: random.byte() });
         let request = random.pick(&requests()).clone();
-        RenameCase { image, buffer, now: NO_TIME, ..case(class, &subject.tree, request, told) }
+        RenameCase { image, buffer, ..case(class, &subject.tree, request, told) }
     };
     images.into_iter().take(OF_A_CLAUSE).map(case).collect()
 }

@@ -74,8 +74,8 @@ fn writing() -> RenameCases {
     cases
 }
 
-/// Who owns the moved inode, the old parent, the new parent and the replaced inode, where it is not the yard's owner.
-const CALLER: u32 = 300;
+/// Somebody who owns one of a rename's inodes, or none.
+const SOMEBODY: u32 = 300;
 
 /// Directories with the sticky bit among the old parent, the new one and the moved inode.
 const STICKY: [[bool; 3]; 6] = [
@@ -104,18 +104,18 @@ fn sticky_case(
         tree.inodes[inode].mode |= 0o1000;
     }
     if let Some(&inode) = owned.and_then(|owned| inodes.get(owned)) {
-        tree.inodes[inode].owner = CALLER;
+        tree.inodes[inode].owner = SOMEBODY;
     }
-    let allowed = who.user == 0 || matches!((who.user, owned), (CALLER, Some(0 | 1)) | (OWNER, _));
+    let allowed = who.user == 0 || matches!((who.user, owned), (SOMEBODY, Some(0 | 1)) | (OWNER, _));
     let told = if sticky[0] && !allowed { Told::refused(EPERM) } else { Told { number: 0, rows, steps: None } };
     let mut request = request(old, new);
     request.who = who;
     case("sticky bit", &tree, request, told)
 }
 
-/// The owner of the yard loses one inode at most, and owns either the moved one or its parent then.
+/// The owner of the yard has lost one inode at most, and so owns the moved one or its parent.
 fn sticky() -> RenameCases {
-    let callers = [(CALLER, CALLER), (CALLER, GROUP), (CALLER, 0), (OWNER, GROUP), (0, 0), (0, CALLER)];
+    let callers = [(SOMEBODY, SOMEBODY), (SOMEBODY, GROUP), (SOMEBODY, 0), (OWNER, GROUP), (0, 0), (0, SOMEBODY)];
     let mut cases = vec![];
     for (i, sticky) in STICKY.into_iter().enumerate() {
         for (j, (user, group)) in callers.into_iter().enumerate() {
@@ -128,11 +128,11 @@ fn sticky() -> RenameCases {
     cases
 }
 
-/// A mode that is the group's or the others' alone does not pass for the sticky bit, nor any other high bit.
+/// No other bit above the nine passes for the sticky one.
 fn other_high_bits() -> RenameCases {
     let case = |mode: u16| {
         let mut request = request("/w/p/f", "/w/p/new");
-        request.who = Credentials { user: CALLER, group: CALLER };
+        request.who = Credentials { user: SOMEBODY, group: SOMEBODY };
         let told = match mode & 0o1000 {
             0 => Told { number: 0, rows: 6, steps: None },
             _ => Told::refused(EPERM),

@@ -1,7 +1,7 @@
 //! Where the new name goes: the lowest slot that is free.
 
 use super::wander::{has_rows, straight};
-use super::{case, request, RenameCase, RenameCases, Told};
+use super::{case, request, RenameCase, RenameCases, Told, NOW};
 use crate::bench_tree::bench_tree;
 use crate::builder::{Entry, Tree};
 use crate::damage::spread;
@@ -42,34 +42,45 @@ pub fn cases() -> RenameCases {
     cases
 }
 
-/// A full tree with one name removed, whichever slot it had: there, and only there, the new name goes.
-pub fn in_a_full_tree(tree: &Tree, random: &mut Random) -> RenameCases {
-    // Short names, so that their removal can be stored as edits.
+/// The slots whose name can go: another one is left, and it is short, so that its removal can be stored as edits.
+fn can_go(tree: &Tree) -> Vec<usize> {
     let can_go = |&slot: &usize| {
         let entry = &tree.entries[slot];
         let inode = &tree.inodes[usize::from(entry.target)];
         entry.name.len() <= 4 && inode.kind != DIRECTORY && inode.links > 1
     };
+    (0..tree.entries.len()).filter(can_go).collect()
+}
+
+/// Exchanges entries so that the names in the first and in the last slot can go.
+pub fn arrange(tree: &mut Tree) {
+    let last = tree.entries.len() - 1;
+    if let [first_that_can, .., last_that_can] = can_go(tree)[..] {
+        tree.entries.swap(0, first_that_can);
+        tree.entries.swap(last, last_that_can);
+    }
+}
+
+/// A full tree with one name removed, whichever slot it had: there, and only there, the new name goes.
+pub fn in_a_full_tree(tree: &Tree, random: &mut Random) -> RenameCases {
     let without = |slot: usize| {
         let mut tree = tree.clone();
         let gone = std::mem::take(&mut tree.entries[slot]);
         tree.inodes[usize::from(gone.target)].links -= 1;
         tree
     };
-    let slots = (0..tree.entries.len()).filter(can_go).collect();
-    let trees: Vec<Tree> = spread(slots).into_iter().map(without).collect();
+    let trees: Vec<Tree> = spread(can_go(tree)).into_iter().map(without).collect();
     trees.iter().flat_map(|tree| [0; 3].map(|_| to_a_free_name(tree, random))).collect()
 }
 
-/// A rename that succeeds; it is looked for.
+/// Renames are tried until one has rows.
 fn to_a_free_name(tree: &Tree, random: &mut Random) -> RenameCase {
-    let told = Told { number: 0, rows: 0, steps: None };
-    let mut any = || {
+    let any = || {
         let (old, new) = (straight(tree, false, random), straight(tree, true, random));
-        let who = Credentials { user: SUPERUSER, group: 0 };
-        RenameCase { told: None, ..case(CLASS, tree, Request { who, current: 0, old, new }, told) }
+        let request = Request { who: Credentials { user: SUPERUSER, group: 0 }, current: 0, old, new };
+        RenameCase { class: CLASS, image: tree.encode(), buffer: None, request, now: NOW, told: None }
     };
-    std::iter::repeat_with(&mut any).find(has_rows).expect("some rename is not refused")
+    std::iter::repeat_with(any).find(has_rows).expect("some rename is not refused")
 }
 
 #[cfg(test)]

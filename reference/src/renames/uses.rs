@@ -7,7 +7,7 @@ use crate::yard::{inode_at, yard, CLOSED};
 
 const CLASS: &str = "open and current";
 
-/// Where it is in use, the rename, and its rows; or the number that an unused one gets as well.
+/// An inode in use, and a rename that would free it.
 const FREED: [(&str, &str, &str); 6] = [
     ("/w/q/file", "/w/p/f", "/w/q/file"),
     ("/w/q/link", "/w/p/f", "/w/q/link"),
@@ -17,6 +17,7 @@ const FREED: [(&str, &str, &str); 6] = [
     ("/w/p/d/wide/n58", "/w/p/s", "/w/p/d/wide/n58"),
 ];
 
+/// An inode in use, a rename that this does not keep from its answer, and its number and rows.
 const KEPT: [(&str, &str, &str, u8, u8); 14] = [
     ("/w/q/kept", "/w/p/f", "/w/q/kept", 0, 8),
     ("/w/q/klink", "/w/p/f", "/w/q/klink", 0, 8),
