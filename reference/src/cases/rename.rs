@@ -151,7 +151,7 @@ mod tests {
     fn every_two_steps_that_can_meet_do() {
         let never = [(1, 3), (1, 7), (1, 8), (1, 9), (1, 12), (1, 13), (8, 12), (10, 12), (10, 13), (11, 12), (11, 13)];
         let mut met = BTreeSet::new();
-        for steps in with_parts(|parts| steps_that_apply(parts)) {
+        for steps in with_parts(steps_that_apply) {
             met.extend(steps.iter().skip(1).map(|&second| (steps[0], second)));
         }
         let pairs = (1..=13).flat_map(|first| (first + 1..=13).map(move |second| (first, second)));
@@ -161,7 +161,7 @@ mod tests {
 
     #[test]
     fn every_step_applies_alone() {
-        let alone = with_parts(|parts| steps_that_apply(parts)).into_iter().filter(|steps| steps.len() == 1);
+        let alone = with_parts(steps_that_apply).into_iter().filter(|steps| steps.len() == 1);
         let alone: Vec<u8> = alone.map(|steps| steps[0]).collect();
         for step in 1..=13 {
             assert!(alone.iter().filter(|&&other| other == step).count() >= 10, "step {step}");
