@@ -1,19 +1,23 @@
 //! The commands: `write` makes the files of test vectors, `verify` compares the stored ones with fresh ones.
 
-use mirepillar_reference::cases::{Collection, PARTS};
+use mirepillar_reference::cases::{Collection, Part, PARTS};
+use std::collections::BTreeMap;
 use std::path::{Path, PathBuf};
 use std::process::ExitCode;
 
 const USAGE: &str = "usage: mirepillar-reference write | verify";
 
-/// The parts by name, made anew.
-type Parts = Vec<(&'static str, Collection)>;
+/// The parts, made anew.
+type Parts = Vec<(&'static Part, Collection)>;
 
 /// Every file by its path in the repository, with what should stand in it.
-fn files(parts: &Parts) -> Vec<(String, Vec<u8>)> {
-    let cases = parts.iter().map(|(name, part)| (format!("crates/vectors/data/{name}"), part.writer.data.clone()));
-    let answers: String = parts.iter().map(|(_, part)| part.expected()).collect();
-    cases.chain([("crates/vectors/stdout".to_string(), answers.into_bytes())]).collect()
+fn files(parts: &Parts) -> BTreeMap<String, Vec<u8>> {
+    let mut files = BTreeMap::new();
+    for (part, collection) in parts {
+        files.insert(format!("crates/vectors/data/{}", part.name), collection.writer.data.clone());
+        files.entry(part.answers.to_string()).or_default().extend(collection.expected().into_bytes());
+    }
+    files
 }
 
 fn full_path(file: &str) -> PathBuf {
@@ -28,8 +32,8 @@ fn write(parts: &Parts) -> Result<(), String> {
             .and_then(|()| std::fs::write(&path, contents))
             .map_err(|error| format!("{file} cannot be written: {error}"))?;
     }
-    for (name, part) in parts {
-        println!("\n{name}\n\n{}", part.table().join("\n"));
+    for (part, collection) in parts {
+        println!("\n{}\n\n{}", part.name, collection.table().join("\n"));
     }
     Ok(())
 }
@@ -55,10 +59,10 @@ fn main() -> ExitCode {
             return ExitCode::from(2);
         }
     };
-    let parts: Parts = PARTS.iter().map(|part| (part.name, (part.make)())).collect();
+    let parts: Parts = PARTS.iter().map(|part| (part, (part.make)())).collect();
     match job(&parts) {
         Ok(()) => {
-            parts.iter().for_each(|(name, part)| println!("{name}: {} cases", part.lines.len()));
+            parts.iter().for_each(|(part, collection)| println!("{}: {} cases", part.name, collection.lines.len()));
             ExitCode::SUCCESS
         }
         Err(sentence) => {

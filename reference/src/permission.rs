@@ -9,13 +9,22 @@ pub struct Credentials {
     pub group: u32,
 }
 
-const SUPERUSER: u32 = 0;
+pub const SUPERUSER: u32 = 0;
 
-/// The lowest bit of a class's three is search.
+/// The lowest bit of a class's three is search, the next one write.
 const SEARCH: u16 = 1;
+const WRITE: u16 = 2;
 
 pub fn may_search(who: Credentials, directory: Inode) -> bool {
-    who.user == SUPERUSER || class_bits(who, directory) & SEARCH != 0
+    may(who, directory, SEARCH)
+}
+
+pub fn may_write(who: Credentials, inode: Inode) -> bool {
+    may(who, inode, WRITE)
+}
+
+fn may(who: Credentials, inode: Inode, bit: u16) -> bool {
+    who.user == SUPERUSER || class_bits(who, inode) & bit != 0
 }
 
 /// One class counts alone, however little it allows.

@@ -17,6 +17,7 @@ const BASE: u8 = 1;
 const CHECK: u8 = 2;
 const WALK: u8 = 3;
 const LAND: u8 = 4;
+const RENAME: u8 = 5;
 
 type Edit = (u32, u8);
 
@@ -26,6 +27,7 @@ pub enum Case {
     Check(Vec<u8>),
     Walk(Walking),
     Land(Landing),
+    Rename(Renaming),
 }
 
 #[derive(Clone, Debug, PartialEq, Eq)]
@@ -39,6 +41,28 @@ pub struct Landing {
     pub image: Vec<u8>,
     pub plan: Vec<u8>,
     pub row: u64,
+}
+
+#[derive(Clone, Debug, PartialEq, Eq)]
+pub struct Renaming {
+    pub image: Vec<u8>,
+    pub buffer: Buffer,
+    pub request: Request,
+    pub now: u64,
+}
+
+/// A plan buffer before the call.
+#[derive(Clone, Copy, Debug, PartialEq, Eq)]
+pub struct Buffer {
+    pub len: u16,
+    pub fill: u8,
+}
+
+impl Buffer {
+    /// No two neighbours are alike, so that bytes that stay, go or move are seen.
+    pub fn bytes(self) -> Vec<u8> {
+        (0..self.len).map(|at| self.fill ^ at as u8).collect()
+    }
 }
 
 /// A number that tells images, or names, apart: no byte and no length goes unseen.
@@ -82,10 +106,29 @@ impl Writer {
         let edits = edits(home, image).expect("a walk's image is near its tree's");
         self.data.push(WALK);
         self.edits(&edits);
+        self.caller(request);
+        self.paths(request);
+    }
+
+    pub fn rename(&mut self, home: &[u8], renaming: &Renaming) {
+        let Renaming { image, buffer, request, now } = renaming;
+        assert!(usize::from(buffer.len) <= LONGEST_PLAN, "a plan of {} bytes", buffer.len);
+        self.image(RENAME, home, image);
+        self.data.extend(buffer.len.to_le_bytes());
+        self.data.push(buffer.fill);
+        self.caller(request);
+        self.data.extend(now.to_le_bytes());
+        self.paths(request);
+    }
+
+    fn caller(&mut self, request: &Request) {
         self.data.extend(request.who.user.to_le_bytes());
         self.data.extend(request.who.group.to_le_bytes());
         self.data.extend(request.current.to_le_bytes());
         self.data.extend([request.old.start, request.new.start]);
+    }
+
+    fn paths(&mut self, request: &Request) {
         for path in [&request.old.path, &request.new.path] {
             assert!(path.len() <= LONGEST_PATH, "a path of {} bytes", path.len());
             self.data.extend((path.len() as u16).to_le_bytes());
@@ -211,6 +254,31 @@ mod tests {
         let cases: Vec<Case> = walkings.into_iter().map(Case::Walk).collect();
         assert_eq!(read(&writer.data).expect("the format is kept"), cases);
         assert_eq!(read(&writer.data[..writer.data.len() - 1]), None);
+    }
+
+    #[test]
+    fn renames_are_read_as_they_were_written() {
+        let home: Vec<u8> = (0..100).collect();
+        let who = Credentials { user: 1, group: u32::MAX };
+        let request = Request { who, current: 513, old: Operand::new(0, b""), new: Operand::new(255, b"/b\0") };
+        let renaming = |image: &[u8], len: u16, fill: u8| {
+            let image = image.to_vec();
+            Renaming { image, buffer: Buffer { len, fill }, request: request.clone(), now: u64::MAX - 1 }
+        };
+        let mut writer = Writer::default();
+        let renamings = [renaming(&home, 0, 0), renaming(&home[..50], 648, 255), renaming(&[], 1024, 7)];
+        for renaming in &renamings {
+            writer.rename(&home, renaming);
+        }
+        let cases: Vec<Case> = renamings.into_iter().map(Case::Rename).collect();
+        assert_eq!(read(&writer.data).expect("the format is kept"), cases);
+        assert_eq!(read(&writer.data[..writer.data.len() - 1]), None);
+    }
+
+    #[test]
+    fn a_buffer_shows_its_places() {
+        assert_eq!(Buffer { len: 3, fill: 255 }.bytes(), [255, 254, 253]);
+        assert_eq!(Buffer { len: 258, fill: 6 }.bytes()[256..], [6, 7]);
     }
 
     #[test]

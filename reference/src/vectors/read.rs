@@ -1,6 +1,6 @@
 //! Reads a file of test vectors back, strictly.
 
-use super::{Case, Landing, Walking, BASE, CHECK, LAND, WALK};
+use super::{Buffer, Case, Landing, Renaming, Walking, BASE, CHECK, LAND, RENAME, WALK};
 use super::{LONGEST_BASE, LONGEST_CASE, LONGEST_PATH, LONGEST_PLAN, MOST_EDITS};
 use crate::permission::Credentials;
 use crate::request::{Operand, Request};
@@ -19,6 +19,7 @@ pub fn read(data: &[u8]) -> Option<Vec<Case>> {
             CHECK => cases.push(Case::Check(reader.image(&base)?)),
             WALK => cases.push(Case::Walk(reader.walking(&base)?)),
             LAND => cases.push(Case::Land(reader.landing(&base)?)),
+            RENAME => cases.push(Case::Rename(reader.renaming(&base)?)),
             _ => return None,
         }
     }
@@ -76,14 +77,33 @@ impl<'a> Reader<'a> {
     fn walking(&mut self, base: &[u8]) -> Option<Walking> {
         let mut image = base.to_vec();
         self.edit(&mut image)?;
+        let request = self.caller()?;
+        let request = self.paths(request)?;
+        Some(Walking { image, request })
+    }
+
+    fn renaming(&mut self, base: &[u8]) -> Option<Renaming> {
+        let image = self.image(base)?;
+        let buffer = Buffer { len: self.u16()?, fill: self.u8()? };
+        let request = self.caller()?;
+        let now = self.u64()?;
+        let request = self.paths(request)?;
+        (usize::from(buffer.len) <= LONGEST_PLAN).then_some(Renaming { image, buffer, request, now })
+    }
+
+    /// A request whose paths are still to be read.
+    fn caller(&mut self) -> Option<Request> {
         let who = Credentials { user: self.u32()?, group: self.u32()? };
         let current = self.u16()?;
-        let starts = [self.u8()?, self.u8()?];
+        let (old, new) = (Operand::new(self.u8()?, b""), Operand::new(self.u8()?, b""));
+        Some(Request { who, current, old, new })
+    }
+
+    fn paths(&mut self, mut request: Request) -> Option<Request> {
         let lens = [usize::from(self.u16()?), usize::from(self.u16()?)];
-        let old = Operand::new(starts[0], self.take(lens[0])?);
-        let new = Operand::new(starts[1], self.take(lens[1])?);
-        let short = lens.iter().all(|&len| len <= LONGEST_PATH);
-        short.then_some(Walking { image, request: Request { who, current, old, new } })
+        request.old.path = self.take(lens[0])?.to_vec();
+        request.new.path = self.take(lens[1])?.to_vec();
+        lens.iter().all(|&len| len <= LONGEST_PATH).then_some(request)
     }
 
     fn landing(&mut self, base: &[u8]) -> Option<Landing> {

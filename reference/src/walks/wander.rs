@@ -103,7 +103,8 @@ fn lead(tree: &Tree, at: u16, inode: u16) -> u16 {
     })
 }
 
-fn operand(tree: &Tree, current: u16, most: usize, random: &mut Random) -> Operand {
+/// A path from the current directory or from any handle, which mostly leads somewhere.
+pub fn operand(tree: &Tree, current: u16, most: usize, random: &mut Random) -> Operand {
     let start = match random.below(4) {
         0 => random.below(tree.handles.len() + 1) as u8,
         _ => CURRENT,
