@@ -43,7 +43,7 @@ pub fn journal_clear(s: &[u8], h: Shape) -> bool
 }
 
 // The number of an image with a good layout.
-fn records_number(s: &[u8], h: Shape) -> u8
+pub fn records_number(s: &[u8], h: Shape) -> u8
     requires { ⌜ Laid h (now s) ⌝ }
     ensures { λ r. ⌜ r ≡ recordsNumber h (now (s .entry)) ⌝ }
 {

@@ -13,21 +13,21 @@ use Rattle.refusals.specs.Kinds.{TypesFit}
 use Rattle.refusals.specs.Steps.{Rule, decide, steps}
 
 -- no rule's test holds
-abbrev Passes : List Rule → Type 0
+abbrev pub Passes : List Rule → Type 0
 Passes [] = Unit
 Passes (r ∷ rs) = (r .test ≡ false) × Passes rs
 
-abbrev isPlanned : Answer → Bool
+abbrev pub isPlanned : Answer → Bool
 isPlanned (Refused n) = false
 isPlanned Same = false
 isPlanned Planned = true
 
 -- no rule of the list plans
-abbrev deciding : List Rule → Bool
+abbrev pub deciding : List Rule → Bool
 deciding [] = true
 deciding (r ∷ rs) = not (isPlanned (r .answer)) && deciding rs
 
-passes : (rs : List Rule) → deciding rs ≡ true → decide rs ≡ Planned → Passes rs
+pub passes : (rs : List Rule) → deciding rs ≡ true → decide rs ≡ Planned → Passes rs
 passes [] each e = tt
 passes (r ∷ rs) each e = go (passes rs (and-right (not (isPlanned (r .answer))) _ each)) (r .test) e
   where

@@ -4,5 +4,6 @@ pub mod Entries
 pub mod Rows
 pub mod Order
 pub mod Job
+pub mod Outs
 
 pub mod Bench

@@ -1,0 +1,77 @@
+-- The ways out of the job rename: refused before any walk, by a walk, or answered by the steps. Assumes nothing.
+use mathlib.Core.Path.{_≡_, refl, sym, ap, _∙_, subst}
+use mathlib.Core.Logic.{_≢_}
+use mathlib.Core.Bool.{Bool, true, false, not, cond}
+use mathlib.Core.List.{List, [], _∷_, _++_}
+use Prim.Native.Nat.{ℕ, _≤_, _<_}
+use native.Mathlib.Omega.{arith}
+use native.Mathlib.Decide.{ℕ-discrete}
+use lib.Dec.{eqb, ltb}
+use lib.ListN.{length}
+use borrow.Author.Tests.{eq-eqb, ne-eqb, lt-ltb, le-ltb}
+use Rattle.layout.specs.declared.Shape.{Shape}
+use Rattle.layout.specs.Contents.{layoutGood, shapeOf, Read}
+use Rattle.layout.specs.View.{View, viewOf}
+use Rattle.consistency.specs.Others.{journalClear}
+use Rattle.consistency.specs.Consistent.{bodiesGood, recordsNumber}
+use Rattle.paths.specs.declared.request.Request.{Request}
+use Rattle.paths.specs.Request.{requestGood}
+use Rattle.component.specs.Step.{End}
+use Rattle.walk.specs.Walk.{halt}
+use Rattle.walk.specs.Both.{Ends, walksOf, newWalk, newAfter}
+use Rattle.plan.specs.Form.{planBytes}
+use Rattle.refusals.specs.declared.case.Answer.{Answer}
+use Rattle.refusals.specs.declared.case.Answer.the-variants.{Refused, Same, Planned}
+use Rattle.refusals.specs.Steps.{Rule, numberOf, decide, steps}
+use Rattle.refusals.specs.Decide.{decide-refused, decide-passed}
+use Rattle.rename.specs.declared.Renamed.{Renamed}
+use Rattle.rename.specs.Order.{view, walks, caseOf, early, late, order}
+use Rattle.rename.specs.Job.{rowsOf, planOf, renamed, planAfter}
+
+-- What the job answers, and the plan buffer after it.
+pub record Answers (s plan : List ℕ) (q : Request) (old new : List ℕ) (r : Renamed) (after : List ℕ) : Type 0 where
+  pub is : r ≡ renamed s plan q old new
+  pub buffer : after ≡ planAfter s plan q old new
+
+-- a refusal before any walk
+abbrev pub refusedBy : ℕ → Renamed
+refusedBy n = record { number = n; rows = 0; old = 0; new = 0 }
+
+-- where new's walk is not refused, old's is not
+pub walked-old : (v : View) (q : Request) (old new : List ℕ) → walksOf v q old new .new .number ≡ 0 → walksOf v q old new .old .number ≡ 0
+unfolding walksOf
+walked-old v q old new e = go (ℕ-discrete (walksOf v q old new .old .number) 0)
+  where
+    n : ℕ
+    n = walksOf v q old new .old .number
+
+    go : Dec (walksOf v q old new .old .number ≡ 0) → walksOf v q old new .old .number ≡ 0
+    go (yes z) = z
+    go (no some) = sym (ap (λ (b : Bool). cond b (newWalk v q new) (halt (walksOf v q old new .old .number)) .number) (ne-eqb _ 0 some)) ∙ e
+
+module _ (s plan : List ℕ) (q : Request) (old new : List ℕ) where
+  early-refused : (n : ℕ) → n ≢ 0 → decide (early s plan q old new) ≡ Refused n → Answers s plan q old new (refusedBy n) plan
+  unfolding renamed planAfter order
+  early-refused n some e =
+      let d : decide (early s plan q old new ++ late s plan q old new) ≡ Refused n =
+      decide-refused (late s plan q old new) (early s plan q old new) (λ z. some (sym (ap numberOf e) ∙ z)) ∙ ap (λ a. Refused (numberOf a)) e in
+      record { is = rw (d, e); buffer = rw d }
+
+  -- the plan is too short
+  pub answers-short : length plan < planBytes → Answers s plan q old new (refusedBy 205) plan
+  answers-short l = early-refused 205 (λ z. omega arith) (rw (lt-ltb _ _ l))
+
+  module _ (long : planBytes ≤ length plan) where
+    pub answers-layout : layoutGood s ≡ false → Answers s plan q old new (refusedBy 201) plan
+    answers-layout bad = early-refused 201 (λ z. omega arith) (rw (le-ltb _ _ long, bad))
+
+    module _ (h : Shape) (read : Read s h) where
+      -- the journal record, and then the bodies
+      pub answers-records : (n : ℕ) → n ≡ recordsNumber h s → n ≢ 0 → Answers s plan q old new (refusedBy n) plan
+      unfolding recordsNumber
+      answers-records n is some = go (journalClear h s) (bodiesGood h s) refl refl
+        where
+          go : (a b : Bool) → journalClear h s ≡ a → bodiesGood h s ≡ b → Answers s plan q old new (refusedBy n) plan
+          go true true c d = absurd (some (is ∙ rw (c, d)))
+          go true false c d = early-refused n some (rw (le-ltb _ _ long, read .good, ← read .shape, c, d, is))
+          go false b c d = early-refused n some (rw (le-ltb _ _ long, read .good, ← read .shape, c, is))
