@@ -1,85 +1,94 @@
 -- `refusals::parents::number` meets its contract. Assumes nothing.
-use mathlib.Core.Path.{sym, _∙_}
+use mathlib.Core.Path.{_≡_, sym, _∙_}
+use mathlib.Core.List.{List}
+use lib.ListN.{drop}
 use borrow.Author.Needs.{needs}
+use Rattle.layout.specs.View.{View, viewOf}
+use Rattle.refusals.specs.Steps.{Rule, decide, parentRules}
 use Rattle.refusals.proofs.parents.number.Statement.{statement}
 use Rattle.refusals.proofs.parents.number.Tie as tie
+
+abbrev view : tie.Start → View
+view start = viewOf (start .args .h) (start .args .s .now)
+
+abbrev rules : tie.Start → List Rule
+rules start = parentRules (view start) (start .args .c)
+
+-- behind each test that failed, the rules behind it decide
+abbrev start-1 : tie.Else1 → tie.Start
+start-1 c = c .before .before .before
+
+past-1 : (c : tie.Else1) → decide (rules (start-1 c)) ≡ decide (drop 1 (rules (start-1 c)))
+past-1 c = rw (sym (c .before .read-only .ensures) ∙ c .if1 .left)
+
+abbrev start-2 : tie.Else2 → tie.Start
+start-2 c = start-1 (c .before .before)
+
+past-2 : (c : tie.Else2) → decide (rules (start-2 c)) ≡ decide (drop 2 (rules (start-2 c)))
+past-2 c = past-1 (c .before .before) ∙ rw (sym (c .before .other-system .ensures) ∙ c .if2 .left)
+
+abbrev start-3 : tie.Else3 → tie.Start
+start-3 c = start-2 (c .before .before)
+
+past-3 : (c : tie.Else3) → decide (rules (start-3 c)) ≡ decide (drop 3 (rules (start-3 c)))
+past-3 c = past-2 (c .before .before) ∙ rw (sym (c .before .mounted .ensures) ∙ c .if3 .left)
+
+abbrev start-4 : tie.Else4 → tie.Start
+start-4 c = start-3 (c .before .before)
+
+past-4 : (c : tie.Else4) → decide (rules (start-4 c)) ≡ decide (drop 4 (rules (start-4 c)))
+past-4 c = past-3 (c .before .before) ∙ rw (sym (c .before .denied .ensures) ∙ c .if4 .left)
+
+abbrev start-5 : tie.Else5 → tie.Start
+start-5 c = start-4 (c .before .before)
+
+past-5 : (c : tie.Else5) → decide (rules (start-5 c)) ≡ decide (drop 5 (rules (start-5 c)))
+past-5 c = past-4 (c .before .before) ∙ rw (sym (c .before .sticky-denied .ensures) ∙ c .if5 .left)
+
+abbrev start-6 : tie.Else6 → tie.Start
+start-6 c = start-5 (c .before .before)
+
+past-6 : (c : tie.Else6) → decide (rules (start-6 c)) ≡ decide (drop 6 (rules (start-6 c)))
+past-6 c = past-5 (c .before .before) ∙ rw (sym (c .before .inside-itself .ensures) ∙ c .if6 .left)
 
 read-only-requires : tie.Need-read-only-requires
 read-only-requires c κs = search needs
 
 returns : tie.Need-returns
-returns c = simp (sym (c .before .read-only .ensures) ∙ c .if1 .taken)
+returns c = rw (sym (c .before .read-only .ensures) ∙ c .if1 .taken)
 
 other-system-requires : tie.Need-other-system-requires
 other-system-requires c κs = search needs
 
 returns-2 : tie.Need-returns-2
-returns-2 c =
-    simp (
-      sym (c .before .before .before .read-only .ensures) ∙ c .before .before .if1 .left,
-      sym (c .before .other-system .ensures) ∙ c .if2 .taken,
-    )
+returns-2 c = rw (past-1 (c .before .before), sym (c .before .other-system .ensures) ∙ c .if2 .taken)
 
 mounted-requires : tie.Need-mounted-requires
 mounted-requires c κs = search needs
 
 returns-3 : tie.Need-returns-3
-returns-3 c =
-    simp (
-      sym (c .before .before .before .before .before .read-only .ensures) ∙ c .before .before .before .before .if1 .left,
-      sym (c .before .before .before .other-system .ensures) ∙ c .before .before .if2 .left,
-      sym (c .before .mounted .ensures) ∙ c .if3 .taken,
-    )
+returns-3 c = rw (past-2 (c .before .before), sym (c .before .mounted .ensures) ∙ c .if3 .taken)
 
 denied-requires : tie.Need-denied-requires
 denied-requires c κs = search needs
 
 returns-4 : tie.Need-returns-4
-returns-4 c =
-    simp (
-      sym (c .before .before .before .before .before .before .before .read-only .ensures) ∙ c .before .before .before .before .before .before .if1 .left,
-      sym (c .before .before .before .before .before .other-system .ensures) ∙ c .before .before .before .before .if2 .left,
-      sym (c .before .before .before .mounted .ensures) ∙ c .before .before .if3 .left,
-      sym (c .before .denied .ensures) ∙ c .if4 .taken,
-    )
+returns-4 c = rw (past-3 (c .before .before), sym (c .before .denied .ensures) ∙ c .if4 .taken)
 
 sticky-denied-requires : tie.Need-sticky-denied-requires
 sticky-denied-requires c κs = search needs
 
 returns-5 : tie.Need-returns-5
-returns-5 c =
-    simp (
-      sym (c .before .before .before .before .before .before .before .before .before .read-only .ensures) ∙ c .before .before .before .before .before .before .before .before .if1 .left,
-      sym (c .before .before .before .before .before .before .before .other-system .ensures) ∙ c .before .before .before .before .before .before .if2 .left,
-      sym (c .before .before .before .before .before .mounted .ensures) ∙ c .before .before .before .before .if3 .left,
-      sym (c .before .before .before .denied .ensures) ∙ c .before .before .if4 .left,
-      sym (c .before .sticky-denied .ensures) ∙ c .if5 .taken,
-    )
+returns-5 c = rw (past-4 (c .before .before), sym (c .before .sticky-denied .ensures) ∙ c .if5 .taken)
 
 inside-itself-requires : tie.Need-inside-itself-requires
 inside-itself-requires c κs = search needs
 
 returns-6 : tie.Need-returns-6
-returns-6 c =
-    simp (
-      sym (c .before .before .before .before .before .before .before .before .before .before .before .read-only .ensures) ∙ c .before .before .before .before .before .before .before .before .before .before .if1 .left,
-      sym (c .before .before .before .before .before .before .before .before .before .other-system .ensures) ∙ c .before .before .before .before .before .before .before .before .if2 .left,
-      sym (c .before .before .before .before .before .before .before .mounted .ensures) ∙ c .before .before .before .before .before .before .if3 .left,
-      sym (c .before .before .before .before .before .denied .ensures) ∙ c .before .before .before .before .if4 .left,
-      sym (c .before .before .before .sticky-denied .ensures) ∙ c .before .before .if5 .left,
-      sym (c .before .inside-itself .ensures) ∙ c .if6 .taken,
-    )
+returns-6 c = rw (past-5 (c .before .before), sym (c .before .inside-itself .ensures) ∙ c .if6 .taken)
 
 returns-7 : tie.Need-returns-7
-returns-7 c =
-    simp (
-      sym (c .before .before .before .before .before .before .before .before .before .before .before .read-only .ensures) ∙ c .before .before .before .before .before .before .before .before .before .before .if1 .left,
-      sym (c .before .before .before .before .before .before .before .before .before .other-system .ensures) ∙ c .before .before .before .before .before .before .before .before .if2 .left,
-      sym (c .before .before .before .before .before .before .before .mounted .ensures) ∙ c .before .before .before .before .before .before .if3 .left,
-      sym (c .before .before .before .before .before .denied .ensures) ∙ c .before .before .before .before .if4 .left,
-      sym (c .before .before .before .sticky-denied .ensures) ∙ c .before .before .if5 .left,
-      sym (c .before .inside-itself .ensures) ∙ c .if6 .left,
-    )
+returns-7 c = rw (past-6 c)
 
 pub number-spec : {M : Type 1} → statement M
 number-spec =
