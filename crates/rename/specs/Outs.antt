@@ -73,5 +73,61 @@ module _ (s plan : List ℕ) (q : Request) (old new : List ℕ) where
         where
           go : (a b : Bool) → journalClear h s ≡ a → bodiesGood h s ≡ b → Answers s plan q old new (refusedBy n) plan
           go true true c d = absurd (some (is ∙ rw (c, d)))
-          go true false c d = early-refused n some (rw (le-ltb _ _ long, read .good, ← read .shape, c, d, is))
-          go false b c d = early-refused n some (rw (le-ltb _ _ long, read .good, ← read .shape, c, is))
+          go true false c d = let e : n ≡ 201 = is ∙ rw (c, d) in early-refused n some (rw (le-ltb _ _ long, read .good, ← read .shape, c, d, e))
+          go false b c d = let e : n ≡ 203 = is ∙ rw c in early-refused n some (rw (le-ltb _ _ long, read .good, ← read .shape, c, e))
+
+      module _ (fine : recordsNumber h s ≡ 0) where
+        records-fine : (journalClear h s ≡ true) × (bodiesGood h s ≡ true)
+        unfolding recordsNumber
+        records-fine = go (journalClear h s) (bodiesGood h s) refl refl
+          where
+            go : (a b : Bool) → journalClear h s ≡ a → bodiesGood h s ≡ b → (journalClear h s ≡ true) × (bodiesGood h s ≡ true)
+            go true true c d = (c, d)
+            go true false c d = let e : _≡_ {A = ℕ} 201 0 = sym (rw (c, d)) ∙ fine in absurd (omega arith)
+            go false b c d = let e : _≡_ {A = ℕ} 203 0 = sym (rw c) ∙ fine in absurd (omega arith)
+
+        -- the request
+        pub answers-request : requestGood (viewOf h s) q old new ≡ false → Answers s plan q old new (refusedBy 202) plan
+        answers-request bad =
+            early-refused 202 (λ z. omega arith)
+            (rw (le-ltb _ _ long, read .good, ← read .shape, records-fine .0, records-fine .1, bad))
+
+        -- the walks begin
+        module _ (good : requestGood (viewOf h s) q old new ≡ true) where
+          begins : decide (early s plan q old new) ≡ Planned
+          begins = rw (le-ltb _ _ long, read .good, ← read .shape, records-fine .0, records-fine .1, good)
+
+          abbrev ends : Ends
+          ends = walksOf (viewOf h s) q old new
+
+          same-ends : ends ≡ walks s plan q old new
+          same-ends = ap (λ (x : Shape). walksOf (viewOf x s) q old new) (read .shape)
+
+          refused-same : ends .old .number ≢ 0 → ends .old .number ≡ ends .new .number
+          unfolding walksOf
+          refused-same n = sym (ap (λ (b : Bool). cond b (newWalk (viewOf h s) q new) (halt (ends .old .number)) .number) (ne-eqb (ends .old .number) 0 n))
+
+          -- the answer that the late part gives
+          abbrev pub answerWith : Answer → Renamed
+          answerWith a = record { number = numberOf a; rows = rowsOf s plan q old new a; old = ends .old .steps; new = ends .new .steps }
+
+          late-answered : (a : Answer) → decide (late s plan q old new) ≡ a → Answers s plan q old new (answerWith a) (planOf s plan q old new a)
+          unfolding renamed planAfter order
+          late-answered a e =
+              let d : decide (early s plan q old new ++ late s plan q old new) ≡ a = decide-passed (late s plan q old new) (early s plan q old new) refl (ap numberOf begins) ∙ e in
+              record { is = rw (d, begins, ← same-ends); buffer = rw d }
+
+          -- a walk is refused
+          pub answers-walk : ends .new .number ≢ 0
+              → Answers s plan q old new (record { number = ends .new .number; rows = 0; old = ends .old .steps; new = ends .new .steps }) plan
+          answers-walk some = late-answered (Refused (ends .new .number)) (go (ℕ-discrete (ends .old .number) 0))
+            where
+              go : Dec (ends .old .number ≡ 0) → decide (late s plan q old new) ≡ Refused (ends .new .number)
+              go (yes z) = rw (← same-ends, eq-eqb (ends .old .number) 0 z, ne-eqb (ends .new .number) 0 some)
+              go (no n) = rw (← same-ends, ne-eqb (ends .old .number) 0 n, refused-same n)
+
+          -- both are whole: the steps answer
+          pub answers-steps : ends .new .number ≡ 0 → (a : Answer) → a ≡ decide (steps (viewOf h s) (caseOf (viewOf h s) q ends))
+              → Answers s plan q old new (answerWith a) (planOf s plan q old new a)
+          answers-steps none a e =
+              late-answered a (rw (← same-ends, eq-eqb (ends .old .number) 0 (walked-old (viewOf h s) q old new none), eq-eqb (ends .new .number) 0 none, ← read .shape) (sym e))
