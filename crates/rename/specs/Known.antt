@@ -1,0 +1,116 @@
+-- What is known of the case where both walks are whole: its numbers name inodes in use, and a planned move lies in the image. Assumes nothing.
+use mathlib.Core.Path.{_≡_, refl, sym, _∙_}
+use mathlib.Core.Logic.{_≢_}
+use mathlib.Core.Bool.{Bool, true, false, _&&_, not, cond}
+use mathlib.Core.List.{List}
+use Prim.Native.Nat.{ℕ, _+_, _-_, _≤_, _<_, zero-le}
+use native.Mathlib.Omega.{arith}
+use lib.Dec.{eqb, leb}
+use lib.ListN.{length}
+use borrow.Author.Tests.{eq-eqb, leb-false}
+use Rattle.seq.specs.Truth.{and-left, not-both}
+use Rattle.layout.specs.declared.Shape.{Shape}
+use Rattle.layout.specs.View.{View, viewOf, isKind, isUsed, isSymlink, isUsed-below, isKind-below, Readable}
+use Rattle.encode.specs.Journal.{absent}
+use Rattle.paths.specs.declared.request.Request.{Request}
+use Rattle.component.specs.declared.state.Final.the-variants.{MustExist, MayBeMissing}
+use Rattle.component.specs.Step.{Finding, existing, missing, nothing}
+use Rattle.walk.specs.Ends.{Existing, Missing, Known, Numbered, Facts}
+use Rattle.walk.specs.Both.{Ends}
+use Rattle.refusals.specs.declared.case.Case.{Case}
+use Rattle.refusals.specs.Case.{CaseIn, exists, noSlot}
+use Rattle.results.specs.Results.{InImage, entriesAfter}
+use Rattle.rename.specs.Plan.{moveWith, freedText, moveOf}
+use Rattle.rename.specs.Order.{freeSlot, directoryOf, slotOf, inodeOf, slashOf, nameOf, caseOf}
+
+-- old's walk has found an entry
+pub old-found : (v : View) (f : Finding) (n : ℕ) → Known v MustExist f → Numbered n f → n ≡ 0 → Existing v (directoryOf f) (slotOf v f) (inodeOf f) (slashOf f)
+old-found v (existing d j i slash) n known numbered z = known
+old-found v (missing d name slash) n known numbered z = absurd known
+old-found v nothing n known numbered z = absurd (numbered z)
+
+-- new's has found an entry, or a name that is missing
+pub data NewFound (v : View) (f : Finding) : Type 0 where
+  entry : Existing v (directoryOf f) (slotOf v f) (inodeOf f) (slashOf f) → length (nameOf f) ≡ 0 → NewFound v f
+  name : inodeOf f ≡ absent → slotOf v f ≡ freeSlot v → Missing v (directoryOf f) (nameOf f) → NewFound v f
+
+pub new-found : (v : View) (f : Finding) (n : ℕ) → Known v MayBeMissing f → Numbered n f → n ≡ 0 → NewFound v f
+new-found v (existing d j i slash) n known numbered z = entry known refl
+new-found v (missing d name₁ slash) n known numbered z = name refl refl known
+new-found v nothing n known numbered z = absurd (numbered z)
+
+-- a test that fails behind one that holds
+behind-false : (a b : Bool) → (a && b) ≡ false → a ≡ true → b ≡ false
+behind-false true b e h = e
+behind-false false b e h = absurd (not-both false h refl)
+
+-- a text that is freed belongs to a symlink
+pub freed-link : (v : View) (c : Case) (time : ℕ) → freedText v c time ≢ absent → (isSymlink v (c .replaced) ≡ true) × (freedText v c time ≡ v .field (c .replaced))
+freed-link v c time some = go (isSymlink v (c .replaced)) (eqb (entriesAfter v (moveWith c time absent) (c .replaced)) 0) refl refl
+  where
+    go : (a b : Bool) → isSymlink v (c .replaced) ≡ a → eqb (entriesAfter v (moveWith c time absent) (c .replaced)) 0 ≡ b
+        → (isSymlink v (c .replaced) ≡ true) × (freedText v c time ≡ v .field (c .replaced))
+    go true true e f = (e, rw (e, f))
+    go true false e f = absurd (some (rw (e, f)))
+    go false b e f = absurd (some (rw e))
+
+module _ (h : Shape) (s : List ℕ) (r : Readable h s) (q : Request) (e : Ends) (old : Facts (viewOf h s) MustExist (e .old))
+    (new : Facts (viewOf h s) MayBeMissing (e .new)) (walked : e .old .number ≡ 0) (also : e .new .number ≡ 0) where
+  abbrev v : View
+  v = viewOf h s
+
+  abbrev c : Case
+  c = caseOf v q e
+
+  first : Existing v (c .from) (c .old) (c .moved) (slashOf (e .old .found))
+  first = old-found v (e .old .found) (e .old .number) (old .known) (old .numbered) walked
+
+  second : NewFound v (e .new .found)
+  second = new-found v (e .new .found) (e .new .number) (new .known) (new .numbered) also
+
+  target-used : (d j i : ℕ) (slash : Bool) → Existing v d j i slash → isUsed v i ≡ true
+  unfolding viewOf
+  target-used d j i slash x = rw (← x .target) (r .targets j (x .below) (x .used))
+
+  into-directory : NewFound v (e .new .found) → isKind v (c .into) 2 ≡ true
+  into-directory (entry x _) = x .directory
+  into-directory (name _ _ x) = x .directory
+
+  replaced-used : NewFound v (e .new .found) → c .replaced ≢ absent → isUsed v (c .replaced) ≡ true
+  replaced-used (entry x _) some = target-used _ _ _ _ x
+  replaced-used (name none _ _) some = absurd (some none)
+
+  pub case-in : CaseIn v c
+  case-in = record {
+    moved = target-used _ _ _ _ first;
+    from = first .directory;
+    into = into-directory second;
+    replaced = replaced-used second;
+  }
+
+  -- a name that was missing fits an entry
+  name-fits : NewFound v (e .new .found) → length (nameOf (e .new .found)) ≤ h .width - 8
+  unfolding viewOf
+  name-fits (entry _ none) = omega arith
+  name-fits (name _ _ x) = x .short
+
+  pub called-fits : 8 + length (nameOf (e .new .found)) ≤ h .width
+  called-fits = let l = name-fits second in omega (arith, r .laid .width-least)
+
+  -- the new slot, and so the whole move, lies in the image
+  new-below : noSlot v c ≡ false → NewFound v (e .new .found) → c .new < h .entries
+  unfolding viewOf
+  new-below slot (entry x _) = x .below
+  new-below slot (name none _ _) = leb-false _ _ (behind-false (not (exists c)) _ slot (rw (eq-eqb (c .replaced) absent none)))
+
+  pub move-in : (time : ℕ) → noSlot v c ≡ false → InImage h (moveOf v c time)
+  unfolding moveOf viewOf
+  move-in time slot = record {
+    old = first .below;
+    new = new-below slot second;
+    moved = isUsed-below h s _ (case-in .moved);
+    from = isKind-below h s _ 2 (case-in .from);
+    into = isKind-below h s _ 2 (case-in .into);
+    replaced = λ some. isUsed-below h s _ (case-in .replaced some);
+    text = λ some. let (link, is) = freed-link v c time some in rw is (r .symlinks (c .replaced) link);
+  }
