@@ -6,5 +6,5 @@ pub mod Order
 pub mod Job
 pub mod Outs
 pub mod Known
-
+pub mod Walked
 pub mod Bench

@@ -33,6 +33,10 @@ pub record Answers (s plan : List ℕ) (q : Request) (old new : List ℕ) (r : R
   pub is : r ≡ renamed s plan q old new
   pub buffer : after ≡ planAfter s plan q old new
 
+pub answers-as : {s plan : List ℕ} {q : Request} {old new : List ℕ} {r t : Renamed} {after : List ℕ} → Answers s plan q old new r after → t ≡ r
+    → Answers s plan q old new t after
+answers-as a e = record { is = e ∙ a .is; buffer = a .buffer }
+
 -- a refusal before any walk
 abbrev pub refusedBy : ℕ → Renamed
 refusedBy n = record { number = n; rows = 0; old = 0; new = 0 }

@@ -1,5 +1,5 @@
 -- All rows of a rename, put into a cleared plan one after another. Assumes nothing.
-use mathlib.Core.Path.{_≡_, ap, _∙_}
+use mathlib.Core.Path.{_≡_, ap, _∙_, subst}
 use mathlib.Core.List.{List}
 use Prim.Native.Nat.{ℕ, _+_, _<_}
 use native.Mathlib.Omega.{arith}
@@ -28,3 +28,10 @@ module _ (h : Shape) (s : List ℕ) (m : Move) (called : List ℕ) where
       → (d ≡ planned h s m called p) × (n ≡ length (renameRows h s m called))
   unfolding planned
   planned-filled p e f = (f .plan ∙ ap (λ (x : List ℕ). rowsPut x 0 (rowsFrom h (renameRows h s m called))) e, omega (arith, f .next))
+
+-- the same rows, said of an equal move and an equal name
+pub planned-as : (h : Shape) (s p after : List ℕ) (n : ℕ) {m o : Move} {x y : List ℕ} → m ≡ o → x ≡ y
+    → (after ≡ planned h s m x p) × (n ≡ length (renameRows h s m x)) → (after ≡ planned h s o y p) × (n ≡ length (renameRows h s o y))
+planned-as h s p after n {o = o} {x = x} e f both =
+    subst (λ (z : List ℕ). (after ≡ planned h s o z p) × (n ≡ length (renameRows h s o z))) f
+    (subst (λ (k : Move). (after ≡ planned h s k x p) × (n ≡ length (renameRows h s k x))) e both)

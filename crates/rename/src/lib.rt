@@ -1,7 +1,33 @@
 // The job rename: judged in the order of refusal, and planned row by row.
+use component::state::Found;
+use layout::Shape;
+use layout::contents::Contents;
+use paths::request::Request;
+use refusals::case::Answer;
+use refusals::case::Case;
+use walk::resolve::Walked;
+ghost use mathlib.Core.Path.{_≡_};
+ghost use mathlib.Core.Bool.{true};
+ghost use Prim.Native.Nat.{_+_, _≤_};
+ghost use lib.ListN.{length};
+ghost use Rattle.layout.specs.Contents.{Laid, Read};
+ghost use Rattle.layout.specs.View.{viewOf};
+ghost use Rattle.consistency.specs.Consistent.{recordsNumber};
+ghost use Rattle.paths.specs.Request.{requestGood};
+ghost use Rattle.component.specs.State.{Ranged};
+ghost use Rattle.walk.specs.Answer.{endOf};
+ghost use Rattle.plan.specs.Form.{planBytes};
+ghost use Rattle.results.specs.Results.{InImage};
+ghost use Rattle.rename.specs.Plan.{moveOf, renameRows, planned};
+ghost use Rattle.rename.specs.Order.{nameOf};
+ghost use Rattle.rename.specs.Outs.{refusedBy, Answers};
+
 pub mod found;
 pub mod moves;
 pub mod rows;
+
+// The bytes of a plan.
+const PLAN_BYTES: usize = 648;
 
 // How the job is answered: its number, how many rows the plan has, and the component checks that the walks of old and new began.
 pub struct Renamed {
@@ -9,4 +35,99 @@ pub struct Renamed {
     pub rows: usize,
     pub old: usize,
     pub new: usize,
+}
+
+// A refusal before any walk.
+fn refused(number: u8) -> Renamed
+    ensures { λ r. ⌜ r ≡ refusedBy number ⌝ }
+{
+    Renamed {
+        number,
+        rows: 0,
+        old: 0,
+        new: 0,
+    }
+}
+
+// Plans the case: under the name that new's walk found missing, if it did. Answers how many rows there are.
+fn write(plan: &mut [u8], s: &[u8], h: Shape, c: Case, time: u64, new: Walked) -> usize
+    requires { ⌜ (planBytes ≤ length (now plan)) × Laid h (now s) × Ranged (new .path) (new .found) × InImage h (moveOf (viewOf h (now s)) c time) × (8 + length (nameOf (endOf new .found)) ≤ h .width) ⌝ }
+    ensures { λ r. ⌜ (now (plan .exit) ≡ planned h (now (s .entry)) (moveOf (viewOf h (now (s .entry))) c time) (nameOf (endOf new .found)) (now (plan .entry))) × (r ≡ length (renameRows h (now (s .entry)) (moveOf (viewOf h (now (s .entry))) c time) (nameOf (endOf new .found)))) ⌝ }
+{
+    let m = moves::move_of(s, h, c, time);
+    let found = new.found;
+    match found {
+        Found::Missing {
+            directory: _,
+            from,
+            to,
+            slash: _,
+        } => {
+            let path = new.path;
+            rows::put(plan, s, h, m, &path[from..to])
+        }
+        Found::Existing {
+            directory: _,
+            slot: _,
+            inode: _,
+            slash: _,
+        } => rows::put(plan, s, h, m, b""),
+        Found::Nothing => rows::put(plan, s, h, m, b""),
+    }
+}
+
+// Both walks of a good request, and what the steps make of them.
+fn walked(s: &[u8], h: Shape, q: Request, old: &[u8], new: &[u8], plan: &mut [u8]) -> Renamed
+    requires { ⌜ (planBytes ≤ length (now plan)) × Read (now s) h × (recordsNumber h (now s) ≡ 0) × (requestGood (viewOf h (now s)) q (now old) (now new) ≡ true) ⌝ }
+    ensures { λ r. ⌜ Answers (now (s .entry)) (now (plan .entry)) q (now (old .entry)) (now (new .entry)) r (now (plan .exit)) ⌝ }
+{
+    let w = walk::both::both(s, h, q, old, new);
+    let first = w.old;
+    let second = w.new;
+    let mut r = Renamed {
+        number: second.number,
+        rows: 0,
+        old: first.steps,
+        new: second.steps,
+    };
+    if r.number != 0 {
+        return r;
+    }
+    let c = found::case_of(s, h, q, first, second);
+    let answer = refusals::steps::judge(s, h, c);
+    match answer {
+        Answer::Refused(number) => r.number = number,
+        Answer::Same => plan::clear(plan),
+        Answer::Planned => r.rows = write(plan, s, h, c, q.now, second),
+    }
+    r
+}
+
+// A request on an image of a good layout.
+fn asked(s: &[u8], h: Shape, q: Request, old: &[u8], new: &[u8], plan: &mut [u8]) -> Renamed
+    requires { ⌜ (planBytes ≤ length (now plan)) × Read (now s) h ⌝ }
+    ensures { λ r. ⌜ Answers (now (s .entry)) (now (plan .entry)) q (now (old .entry)) (now (new .entry)) r (now (plan .exit)) ⌝ }
+{
+    let number = consistency::records_number(s, h);
+    if number != 0 {
+        return refused(number);
+    }
+    if !paths::request::good(s, h, q, old, new) {
+        return refused(202);
+    }
+    walked(s, h, q, old, new, plan)
+}
+
+// The job rename. The image is only read; the plan is written where the answer is 0, and else as it was.
+pub fn rename(s: &[u8], q: Request, old: &[u8], new: &[u8], plan: &mut [u8]) -> Renamed
+    ensures { λ r. ⌜ Answers (now (s .entry)) (now (plan .entry)) q (now (old .entry)) (now (new .entry)) r (now (plan .exit)) ⌝ }
+{
+    if plan.len() < PLAN_BYTES {
+        return refused(205);
+    }
+    let found = layout::contents::read(s);
+    match found {
+        Contents::Bad => refused(201),
+        Contents::Good(h) => asked(s, h, q, old, new, plan),
+    }
 }

@@ -14,7 +14,9 @@ ghost use Rattle.results.specs.Results.{InImage, clearRow};
 ghost use Rattle.rename.specs.Plan.{journalFor, newEntry, journalRow, entryRow, planned, renameRows};
 
 const JOURNAL_GROUP: u8 = 1;
+
 const ENTRY_GROUP: u8 = 2;
+
 const CLEAR_GROUP: u8 = 4;
 
 // The journal record of the move; a rename is of kind 0.

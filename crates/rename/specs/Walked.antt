@@ -1,0 +1,118 @@
+-- From the code's walks to the job's answer: refused by a walk, or answered by what the steps make of the case. Assumes nothing.
+use mathlib.Core.Path.{_≡_, refl, sym, ap, _∙_, subst}
+use mathlib.Core.Logic.{_≢_}
+use mathlib.Core.Bool.{true, false}
+use mathlib.Core.List.{List}
+use Prim.Native.Nat.{ℕ, _+_, _≤_}
+use lib.ListN.{length}
+use Rattle.layout.specs.declared.Shape.{Shape}
+use Rattle.layout.specs.Contents.{shapeOf, Read}
+use Rattle.layout.specs.View.{View, viewOf, Readable}
+use Rattle.consistency.specs.Consistent.{recordsNumber, check-read}
+use Rattle.consistency.specs.Facts.{checked-readable}
+use Rattle.paths.specs.declared.request.Request.{Request}
+use Rattle.paths.specs.Request.{requestGood}
+use Rattle.component.specs.declared.state.Final.the-variants.{MustExist, MayBeMissing}
+use Rattle.component.specs.Step.{End}
+use Rattle.walk.specs.declared.both.Walks.{Walks}
+use Rattle.walk.specs.Ends.{Facts}
+use Rattle.walk.specs.Answer.{endOf}
+use Rattle.walk.specs.Both.{Ends, walksOf, BothAnswered}
+use Rattle.plan.specs.Form.{planBytes, cleared}
+use Rattle.plan.specs.Write.{Write}
+use Rattle.refusals.specs.declared.case.Case.{Case}
+use Rattle.refusals.specs.declared.case.Answer.{Answer}
+use Rattle.refusals.specs.declared.case.Answer.the-variants.{Refused, Same, Planned}
+use Rattle.refusals.specs.Case.{CaseIn, noSlot}
+use Rattle.refusals.specs.Steps.{decide, steps}
+use Rattle.refusals.specs.Passed.{planned-passed}
+use Rattle.results.specs.Results.{InImage}
+use Rattle.rename.specs.declared.Renamed.{Renamed}
+use Rattle.rename.specs.Plan.{moveOf, renameRows, planned}
+use Rattle.rename.specs.Order.{nameOf, caseOf}
+use Rattle.rename.specs.Outs.{Answers, answers-as, walked-old, answers-walk, answers-steps}
+use Rattle.rename.specs.Known.{case-in, called-fits, move-in}
+
+abbrev pub endsOf : Walks → Ends
+endsOf w = record { old = endOf (w .old); new = endOf (w .new) }
+
+module _ (s plan : List ℕ) (q : Request) (old new : List ℕ) (long : planBytes ≤ length plan) (h : Shape) (read : Read s h) (fine : recordsNumber h s ≡ 0)
+    (good : requestGood (viewOf h s) q old new ≡ true) where
+  abbrev v : View
+  v = viewOf h s
+
+  pub image-readable : Readable h s
+  image-readable = checked-readable s h read (check-read s h read ∙ fine)
+
+  module _ (w : Walks) (both : BothAnswered v w (walksOf v q old new)) where
+    same-ends : endsOf w ≡ walksOf v q old new
+    same-ends = λ t. record { old = both .old .is t; new = both .new .is t }
+
+    -- the job's answer with the counts of these walks
+    abbrev answer : ℕ → ℕ → Renamed
+    answer number rows = record { number = number; rows = rows; old = w .old .steps; new = w .new .steps }
+
+    pub refused-walk : w .new .number ≢ 0 → Answers s plan q old new (answer (w .new .number) 0) plan
+    refused-walk some =
+        let e = ap (λ (x : Ends). x .new .number) same-ends in
+        answers-as (answers-walk s plan q old new long h read fine good (λ z. some (e ∙ z)))
+        (λ t. record { number = same-ends t .new .number; rows = 0; old = same-ends t .old .steps; new = same-ends t .new .steps })
+
+    module _ (none : w .new .number ≡ 0) (c : Case) (is : c ≡ caseOf v q (endsOf w)) where
+      new-whole : walksOf v q old new .new .number ≡ 0
+      new-whole = sym (ap (λ (x : Ends). x .new .number) same-ends) ∙ none
+
+      old-whole : w .old .number ≡ 0
+      old-whole = ap (λ (x : Ends). x .old .number) same-ends ∙ walked-old v q old new new-whole
+
+      pub walked-case : CaseIn v c
+      walked-case = subst (CaseIn v) (sym is) (case-in h s image-readable q (endsOf w) (both .old .facts) (both .new .facts) old-whole none)
+
+      -- what the steps make of it
+      module _ (a : Answer) (judged : a ≡ decide (steps v c)) where
+        decided : a ≡ decide (steps v (caseOf v q (walksOf v q old new)))
+        decided = judged ∙ ap (λ (x : Case). decide (steps v x)) (is ∙ ap (λ (x : Ends). caseOf v q x) same-ends)
+
+        pub steps-refuse : (n : ℕ) → a ≡ Refused n → Answers s plan q old new (answer n 0) plan
+        steps-refuse n e =
+            answers-as (answers-steps s plan q old new long h read fine good new-whole (Refused n) (sym e ∙ decided))
+            (λ t. record { number = n; rows = 0; old = same-ends t .old .steps; new = same-ends t .new .steps })
+
+        pub steps-same : a ≡ Same → (after : List ℕ) → after ≡ cleared plan → Answers s plan q old new (answer (w .new .number) 0) after
+        steps-same e after f =
+            subst (λ (x : List ℕ). Answers s plan q old new (answer (w .new .number) 0) x) (sym f)
+            (answers-as (answers-steps s plan q old new long h read fine good new-whole Same (sym e ∙ decided))
+            (λ t. record { number = none t; rows = 0; old = same-ends t .old .steps; new = same-ends t .new .steps }))
+
+        module _ (e : a ≡ Planned) where
+          pub planned-move : InImage h (moveOf v c (q .now))
+          planned-move =
+              let slot = planned-passed v c (sym judged ∙ e) .slot in
+              subst (λ (x : Case). InImage h (moveOf v x (q .now))) (sym is)
+              (move-in h s image-readable q (endsOf w) (both .old .facts) (both .new .facts) old-whole none (q .now)
+              (subst (λ (x : Case). noSlot v x ≡ false) is slot))
+
+          pub planned-name : 8 + length (nameOf (endOf (w .new) .found)) ≤ h .width
+          planned-name = called-fits h s image-readable q (endsOf w) (both .old .facts) (both .new .facts) old-whole none
+
+          -- the rows, of the ends that the walks have
+          abbrev rowsIn : Shape → Ends → List Write
+          rowsIn x y = renameRows x s (moveOf (viewOf x s) (caseOf (viewOf x s) q y) (q .now)) (nameOf (y .new .found))
+
+          abbrev planIn : Shape → Ends → List ℕ
+          planIn x y = planned x s (moveOf (viewOf x s) (caseOf (viewOf x s) q y) (q .now)) (nameOf (y .new .found)) plan
+
+          pub steps-plan : (after : List ℕ) (n : ℕ)
+              → (after ≡ planned h s (moveOf v c (q .now)) (nameOf (endOf (w .new) .found)) plan)
+              × (n ≡ length (renameRows h s (moveOf v c (q .now)) (nameOf (endOf (w .new) .found))))
+              → Answers s plan q old new (answer (w .new .number) n) after
+          steps-plan after n (filled, counted) =
+              let f : after ≡ planIn (shapeOf s) (walksOf (viewOf (shapeOf s) s) q old new) =
+              filled ∙ ap (λ (x : Case). planned h s (moveOf v x (q .now)) (nameOf (endOf (w .new) .found)) plan) is ∙ ap (λ (y : Ends). planIn h y) same-ends
+              ∙ ap (λ (x : Shape). planIn x (walksOf (viewOf x s) q old new)) (read .shape) in
+              let k : n ≡ length (rowsIn (shapeOf s) (walksOf (viewOf (shapeOf s) s) q old new)) =
+              counted ∙ ap (λ (x : Case). length (renameRows h s (moveOf v x (q .now)) (nameOf (endOf (w .new) .found)))) is ∙ ap (λ (y : Ends). length (rowsIn h y)) same-ends
+              ∙ ap (λ (x : Shape). length (rowsIn x (walksOf (viewOf x s) q old new))) (read .shape) in
+              subst (λ (x : List ℕ). Answers s plan q old new (answer (w .new .number) n) x) (sym f)
+              (answers-as (answers-steps s plan q old new long h read fine good new-whole Planned (sym e ∙ decided))
+              (λ t. record { number = none t; rows = k t; old = same-ends t .old .steps; new = same-ends t .new .steps }))
