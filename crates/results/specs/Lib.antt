@@ -1,5 +1,6 @@
 pub mod Results
 pub mod Links
 pub mod Records
+pub mod Again
 pub mod Rows
 pub mod Bench
