@@ -18,7 +18,7 @@ use Rattle.encode.specs.Journal.{absent}
 use Rattle.plan.specs.Write.{Write, inodeKey}
 use Rattle.edits.specs.Written.{same-entry}
 use Rattle.results.specs.declared.Move.{Move}
-use Rattle.results.specs.Results.{InImage, present, entriesAfter, linksAfter, movedBytes, holderBytes, replacedBytes, movedAfter, holderAfter, replacedAfter, resultRow, when, oldRow, intoRows, replacedRows, textRows, results}
+use Rattle.results.specs.Results.{InImage, present, entriesAfter, linksAfter, movedBytes, holderBytes, replacedBytes, movedAfter, holderAfter, replacedAfter, resultRow, when, oldRow, results}
 use Rattle.results.specs.Records.{replaced-freed}
 use Rattle.results.specs.Again.{holder-kind, holder-again, moved-again, replaced-kind, replaced-again, afresh}
 use Rattle.afresh.specs.Recount.{Agrees, entries-agree, links-agree}
