@@ -1,3 +1,5 @@
 pub mod Outcome
 pub mod Called
 pub mod Rows
+pub mod Finished
+pub mod Applied

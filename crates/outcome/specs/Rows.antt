@@ -44,10 +44,10 @@ few-when true w = omega arith
 few-when false w = omega arith
 
 -- the rows that there are only if the move asks for them
-abbrev asked : Shape → List ℕ → Move → List Write
+abbrev pub asked : Shape → List ℕ → Move → List Write
 asked h s m = intoRows h s m ++ (replacedRows h s m ++ textRows h s m)
 
-results-are : (h : Shape) (s : List ℕ) (m : Move) → results h s m ≡ oldRow h s m ∷ movedRow h s m ∷ holderRow h s m (m .from) ∷ asked h s m
+pub results-are : (h : Shape) (s : List ℕ) (m : Move) → results h s m ≡ oldRow h s m ∷ movedRow h s m ∷ holderRow h s m (m .from) ∷ asked h s m
 unfolding results
 results-are h s m = ap (λ (ws : List Write). oldRow h s m ∷ movedRow h s m ∷ holderRow h s m (m .from) ∷ ws) (append-assoc (intoRows h s m) (replacedRows h s m) (textRows h s m))
 
