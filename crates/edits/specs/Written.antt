@@ -62,7 +62,7 @@ head-byte r x e k l =
     sym (rw z at (part-byte r 0 12 k l)) ∙ ap (λ y. getD y k 0) e ∙ (rw z at (part-byte x 0 12 k l))
 
 -- an entry that keeps its bytes
-same-entry : (h : Shape) (s t : List ℕ) (j : ℕ) → entryAt h t j ≡ entryAt h s j → SameEntry (viewOf h s) (viewOf h t) j
+pub same-entry : (h : Shape) (s t : List ℕ) (j : ℕ) → entryAt h t j ≡ entryAt h s j → SameEntry (viewOf h s) (viewOf h t) j
 unfolding viewOf
 same-entry h s t j e = record { parent = ap entryParent e; target = ap entryTarget e; nameLength = ap entryNameLength e; name = ap entryName e }
 

@@ -103,7 +103,7 @@ module _ {h : Shape} {s : List ℕ} {m : Move} {called : List ℕ} (c : Called h
   pub text-is : m .text ≢ absent → IsSymlink v (m .replaced) × (entriesAfter v m (m .replaced) ≡ 0) × (m .text ≡ v .field (m .replaced))
   text-is n =
       let (b, e) = picked (isSymlink v (m .replaced) && eqb (entriesAfter v m (m .replaced)) 0) (v .field (m .replaced)) (λ z. n (c .text ∙ z)) in
-      (kind-is v (m .replaced) 3 (search (and-left, and-right)), eqb-true _ _ (search (and-left, and-right)), c .text ∙ e)
+      (kind-is v (m .replaced) 3 (search and-left), eqb-true _ _ (search (and-left, and-right)), c .text ∙ e)
 
   -- ---- the records that the rows write
 
