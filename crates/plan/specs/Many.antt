@@ -2,7 +2,7 @@
 use mathlib.Core.Path.{_≡_, refl, sym, ap, _∙_, subst}
 use mathlib.Core.Logic.{⊎-elim}
 use mathlib.Core.Bool.{true, false}
-use mathlib.Core.List.{List, [], _∷_}
+use mathlib.Core.List.{List, [], _∷_, _++_}
 use Prim.Native.Nat.{ℕ, zero, suc, _+_, _≤_, _<_}
 use native.Mathlib.Nat.{add-zero, zero-add, not-suc-le-zero, eq-or-lt-of-le}
 use native.Mathlib.Omega.{arith}
@@ -29,6 +29,14 @@ pub rows-length : (rs : List Row) (plan : List ℕ) (i : ℕ) → length (rowsPu
 unfolding rowsPut
 rows-length [] plan i = refl
 rows-length (r ∷ rs) plan i = rows-length rs (rowPut plan i r) (i + 1) ∙ row-length plan i r
+
+-- rows put behind others
+pub rows-join : (rs qs : List Row) (plan : List ℕ) (i : ℕ) → rowsPut plan i (rs ++ qs) ≡ rowsPut (rowsPut plan i rs) (i + length rs) qs
+unfolding rowsPut
+rows-join [] qs plan i = ap (λ (n : ℕ). rowsPut plan n qs) (sym (add-zero i))
+rows-join (r ∷ rs) qs plan i =
+    let e : i + 1 + length rs ≡ i + suc (length rs) = omega arith in
+    rows-join rs qs (rowPut plan i r) (i + 1) ∙ ap (λ (n : ℕ). rowsPut (rowsPut (rowPut plan i r) (i + 1) rs) n qs) e
 
 fits : (r : Row) → Formed r → length (r .body) ≤ bodyBytes
 fits r f = omega (arith, f .whole, f .body-fits)

@@ -1,4 +1,5 @@
 pub mod Results
 pub mod Links
 pub mod Records
+pub mod Rows
 pub mod Bench

@@ -125,7 +125,11 @@ module _ (h : Shape) (s : List ℕ) (m : Move) where
   abbrev pub textRow : Write
   textRow = resultRow (textKey (m .text)) (freeRecord h 2)
 
-  -- results: those of the new parent if it is another directory, of the replaced inode if there is one, of the text if one is freed
+  -- results: always the old entry cleared, the moved inode and the old parent
+  abbrev pub alwaysRows : List Write
+  alwaysRows = oldRow ∷ movedRow ∷ holderRow (m .from) ∷ []
+
+  -- results: the new parent if it is another directory, the replaced inode if there is one, the text if one is freed
   abbrev pub intoRows : List Write
   intoRows = when (not (eqb (m .into) (m .from))) (holderRow (m .into))
 
@@ -135,9 +139,9 @@ module _ (h : Shape) (s : List ℕ) (m : Move) where
   abbrev pub textRows : List Write
   textRows = when (present (m .text)) textRow
 
-  -- results: the old entry cleared, the moved inode, the old parent, and these
+  -- results: the rows in the order of the plan
   unfoldable pub results : List Write
-  results = oldRow ∷ movedRow ∷ holderRow (m .from) ∷ intoRows ++ replacedRows ++ textRows
+  results = alwaysRows ++ intoRows ++ replacedRows ++ textRows
 
 -- results: the last row clears the journal record
 abbrev pub clearRow : Shape → Write

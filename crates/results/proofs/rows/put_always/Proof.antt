@@ -1,0 +1,44 @@
+-- `results::rows::put_always` meets its contract. Assumes nothing.
+use borrow.Author.Needs.{needs}
+use Rattle.results.specs.Rows.{always-filled}
+use Rattle.results.proofs.rows.put_always.Statement.{statement}
+use Rattle.results.proofs.rows.put_always.Tie as tie
+
+put-old-requires : tie.Need-put-old-requires
+put-old-requires c κs = search needs
+
+add-put-moved : tie.Need-add-put-moved
+add-put-moved c = search needs
+
+put-moved-requires : tie.Need-put-moved-requires
+put-moved-requires c κs = search needs
+
+add-put-holder : tie.Need-add-put-holder
+add-put-holder c = search needs
+
+put-holder-requires : tie.Need-put-holder-requires
+put-holder-requires c κs = search needs
+
+add-result : tie.Need-add-result
+add-result c = search needs
+
+same-length : tie.Need-same-length
+same-length c = search needs
+
+returns : tie.Need-returns
+returns c =
+    let args = c .before .before .before .before .before .before .before .before .before .before .before .before .before .before .args in
+    always-filled (args .h) (args .s .now) (args .m) (c .before .before .before .before .before .before .before .before .before .before .put-old .ensures) (c .before .before .before .before .before .before .put-moved .ensures) (c .before .before .put-holder .ensures)
+
+pub put-always-spec : {M : Type 1} → statement M
+put-always-spec =
+    tie.close
+    (tie.spec
+    put-old-requires
+    add-put-moved
+    put-moved-requires
+    add-put-holder
+    put-holder-requires
+    add-result
+    same-length
+    returns)

@@ -1,0 +1,27 @@
+-- `results::rows::put_into` meets its contract. Assumes nothing.
+use borrow.Author.Needs.{needs}
+use Rattle.results.specs.Rows.{into-one, into-none}
+use Rattle.results.proofs.rows.put_into.Statement.{statement}
+use Rattle.results.proofs.rows.put_into.Tie as tie
+
+returns : tie.Need-returns
+returns c =
+    let args = c .before .before .before .before .args in
+    into-none (args .h) (args .s .now) (args .m) (c .if1 .taken)
+
+put-holder-requires : tie.Need-put-holder-requires
+put-holder-requires c κs = search needs
+
+add-result : tie.Need-add-result
+add-result c = search needs
+
+same-length : tie.Need-same-length
+same-length c = search needs
+
+returns-2 : tie.Need-returns-2
+returns-2 c =
+    let args = c .before .before .before .before .before .before .before .before .args in
+    into-one (args .h) (args .s .now) (args .m) (c .before .before .before .before .if1 .left) (c .before .before .put-holder .ensures)
+
+pub put-into-spec : {M : Type 1} → statement M
+put-into-spec = tie.close (tie.spec returns put-holder-requires add-result same-length returns-2)

@@ -1,0 +1,108 @@
+// The rows of a rename behind the deciding one, put into a plan.
+use crate::Move;
+use layout::Shape;
+ghost use mathlib.Core.Path.{_≡_};
+ghost use Prim.Native.Nat.{_+_, _<_, _≤_};
+ghost use lib.ListN.{length};
+ghost use Rattle.layout.specs.Contents.{Laid};
+ghost use Rattle.plan.specs.Form.{planRows, planBytes, rowPut};
+ghost use Rattle.plan.specs.Write.{rowFrom, Filled};
+ghost use Rattle.results.specs.Results.{InImage, oldRow, movedRow, holderRow, replacedRow, textRow, alwaysRows, intoRows, replacedRows, textRows, results};
+
+const GROUP: u8 = 3;
+
+// The number that names no replaced inode and no text.
+const ABSENT: usize = 65535;
+
+// The old entry, cleared.
+fn put_old(plan: &mut [u8], at: usize, s: &[u8], h: Shape, m: Move)
+    requires { ⌜ (planBytes ≤ length (now plan)) × (at < planRows) × Laid h (now s) × (m .old < h .entries) ⌝ }
+    ensures { λ _. ⌜ now (plan .exit) ≡ rowPut (now (plan .entry)) at (rowFrom h (oldRow h (now (s .entry)) m)) ⌝ }
+{
+    let width = h.width;
+    let zeros = [0u8; 64];
+    plan::put_row(
+        plan,
+        at,
+        GROUP,
+        layout::place::entry(h, m.old),
+        &zeros[..width],
+    );
+}
+
+fn put_moved(plan: &mut [u8], at: usize, s: &[u8], h: Shape, m: Move)
+    requires { ⌜ (planBytes ≤ length (now plan)) × (at < planRows) × Laid h (now s) × (m .moved < h .inodes) ⌝ }
+    ensures { λ _. ⌜ now (plan .exit) ≡ rowPut (now (plan .entry)) at (rowFrom h (movedRow h (now (s .entry)) m)) ⌝ }
+{
+    let r = crate::records::moved(s, h, m);
+    plan::put_row(plan, at, GROUP, layout::place::inode(h, m.moved), &r);
+}
+
+// The old or the new parent, inode i.
+fn put_holder(plan: &mut [u8], at: usize, s: &[u8], h: Shape, m: Move, i: usize)
+    requires { ⌜ (planBytes ≤ length (now plan)) × (at < planRows) × Laid h (now s) × (i < h .inodes) ⌝ }
+    ensures { λ _. ⌜ now (plan .exit) ≡ rowPut (now (plan .entry)) at (rowFrom h (holderRow h (now (s .entry)) m i)) ⌝ }
+{
+    let r = crate::records::holder(s, h, m, i);
+    plan::put_row(plan, at, GROUP, layout::place::inode(h, i), &r);
+}
+
+// The three rows that every rename has. Answers the next place, as the functions below do.
+fn put_always(plan: &mut [u8], at: usize, s: &[u8], h: Shape, m: Move) -> usize
+    requires { ⌜ (planBytes ≤ length (now plan)) × (at + 3 ≤ planRows) × Laid h (now s) × InImage h m ⌝ }
+    ensures { λ n. ⌜ Filled h (now (plan .entry)) at (alwaysRows h (now (s .entry)) m) (now (plan .exit)) n ⌝ }
+{
+    put_old(plan, at, s, h, m);
+    put_moved(plan, at + 1, s, h, m);
+    put_holder(plan, at + 2, s, h, m, m.from);
+    at + 3
+}
+
+// The new parent, where it is another directory than the old one.
+fn put_into(plan: &mut [u8], at: usize, s: &[u8], h: Shape, m: Move) -> usize
+    requires { ⌜ (planBytes ≤ length (now plan)) × (at < planRows) × Laid h (now s) × InImage h m ⌝ }
+    ensures { λ n. ⌜ Filled h (now (plan .entry)) at (intoRows h (now (s .entry)) m) (now (plan .exit)) n ⌝ }
+{
+    if m.into == m.from {
+        return at;
+    }
+    put_holder(plan, at, s, h, m, m.into);
+    at + 1
+}
+
+// The replaced inode, where there is one.
+fn put_replaced(plan: &mut [u8], at: usize, s: &[u8], h: Shape, m: Move) -> usize
+    requires { ⌜ (planBytes ≤ length (now plan)) × (at < planRows) × Laid h (now s) × InImage h m ⌝ }
+    ensures { λ n. ⌜ Filled h (now (plan .entry)) at (replacedRows h (now (s .entry)) m) (now (plan .exit)) n ⌝ }
+{
+    if m.replaced == ABSENT {
+        return at;
+    }
+    let r = crate::records::replaced(s, h, m);
+    plan::put_row(plan, at, GROUP, layout::place::inode(h, m.replaced), &r);
+    at + 1
+}
+
+// The text, where one is freed.
+fn put_text(plan: &mut [u8], at: usize, s: &[u8], h: Shape, m: Move) -> usize
+    requires { ⌜ (planBytes ≤ length (now plan)) × (at < planRows) × Laid h (now s) × InImage h m ⌝ }
+    ensures { λ n. ⌜ Filled h (now (plan .entry)) at (textRows h (now (s .entry)) m) (now (plan .exit)) n ⌝ }
+{
+    if m.text == ABSENT {
+        return at;
+    }
+    let zeros = [0u8; 64];
+    plan::put_row(plan, at, GROUP, layout::place::text(h, m.text), &zeros);
+    at + 1
+}
+
+// Puts the results of the move into the plan from place first on, and answers the place behind them.
+pub fn put(plan: &mut [u8], first: usize, s: &[u8], h: Shape, m: Move) -> usize
+    requires { ⌜ (planBytes ≤ length (now plan)) × (first + 6 ≤ planRows) × Laid h (now s) × InImage h m ⌝ }
+    ensures { λ n. ⌜ Filled h (now (plan .entry)) first (results h (now (s .entry)) m) (now (plan .exit)) n ⌝ }
+{
+    let a = put_always(plan, first, s, h, m);
+    let b = put_into(plan, a, s, h, m);
+    let c = put_replaced(plan, b, s, h, m);
+    put_text(plan, c, s, h, m)
+}
