@@ -29,13 +29,6 @@ same-key j k = go (ℕ-discrete (j .section) (k .section)) (ℕ-discrete (j .ind
     go (yes e) (no n) = no (λ h. n (ap (λ (x : Key). x .index) h))
     go (no n) q = no (λ h. n (ap (λ (x : Key). x .section) h))
 
--- keys differ by their section, or by their index
-pub other-section : (j k : Key) → j .section ≢ k .section → j ≢ k
-other-section j k n e = n (ap (λ (x : Key). x .section) e)
-
-pub other-index : (j k : Key) → j .index ≢ k .index → j ≢ k
-other-index j k n e = n (ap (λ (x : Key). x .index) e)
-
 -- the record exists
 unfoldable pub isValid : Shape → Key → Bool
 isValid h k = ltb (k .section) 5 && ltb (k .index) (records h (k .section))

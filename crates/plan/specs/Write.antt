@@ -1,5 +1,6 @@
 -- One write of an operation, said by its record, the plan's row for it (rule 74), and a plan filled with such rows. Assumes nothing.
 use mathlib.Core.Path.{_≡_, refl, sym, ap, ap₂, _∙_}
+use mathlib.Core.Logic.{_≢_}
 use mathlib.Core.List.{List, [], _∷_, _++_, map, map-append}
 use Prim.Native.Nat.{ℕ, _+_}
 use native.Mathlib.Omega.{arith}
@@ -28,6 +29,13 @@ textKey t = record { section = 2; index = t }
 
 abbrev pub journalKey : Key
 journalKey = record { section = 4; index = 0 }
+
+-- keys differ by their section, or by their index
+pub other-section : (j k : Key) → j .section ≢ k .section → j ≢ k
+other-section j k n e = n (ap (λ (x : Key). x .section) e)
+
+pub other-index : (j k : Key) → j .index ≢ k .index → j ≢ k
+other-index j k n e = n (ap (λ (x : Key). x .index) e)
 
 -- writes as rows of a plan, for an image of shape h
 module _ (h : Shape) where

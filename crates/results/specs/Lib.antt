@@ -1,5 +1,7 @@
 pub mod Results
+pub mod Edited
 pub mod Links
 pub mod Records
+pub mod Again
 pub mod Rows
 pub mod Bench
