@@ -18,10 +18,11 @@ use Rattle.crash.specs.Operation.{rowsIn}
 use Rattle.crash.specs.Safe.{planned-whole, planned-in-order}
 use Rattle.results.specs.declared.Move.{Move}
 use Rattle.results.specs.Results.{resultGroup, results, clearRow}
+use Rattle.results.specs.Rows.{results-le}
 use Rattle.rename.specs.Plan.{renameRows, planned}
 use Rattle.outcome.specs.Outcome.{renamePlan, finished, rename-rows, rename-planned}
 use Rattle.outcome.specs.Called.{Called}
-use Rattle.outcome.specs.Rows.{results-all, results-few, results-fit, well-formed}
+use Rattle.outcome.specs.Rows.{results-all, results-fit, well-formed}
 
 -- rows of one group stand in order, with others of no lower group behind them
 level-sorted : (h : Shape) (s : List ℕ) (g : ℕ) (us ws : List Write) → All (λ w. w .group ≡ g) us → All (λ w. g ≤ w .group) us → All (λ w. g ≤ w .group) ws
@@ -52,7 +53,7 @@ module _ (h : Shape) (s : List ℕ) (m : Move) (called : List ℕ) where
 
   -- and are at most nine
   pub rows-few : length (rowsIn h s (renamePlan h s m called)) ≤ planRows
-  rows-few = omega (arith, length-append (results h s m) (clearRow h ∷ []), results-few h s m)
+  rows-few = omega (arith, length-append (results h s m) (clearRow h ∷ []), results-le h s m)
 
 module _ {h : Shape} {s : List ℕ} {m : Move} {called : List ℕ} (c : Called h s m called) (plan : List ℕ) (long : planBytes ≤ length plan) where
   -- the plan has as many rows as the job says

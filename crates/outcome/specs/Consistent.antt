@@ -11,7 +11,7 @@ use borrow.Author.Tests.{eq-eqb, ne-eqb}
 use Rattle.seq.specs.Bytes.{part, zeros}
 use Rattle.seq.specs.Count.{bit, count-edited}
 use Rattle.layout.specs.declared.Shape.{Shape}
-use Rattle.layout.specs.Contents.{shapeOf}
+use Rattle.layout.specs.Contents.{Read}
 use Rattle.layout.specs.Fields.{inodeKind, inodeLinks, inodeField}
 use Rattle.layout.specs.View.{View, viewOf, inodeAt, entryAt, textAt, journalAt, isDirectory, isSymlink}
 use Rattle.tree.specs.Tree.{targets, entriesOf, childDirectories}
@@ -27,13 +27,22 @@ use Rattle.edits.specs.Finished.{slots-differ, from-directory}
 use Rattle.edits.specs.Written.{Touched, Written, same-entry, written-consistent}
 use Rattle.results.specs.declared.Move.{Move}
 use Rattle.results.specs.Results.{targetsAfter, entriesAfter, childrenAfter, linksAfter, freeRecord, movedAfter, holderAfter, replacedAfter}
+use Rattle.results.specs.Edited.{edited-old, edited-new, edited-else}
 use Rattle.results.specs.Links.{links-directory, links-other}
 use Rattle.results.specs.Records.{replaced-freed, moved-directory-says, moved-other-says, holder-says, replaced-says}
+use Rattle.afresh.specs.Recount.{Agrees, entries-agree, children-agree, Made, entries-made, children-made}
 use Rattle.outcome.specs.Outcome.{finished}
 use Rattle.outcome.specs.Called.{Called, before-good, replaced-is, is-replaced, replaced-present, replaced-below, text-is, in-image, entry-bytes, entry-names}
 use Rattle.outcome.specs.Rows.{inode-long, links-small}
 use Rattle.outcome.specs.Finished.{finished-ok, new-written, old-cleared, moved-written, from-written, into-written, replaced-written, text-cleared, entry-kept, inode-kept, text-kept, handle-kept, journal-kept}
-use Rattle.outcome.specs.Recount.{edited-old, edited-new, edited-other, Agrees, entries-agree, children-agree, Made, entries-made, children-made}
+
+-- an image is consistent by its parts
+consistent-of : {h : Shape} {x : List ℕ} → Read x h → journalClear h x ≡ true → Bodies h x → consistent x ≡ true
+consistent-of {h} {x} r clear bodies = is-consistent x (record {
+  layout = r .good;
+  journal = subst (λ (k : Shape). journalClear k x ≡ true) (r .shape) clear;
+  bodies = subst (λ (k : Shape). Bodies k x) (r .shape) bodies;
+})
 
 module _ {h : Shape} {s : List ℕ} {m : Move} {called : List ℕ} (c : Called h s m called) where
   abbrev t : List ℕ
@@ -166,7 +175,7 @@ module _ {h : Shape} {s : List ℕ} {m : Move} {called : List ℕ} (c : Called h
       omega (
         arith,
         count-edited (targets v i) (targetsAfter v m i) (v .entries) (m .old ∷ m .new ∷ []) (c .allowed .old-used .0, (differ, tt), (c .allowed .new-below, tt, tt))
-            (λ j _ off. edited-other m j _ _ (off .0) (off .1 .0)),
+            (λ j _ off. edited-else m j _ _ (off .0) (off .1 .0)),
         ap bit here,
         ap bit there,
         ap bit old,
@@ -258,16 +267,15 @@ module _ {h : Shape} {s : List ℕ} {m : Move} {called : List ℕ} (c : Called h
   pub finished-bodies : Bodies h t
   finished-bodies = written-consistent (c .read .laid) (c .bodies) (c .allowed) finished-written (c .nonempty) (c .short) (c .good)
 
-  pub finished-consistent : consistent t ≡ true
+  pub finished-clear : journalClear h t ≡ true
   unfolding journalClear
-  finished-consistent =
-      let r = finished-ok c .read in
-      let clear : journalClear h t ≡ true = rw (journal-kept c) (c .clear) in
-      is-consistent t (record {
-        layout = r .good;
-        journal = subst (λ (x : Shape). journalClear x t ≡ true) (r .shape) clear;
-        bodies = subst (λ (x : Shape). Bodies x t) (r .shape) finished-bodies;
-      })
+  finished-clear = rw (journal-kept c) (c .clear)
+
+  pub before-consistent : consistent s ≡ true
+  before-consistent = consistent-of (c .read) (c .clear) (c .bodies)
+
+  pub finished-consistent : consistent t ≡ true
+  finished-consistent = consistent-of (finished-ok c .read) finished-clear finished-bodies
 
   -- The job check answers 0.
   pub finished-checked : checkNumber t ≡ 0

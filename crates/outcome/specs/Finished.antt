@@ -13,11 +13,11 @@ use Rattle.layout.specs.Place.{Key, Valid}
 use Rattle.layout.specs.Record.{recordAt}
 use Rattle.layout.specs.View.{inodeAt, entryAt, textAt, handleAt, journalAt}
 use Rattle.encode.specs.Journal.{absent}
-use Rattle.plan.specs.Write.{Write, inodeKey, entryKey, textKey, journalKey}
+use Rattle.plan.specs.Write.{Write, inodeKey, entryKey, textKey, journalKey, other-section, other-index}
 use Rattle.journal.specs.Pick.{Has, any-left, any-right}
 use Rattle.journal.specs.Store.{Spares, all-ok, all-same, all-other}
 use Rattle.journal.specs.Plan.{afterOf, writes}
-use Rattle.crash.specs.Image.{Ok, other-section, other-index, recordOf, record-is, images}
+use Rattle.crash.specs.Image.{Ok, recordOf, record-is, images}
 use Rattle.crash.specs.Safe.{after-stored}
 use Rattle.results.specs.declared.Move.{Move}
 use Rattle.results.specs.Results.{present, when, freeRecord, movedAfter, holderAfter, replacedAfter, oldRow, movedRow, holderRow, replacedRow, textRow, intoRows, replacedRows, textRows, results}

@@ -3,5 +3,4 @@ pub mod Called
 pub mod Rows
 pub mod Finished
 pub mod Applied
-pub mod Recount
 pub mod Consistent

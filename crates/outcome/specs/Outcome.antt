@@ -3,9 +3,9 @@ use mathlib.Core.Path.{_≡_, refl}
 use mathlib.Core.List.{List, [], _∷_}
 use Prim.Native.Nat.{ℕ}
 use Rattle.layout.specs.declared.Shape.{Shape}
-use Rattle.plan.specs.Write.{Write}
-use Rattle.journal.specs.Plan.{by-row, Plan, writes}
-use Rattle.crash.specs.Image.{images, storeAll}
+use Rattle.plan.specs.Write.{storeAll}
+use Rattle.journal.specs.Plan.{by-row, Plan}
+use Rattle.crash.specs.Image.{images}
 use Rattle.crash.specs.Rows.{planOf}
 use Rattle.crash.specs.Operation.{rowsIn}
 use Rattle.results.specs.declared.Move.{Move}

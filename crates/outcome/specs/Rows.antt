@@ -18,17 +18,17 @@ use Rattle.encode.specs.Journal.{absent, journal-length}
 use Rattle.edits.specs.Finished.{slots-differ, moved-not-from, moved-not-into}
 use Rattle.plan.specs.Form.{planRows}
 use Rattle.plan.specs.Fit.{coverable}
-use Rattle.plan.specs.Write.{Write, inodeKey, entryKey, textKey, journalKey}
+use Rattle.plan.specs.Write.{Write, inodeKey, entryKey, textKey, journalKey, other-section, other-index}
 use Rattle.journal.specs.Pick.{All, all-join}
 use Rattle.journal.specs.Store.{Distinct, Spares}
 use Rattle.journal.specs.Plan.{WellFormed}
 use Rattle.journal.specs.Order.{Sorted}
-use Rattle.crash.specs.Image.{Fits, other-section, other-index, first-ok, images}
+use Rattle.crash.specs.Image.{Fits, first-ok, images}
 use Rattle.crash.specs.Operation.{rowsIn}
 use Rattle.results.specs.declared.Move.{Move}
 use Rattle.results.specs.Results.{present, when, linksAfter, entriesAfter, movedAfter, holderAfter, replacedAfter, oldRow, movedRow, holderRow, replacedRow, textRow, intoRows, replacedRows, textRows, results, clearRow}
 use Rattle.results.specs.Links.{links-le}
-use Rattle.results.specs.Records.{replaced-freed, moved-directory-says, moved-other-says, holder-says, replaced-says}
+use Rattle.results.specs.Again.{moved-length, holder-length, replaced-length}
 use Rattle.rename.specs.Plan.{newEntry, journalFor, journalRow, entryRow, renameRows}
 use Rattle.outcome.specs.Outcome.{renamePlan, rename-rows}
 use Rattle.outcome.specs.Called.{Called, before-good, in-image, replaced-not-moved, replaced-not-from, replaced-not-into, entry-names, journal-zeros}
@@ -38,10 +38,6 @@ use Rattle.outcome.specs.Called.{Called, before-good, in-image, replaced
 all-when : (P : Write → Type 0) (b : Bool) (w : Write) → (b ≡ true → P w) → All P (when b w)
 all-when P true w f = (f refl, tt)
 all-when P false w f = tt
-
-few-when : (b : Bool) (w : Write) → length (when b w) ≤ 1
-few-when true w = omega arith
-few-when false w = omega arith
 
 -- the rows that there are only if the move asks for them
 abbrev pub asked : Shape → List ℕ → Move → List Write
@@ -64,14 +60,6 @@ module _ (h : Shape) (s : List ℕ) (m : Move) (P : Write → Type 0) where
 
       pub results-all : P (oldRow h s m) → P (movedRow h s m) → P (holderRow h s m (m .from)) → All P (results h s m)
       results-all old moved from = rw results-are (old, (moved, (from, asked-all)))
-
--- at most six
-pub results-few : (h : Shape) (s : List ℕ) (m : Move) → length (results h s m) ≤ 6
-results-few h s m =
-    let a = few-when (not (eqb (m .into) (m .from))) (holderRow h s m (m .into)) in
-    let b = few-when (present (m .replaced)) (replacedRow h s m) in
-    let d = few-when (present (m .text)) (textRow h s m) in
-    rw results-are (omega (arith, length-append (intoRows h s m) (replacedRows h s m ++ textRows h s m), length-append (replacedRows h s m) (textRows h s m)))
 
 distinct-when : (h : Shape) (s : List ℕ) (b : Bool) (w : Write) (ws : List Write) → (b ≡ true → Spares (images h s) ws (w .key)) → Distinct (images h s) ws
     → Distinct (images h s) (when b w ++ ws)
@@ -123,26 +111,6 @@ module _ {h : Shape} {s : List ℕ} {m : Move} {called : List ℕ} (c : Called h
   unfolding viewOf
   links-small i = omega (arith, links-le (viewOf h s) m i, c .read .laid .entries-most)
 
-  moved-long : length (movedAfter h s m) ≡ 32
-  moved-long = go (ℕ-discrete (inodeKind (inodeAt h s (m .moved))) 2)
-    where
-      long : length (inodeAt h s (m .moved)) ≡ 32
-      long = inode-long (m .moved) (in-image c .moved)
-
-      go : Dec (inodeKind (inodeAt h s (m .moved)) ≡ 2) → length (movedAfter h s m) ≡ 32
-      go (yes e) = moved-directory-says _ long (m .now) (c .time) (m .into) (omega (arith, in-image c .into, c .read .laid .inodes-most)) e .head .long
-      go (no n) = moved-other-says _ long (m .now) (c .time) (m .into) n .head .long
-
-  holder-long : (i : ℕ) → i < h .inodes → length (holderAfter h s m i) ≡ 32
-  holder-long i l = holder-says _ (inode-long i l) (m .now) (c .time) _ (links-small i) .head .long
-
-  replaced-long : m .replaced ≢ absent → length (replacedAfter h s m) ≡ 32
-  replaced-long n = go (ℕ-discrete (entriesAfter (viewOf h s) m (m .replaced)) 0)
-    where
-      go : Dec (entriesAfter (viewOf h s) m (m .replaced) ≡ 0) → length (replacedAfter h s m) ≡ 32
-      go (yes e) = rw (replaced-freed h _ (linksAfter (viewOf h s) m (m .replaced)) (m .now) (inodeAt h s (m .replaced)) e) refl
-      go (no k) = replaced-says _ (inode-long (m .replaced) (in-image c .replaced n)) (m .now) (c .time) h _ _ k (links-small (m .replaced)) .head .long
-
   fits : (w : Write) → 1 ≤ w .group → w .group ≤ 4 → w .key .section < 5 → w .key .index < records h (w .key .section)
       → coverable (w .key .section) ≡ true → length (w .body) ≡ recordBytes h (w .key .section) → Fits h w
   fits w first last section index allowed whole = record {
@@ -151,12 +119,13 @@ module _ {h : Shape} {s : List ℕ} {m : Move} {called : List ℕ} (c : Called h
 
   pub results-fit : All (Fits h) (results h s m)
   results-fit = results-all h s m (Fits h)
-      (λ n. fits (replacedRow h s m) (lit≤ tt) (lit≤ tt) (lit< tt) (in-image c .replaced n) refl (replaced-long n))
+      (λ n. fits (replacedRow h s m) (lit≤ tt) (lit≤ tt) (lit< tt) (in-image c .replaced n) refl
+      (replaced-length h _ _ (m .now) _ (inode-long (m .replaced) (in-image c .replaced n))))
       (λ n. fits (textRow h s m) (lit≤ tt) (lit≤ tt) (lit< tt) (in-image c .text n) refl refl)
-      (λ _. fits (holderRow h s m (m .into)) (lit≤ tt) (lit≤ tt) (lit< tt) (in-image c .into) refl (holder-long (m .into) (in-image c .into)))
+      (λ _. fits (holderRow h s m (m .into)) (lit≤ tt) (lit≤ tt) (lit< tt) (in-image c .into) refl (holder-length _ (m .now) _ ∙ inode-long (m .into) (in-image c .into)))
       (fits (oldRow h s m) (lit≤ tt) (lit≤ tt) (lit< tt) (in-image c .old) refl (length-replicate (h .width) 0))
-      (fits (movedRow h s m) (lit≤ tt) (lit≤ tt) (lit< tt) (in-image c .moved) refl moved-long)
-      (fits (holderRow h s m (m .from)) (lit≤ tt) (lit≤ tt) (lit< tt) (in-image c .from) refl (holder-long (m .from) (in-image c .from)))
+      (fits (movedRow h s m) (lit≤ tt) (lit≤ tt) (lit< tt) (in-image c .moved) refl (moved-length (m .into) (m .now) _ ∙ inode-long (m .moved) (in-image c .moved)))
+      (fits (holderRow h s m (m .from)) (lit≤ tt) (lit≤ tt) (lit< tt) (in-image c .from) refl (holder-length _ (m .now) _ ∙ inode-long (m .from) (in-image c .from)))
 
   -- ---- no two replace one record
 
