@@ -1,5 +1,5 @@
 -- What a rename that is not refused knows when it plans its rows: the records that they write are in the image, and different ones. Assumes nothing.
-use mathlib.Core.Path.{_≡_, refl, sym, ap, _∙_}
+use mathlib.Core.Path.{_≡_, refl, sym, _∙_}
 use mathlib.Core.Logic.{_≢_}
 use mathlib.Core.Bool.{Bool, true, false, _&&_, cond}
 use mathlib.Core.List.{List}
@@ -23,7 +23,7 @@ use Rattle.encode.specs.Entry.{entryBytes, retargeted, Names}
 use Rattle.encode.specs.Journal.{absent}
 use Rattle.consistency.specs.Others.{journalClear}
 use Rattle.consistency.specs.Facts.{Bodies}
-use Rattle.edits.specs.Kinds.{IsDirectory, IsSymlink, EntryUsed}
+use Rattle.edits.specs.Kinds.{IsSymlink, EntryUsed}
 use Rattle.edits.specs.Tests.{kind-is}
 use Rattle.edits.specs.ConsistentView.{ConsistentView}
 use Rattle.edits.specs.Moved.{Allowed, Replaced}

@@ -1,32 +1,31 @@
 -- The finished image of a rename is consistent: check answers 0 on it. Assumes nothing.
 use mathlib.Core.Path.{_≡_, refl, sym, ap, _∙_, subst}
 use mathlib.Core.Logic.{_≢_, _⊎_, inl, inr, ⊎-elim}
-use mathlib.Core.Bool.{Bool, true, false, _&&_}
+use mathlib.Core.Bool.{true, false}
 use mathlib.Core.List.{List, [], _∷_}
-use Prim.Native.Nat.{ℕ, _+_, _≤_, _<_}
+use Prim.Native.Nat.{ℕ, _+_, _<_}
 use native.Mathlib.Decide.{ℕ-discrete}
 use native.Mathlib.Omega.{arith}
-use lib.ListN.{length, getD-replicate}
+use lib.ListN.{getD-replicate}
 use borrow.Author.Tests.{eq-eqb, ne-eqb}
-use Rattle.seq.specs.Bytes.{part, zeros}
+use Rattle.seq.specs.Bytes.{part}
 use Rattle.seq.specs.Count.{bit, count-edited}
 use Rattle.layout.specs.declared.Shape.{Shape}
 use Rattle.layout.specs.Contents.{Read}
-use Rattle.layout.specs.Fields.{inodeKind, inodeLinks, inodeField}
-use Rattle.layout.specs.View.{View, viewOf, inodeAt, entryAt, textAt, journalAt, isDirectory, isSymlink}
+use Rattle.layout.specs.View.{View, viewOf, inodeAt, textAt}
 use Rattle.tree.specs.Tree.{targets, entriesOf, childDirectories}
 use Rattle.encode.specs.Inode.{Says, says-itself}
 use Rattle.encode.specs.Journal.{absent}
 use Rattle.consistency.specs.Others.{journalClear}
 use Rattle.consistency.specs.Facts.{Bodies, is-consistent}
 use Rattle.consistency.specs.Consistent.{consistent, checkNumber, consistent-checked}
-use Rattle.edits.specs.Kinds.{IsDirectory, IsSymlink, EntryUsed, kind?}
+use Rattle.edits.specs.Kinds.{IsDirectory, IsSymlink, kind?}
 use Rattle.edits.specs.Tests.{is-kind, no-kind, is-targets, no-targets}
 use Rattle.edits.specs.Moved.{Replaced, Gone, replaced?}
 use Rattle.edits.specs.Finished.{slots-differ, from-directory}
 use Rattle.edits.specs.Written.{Touched, Written, same-entry, written-consistent}
 use Rattle.results.specs.declared.Move.{Move}
-use Rattle.results.specs.Results.{targetsAfter, entriesAfter, childrenAfter, linksAfter, freeRecord, movedAfter, holderAfter, replacedAfter}
+use Rattle.results.specs.Results.{targetsAfter, entriesAfter, childrenAfter, linksAfter, freeRecord, holderAfter}
 use Rattle.results.specs.Edited.{edited-old, edited-new, edited-else}
 use Rattle.results.specs.Links.{links-directory, links-other}
 use Rattle.results.specs.Records.{replaced-freed, moved-directory-says, moved-other-says, holder-says, replaced-says}

@@ -1,9 +1,9 @@
 -- The finished image of a rename, record by record: those that the rows write, and all others as before. Assumes nothing.
-use mathlib.Core.Path.{_≡_, refl, sym, ap, _∙_, subst}
+use mathlib.Core.Path.{_≡_, refl, sym, _∙_, subst}
 use mathlib.Core.Logic.{_≢_, inl, inr}
-use mathlib.Core.Bool.{Bool, true, false, not}
-use mathlib.Core.List.{List, [], _∷_, _++_}
-use Prim.Native.Nat.{ℕ, _≤_, _<_}
+use mathlib.Core.Bool.{not}
+use mathlib.Core.List.{List}
+use Prim.Native.Nat.{ℕ, _<_}
 use native.Mathlib.Decide.{ℕ-discrete}
 use native.Mathlib.Omega.{arith}
 use lib.Dec.{eqb, lit<}
@@ -20,7 +20,7 @@ use Rattle.journal.specs.Plan.{afterOf, writes}
 use Rattle.crash.specs.Image.{Ok, recordOf, record-is, images}
 use Rattle.crash.specs.Safe.{after-stored}
 use Rattle.results.specs.declared.Move.{Move}
-use Rattle.results.specs.Results.{present, when, freeRecord, movedAfter, holderAfter, replacedAfter, oldRow, movedRow, holderRow, replacedRow, textRow, intoRows, replacedRows, textRows, results}
+use Rattle.results.specs.Results.{when, freeRecord, movedAfter, holderAfter, replacedAfter, oldRow, movedRow, holderRow, replacedRow, textRow, intoRows, replacedRows, results}
 use Rattle.rename.specs.Plan.{newEntry, entryRow}
 use Rattle.outcome.specs.Outcome.{renamePlan, finished}
 use Rattle.outcome.specs.Called.{Called, in-image}

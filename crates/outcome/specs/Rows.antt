@@ -2,35 +2,30 @@
 use mathlib.Core.Path.{_≡_, refl, sym, ap, _∙_}
 use mathlib.Core.Logic.{_≢_}
 use mathlib.Core.Bool.{Bool, true, false, not}
-use mathlib.Core.List.{List, [], _∷_, _++_, append-assoc}
+use mathlib.Core.List.{List, _∷_, _++_, append-assoc}
 use Prim.Native.Nat.{ℕ, _+_, _≤_, _<_}
-use native.Mathlib.Decide.{ℕ-discrete}
 use native.Mathlib.Omega.{arith}
 use lib.Dec.{eqb, lit<, lit≤}
-use lib.ListN.{length, length-append, length-replicate}
+use lib.ListN.{length, length-replicate}
 use borrow.Author.Tests.{eqb-false, not-true}
 use Rattle.layout.specs.declared.Shape.{Shape}
 use Rattle.layout.specs.Place.{Key, recordBytes, records}
 use Rattle.layout.specs.Record.{record-length}
-use Rattle.layout.specs.View.{viewOf, inodeAt, entryUsed}
-use Rattle.layout.specs.Fields.{inodeKind}
+use Rattle.layout.specs.View.{viewOf, inodeAt}
 use Rattle.encode.specs.Journal.{absent, journal-length}
 use Rattle.edits.specs.Finished.{slots-differ, moved-not-from, moved-not-into}
-use Rattle.plan.specs.Form.{planRows}
 use Rattle.plan.specs.Fit.{coverable}
-use Rattle.plan.specs.Write.{Write, inodeKey, entryKey, textKey, journalKey, other-section, other-index}
+use Rattle.plan.specs.Write.{Write, inodeKey, entryKey, textKey, other-section, other-index}
 use Rattle.journal.specs.Pick.{All, all-join}
 use Rattle.journal.specs.Store.{Distinct, Spares}
 use Rattle.journal.specs.Plan.{WellFormed}
-use Rattle.journal.specs.Order.{Sorted}
 use Rattle.crash.specs.Image.{Fits, first-ok, images}
-use Rattle.crash.specs.Operation.{rowsIn}
 use Rattle.results.specs.declared.Move.{Move}
-use Rattle.results.specs.Results.{present, when, linksAfter, entriesAfter, movedAfter, holderAfter, replacedAfter, oldRow, movedRow, holderRow, replacedRow, textRow, intoRows, replacedRows, textRows, results, clearRow}
+use Rattle.results.specs.Results.{present, when, linksAfter, oldRow, movedRow, holderRow, replacedRow, textRow, intoRows, replacedRows, textRows, results, clearRow}
 use Rattle.results.specs.Links.{links-le}
 use Rattle.results.specs.Again.{moved-length, holder-length, replaced-length}
-use Rattle.rename.specs.Plan.{newEntry, journalFor, journalRow, entryRow, renameRows}
-use Rattle.outcome.specs.Outcome.{renamePlan, rename-rows}
+use Rattle.rename.specs.Plan.{journalFor, journalRow, entryRow}
+use Rattle.outcome.specs.Outcome.{renamePlan}
 use Rattle.outcome.specs.Called.{Called, before-good, in-image, replaced-not-moved, replaced-not-from, replaced-not-into, entry-names, journal-zeros}
 
 -- ---- what holds of each result
