@@ -1,1 +1,3 @@
 pub mod Recount
+pub mod Cleared
+pub mod Afresh

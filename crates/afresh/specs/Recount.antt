@@ -1,20 +1,20 @@
 -- Views that agree off the two slots of a move, and in the types of what is still named, have the same counts as edited; where the edit has been made these are the counts. Assumes nothing.
 use mathlib.Core.Path.{_≡_, refl, sym, ap, _∙_}
 use mathlib.Core.Logic.{_≢_, _⊎_, ⊎-elim}
-use mathlib.Core.Bool.{Bool, true, false, _&&_, not}
+use mathlib.Core.Bool.{Bool, true, false, _&&_}
 use Prim.Native.Nat.{ℕ, _<_}
 use native.Mathlib.Omega.{arith}
 use lib.Dec.{eqb}
 use borrow.Author.Tests.{eq-eqb, ne-eqb}
 use Rattle.seq.specs.Truth.{same-truth}
-use Rattle.seq.specs.Search.{count, count-same}
+use Rattle.seq.specs.Search.{count-same}
 use Rattle.seq.specs.Count.{count-zero}
 use Rattle.layout.specs.View.{View, isDirectory, entryUsed}
 use Rattle.tree.specs.Tree.{targets, holdsDirectory, entriesOf, childDirectories}
 use Rattle.edits.specs.Tests.{kind-is, is-kind}
 use Rattle.edits.specs.Edit.{SameEntry, SameSize}
 use Rattle.results.specs.declared.Move.{Move}
-use Rattle.results.specs.Results.{edited, targetsAfter, holdsAfter, entriesAfter, childrenAfter, linksAfter}
+use Rattle.results.specs.Results.{targetsAfter, holdsAfter, entriesAfter, childrenAfter, linksAfter}
 use Rattle.results.specs.Edited.{edited-new, edited-else, edited-is, edited-same}
 
 -- The view w is v off the two slots, and an inode has its type unless no entry is left that names it.

@@ -1,7 +1,7 @@
 // The plan's rows: written one at a time, and read field by field.
 ghost use mathlib.Core.Path.{_≡_};
 ghost use Prim.Native.Nat.{_+_, _*_, _<_, _≤_};
-ghost use lib.ListN.{length};
+ghost use lib.ListN.{length, replicate};
 ghost use Rattle.layout.specs.Record.{Reads};
 ghost use Rattle.plan.specs.Form.{planBytes, planRows, bodyBytes, rowOf, rowPut, rowGroup, rowBlank, rowLength, rowOffset, rowPosition, rowAt, cleared};
 
@@ -33,6 +33,15 @@ pub fn put_row(plan: &mut [u8], i: usize, group: u8, offset: usize, body: &[u8])
     ];
     layout::bytes::copy(plan, 8 * i, &header);
     layout::bytes::copy(plan, position, body);
+}
+
+// Puts a row in place i that clears a record of n bytes.
+pub fn put_clearing(plan: &mut [u8], i: usize, group: u8, offset: usize, n: usize)
+    requires { ⌜ (planBytes ≤ length (now plan)) × (i < planRows) × (n ≤ bodyBytes) ⌝ }
+    ensures { λ _. ⌜ now (plan .exit) ≡ rowPut (now (plan .entry)) i (rowOf group offset (replicate n 0)) ⌝ }
+{
+    let zeros = [0u8; 64];
+    put_row(plan, i, group, offset, &zeros[..n]);
 }
 
 // The ordering group of row i.

@@ -4,4 +4,5 @@ pub mod Links
 pub mod Records
 pub mod Again
 pub mod Rows
+pub mod Owed
 pub mod Bench

@@ -1,15 +1,13 @@
 -- The inodes that a rename leaves: the ways out of making one, and every field read back from it. Assumes nothing.
-use mathlib.Core.Path.{_≡_, refl}
+use mathlib.Core.Path.{_≡_}
 use mathlib.Core.Logic.{_≢_}
-use mathlib.Core.Bool.{true, false}
 use mathlib.Core.List.{List}
 use Prim.Native.Nat.{ℕ, _<_}
-use lib.Dec.{eqb}
 use lib.ListN.{length}
 use borrow.Author.Tests.{eq-eqb, ne-eqb}
 use Rattle.seq.specs.Number.{span}
 use Rattle.layout.specs.declared.Shape.{Shape}
-use Rattle.layout.specs.Fields.{inodeKind, inodeLinks, inodeField, inodeModified, inodeChanged}
+use Rattle.layout.specs.Fields.{inodeKind, inodeLinks, inodeField, inodeModified}
 use Rattle.encode.specs.Inode.{withLinks, withField, withChanged, Says, says-itself, says-links, says-field, says-modified, says-changed}
 use Rattle.results.specs.Results.{freeRecord, movedBytes, holderBytes, replacedBytes}
 

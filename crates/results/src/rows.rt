@@ -7,28 +7,12 @@ ghost use lib.ListN.{length};
 ghost use Rattle.layout.specs.Contents.{Laid};
 ghost use Rattle.plan.specs.Form.{planRows, planBytes, rowPut};
 ghost use Rattle.plan.specs.Write.{rowFrom, Filled};
-ghost use Rattle.results.specs.Results.{InImage, oldRow, movedRow, holderRow, replacedRow, textRow, alwaysRows, intoRows, replacedRows, textRows, results};
+ghost use Rattle.results.specs.Results.{InImage, movedRow, holderRow, alwaysRows, intoRows, replacedRows, results};
 
 const GROUP: u8 = 3;
 
 // The number that names no replaced inode and no text.
 const ABSENT: usize = 65535;
-
-// The old entry, cleared.
-fn put_old(plan: &mut [u8], at: usize, s: &[u8], h: Shape, m: Move)
-    requires { ⌜ (planBytes ≤ length (now plan)) × (at < planRows) × Laid h (now s) × (m .old < h .entries) ⌝ }
-    ensures { λ _. ⌜ now (plan .exit) ≡ rowPut (now (plan .entry)) at (rowFrom h (oldRow h (now (s .entry)) m)) ⌝ }
-{
-    let width = h.width;
-    let zeros = [0u8; 64];
-    plan::put_row(
-        plan,
-        at,
-        GROUP,
-        layout::place::entry(h, m.old),
-        &zeros[..width],
-    );
-}
 
 fn put_moved(plan: &mut [u8], at: usize, s: &[u8], h: Shape, m: Move)
     requires { ⌜ (planBytes ≤ length (now plan)) × (at < planRows) × Laid h (now s) × (m .moved < h .inodes) ⌝ }
@@ -47,12 +31,12 @@ fn put_holder(plan: &mut [u8], at: usize, s: &[u8], h: Shape, m: Move, i: usize)
     plan::put_row(plan, at, GROUP, layout::place::inode(h, i), &r);
 }
 
-// The three rows that every rename has. Answers the next place, as the functions below do.
+// The old entry cleared, the moved inode and the old parent. Answers the next place, as the functions below do.
 fn put_always(plan: &mut [u8], at: usize, s: &[u8], h: Shape, m: Move) -> usize
     requires { ⌜ (planBytes ≤ length (now plan)) × (at + 3 ≤ planRows) × Laid h (now s) × InImage h m ⌝ }
     ensures { λ n. ⌜ Filled h (now (plan .entry)) at (alwaysRows h (now (s .entry)) m) (now (plan .exit)) n ⌝ }
 {
-    put_old(plan, at, s, h, m);
+    plan::put_clearing(plan, at, GROUP, layout::place::entry(h, m.old), h.width);
     put_moved(plan, at + 1, s, h, m);
     put_holder(plan, at + 2, s, h, m, m.from);
     at + 3
@@ -83,19 +67,6 @@ fn put_replaced(plan: &mut [u8], at: usize, s: &[u8], h: Shape, m: Move) -> usiz
     at + 1
 }
 
-// The text, where one is freed.
-fn put_text(plan: &mut [u8], at: usize, s: &[u8], h: Shape, m: Move) -> usize
-    requires { ⌜ (planBytes ≤ length (now plan)) × (at < planRows) × Laid h (now s) × InImage h m ⌝ }
-    ensures { λ n. ⌜ Filled h (now (plan .entry)) at (textRows h (now (s .entry)) m) (now (plan .exit)) n ⌝ }
-{
-    if m.text == ABSENT {
-        return at;
-    }
-    let zeros = [0u8; 64];
-    plan::put_row(plan, at, GROUP, layout::place::text(h, m.text), &zeros);
-    at + 1
-}
-
 // Puts the results of the move into the plan from place first on, and answers the place behind them.
 pub fn put(plan: &mut [u8], first: usize, s: &[u8], h: Shape, m: Move) -> usize
     requires { ⌜ (planBytes ≤ length (now plan)) × (first + 6 ≤ planRows) × Laid h (now s) × InImage h m ⌝ }
@@ -104,5 +75,9 @@ pub fn put(plan: &mut [u8], first: usize, s: &[u8], h: Shape, m: Move) -> usize
     let a = put_always(plan, first, s, h, m);
     let b = put_into(plan, a, s, h, m);
     let c = put_replaced(plan, b, s, h, m);
-    put_text(plan, c, s, h, m)
+    if m.text == ABSENT {
+        return c;
+    }
+    plan::put_clearing(plan, c, GROUP, layout::place::text(h, m.text), 64);
+    c + 1
 }

@@ -1,5 +1,5 @@
 -- `results::records::moved` meets its contract. Assumes nothing.
-use mathlib.Core.Path.{_≡_, ap, sym, _∙_}
+use mathlib.Core.Path.{ap, sym, _∙_}
 use Rattle.layout.specs.Fields.{inodeKind}
 use Rattle.encode.specs.Inode.{withField, withChanged}
 use Rattle.results.specs.Records.{moved-directory, moved-other}

@@ -1,7 +1,10 @@
 -- `results::rows::put` meets its contract. Assumes nothing.
+use mathlib.Core.Path.{refl}
 use native.Mathlib.Omega.{arith}
 use borrow.Author.Needs.{needs}
-use Rattle.results.specs.Rows.{into-le, replaced-le, results-filled}
+use Rattle.plan.specs.Write.{row-put}
+use Rattle.results.specs.Results.{textRow}
+use Rattle.results.specs.Rows.{into-le, replaced-le, text-one, text-none, results-filled}
 use Rattle.results.proofs.rows.put.Statement.{statement}
 use Rattle.results.proofs.rows.put.Tie as tie
 
@@ -16,18 +19,37 @@ put-replaced-requires c κs =
     let args = c .before .before .before .before .before .before .before .before .before .before .before .args in
     (search needs, omega (arith, into-le (args .h) (args .s .now) (args .m)), search needs, search needs)
 
-put-text-requires : tie.Need-put-text-requires
-put-text-requires c κs =
-    let args = c .before .before .before .before .before .before .before .before .before .before .before .before .before .before .before .args in
-    (search needs, omega (arith, into-le (args .h) (args .s .now) (args .m), replaced-le (args .h) (args .s .now) (args .m)), search needs, search needs)
-
 same-length : tie.Need-same-length
 same-length c = search needs
 
 returns : tie.Need-returns
 returns c =
+    let args = c .before .before .before .before .before .before .before .before .before .before .before .before .before .before .before .before .args in
+    results-filled (args .h) (args .s .now) (args .m) (c .before .before .before .before .before .before .before .before .before .before .before .before .put-always .ensures) (c .before .before .before .before .before .before .before .before .put-into .ensures) (c .before .before .before .before .put-replaced .ensures)
+    (text-none (args .h) (args .s .now) (args .m) (c .if1 .taken))
+
+text-requires : tie.Need-text-requires
+text-requires c κs = (search needs, c .before .before .before .before .before .before .before .before .before .before .before .before .before .before .before .before .before .pre .3 .text (c .before .if1 .left))
+
+put-clearing-requires : tie.Need-put-clearing-requires
+put-clearing-requires c κs =
     let args = c .before .before .before .before .before .before .before .before .before .before .before .before .before .before .before .before .before .before .args in
-    results-filled (args .h) (args .s .now) (args .m) (c .before .before .before .before .before .before .before .before .before .before .before .before .before .before .put-always .ensures) (c .before .before .before .before .before .before .before .before .before .before .put-into .ensures) (c .before .before .before .before .before .before .put-replaced .ensures) (c .before .before .put-text .ensures)
+    (search needs, omega (arith, into-le (args .h) (args .s .now) (args .m), replaced-le (args .h) (args .s .now) (args .m)), search needs)
+
+add-result : tie.Need-add-result
+add-result c =
+    let args = c .before .before .before .before .before .before .before .before .before .before .before .before .before .before .before .before .before .before .before .before .before .args in
+    omega (arith, into-le (args .h) (args .s .now) (args .m), replaced-le (args .h) (args .s .now) (args .m))
+
+same-length-2 : tie.Need-same-length-2
+same-length-2 c = search needs
+
+returns-2 : tie.Need-returns-2
+returns-2 c =
+    let args = c .before .before .before .before .before .before .before .before .before .before .before .before .before .before .before .before .before .before .before .before .before .args in
+    results-filled (args .h) (args .s .now) (args .m) (c .before .before .before .before .before .before .before .before .before .before .before .before .before .before .before .before .before .put-always .ensures) (c .before .before .before .before .before .before .before .before .before .before .before .before .before .put-into .ensures) (c .before .before .before .before .before .before .before .before .before .put-replaced .ensures)
+    (text-one (args .h) (args .s .now) (args .m) (c .before .before .before .before .before .if1 .left)
+    (row-put (args .h) (textRow (args .h) (args .s .now) (args .m)) _ _ (c .before .before .put-clearing .ensures) (c .before .before .before .text .ensures) refl))
 
 pub put-spec : {M : Type 1} → statement M
 put-spec =
@@ -36,6 +58,10 @@ put-spec =
     put-always-requires
     put-into-requires
     put-replaced-requires
-    put-text-requires
     same-length
-    returns)
+    returns
+    text-requires
+    put-clearing-requires
+    add-result
+    same-length-2
+    returns-2)

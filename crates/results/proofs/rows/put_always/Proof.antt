@@ -1,11 +1,17 @@
 -- `results::rows::put_always` meets its contract. Assumes nothing.
+use mathlib.Core.Path.{refl}
 use borrow.Author.Needs.{needs}
+use Rattle.plan.specs.Write.{row-put}
+use Rattle.results.specs.Results.{oldRow}
 use Rattle.results.specs.Rows.{always-filled}
 use Rattle.results.proofs.rows.put_always.Statement.{statement}
 use Rattle.results.proofs.rows.put_always.Tie as tie
 
-put-old-requires : tie.Need-put-old-requires
-put-old-requires c κs = search needs
+entry-requires : tie.Need-entry-requires
+entry-requires c κs = search needs
+
+put-clearing-requires : tie.Need-put-clearing-requires
+put-clearing-requires c κs = search needs
 
 add-put-moved : tie.Need-add-put-moved
 add-put-moved c = search needs
@@ -27,14 +33,17 @@ same-length c = search needs
 
 returns : tie.Need-returns
 returns c =
-    let args = c .before .before .before .before .before .before .before .before .before .before .before .before .before .before .args in
-    always-filled (args .h) (args .s .now) (args .m) (c .before .before .before .before .before .before .before .before .before .before .put-old .ensures) (c .before .before .before .before .before .before .put-moved .ensures) (c .before .before .put-holder .ensures)
+    let args = c .before .before .before .before .before .before .before .before .before .before .before .before .before .before .before .args in
+    always-filled (args .h) (args .s .now) (args .m)
+    (row-put (args .h) (oldRow (args .h) (args .s .now) (args .m)) _ _ (c .before .before .before .before .before .before .before .before .before .before .put-clearing .ensures) (c .before .before .before .before .before .before .before .before .before .before .before .entry .ensures) refl)
+    (c .before .before .before .before .before .before .put-moved .ensures) (c .before .before .put-holder .ensures)
 
 pub put-always-spec : {M : Type 1} → statement M
 put-always-spec =
     tie.close
     (tie.spec
-    put-old-requires
+    entry-requires
+    put-clearing-requires
     add-put-moved
     put-moved-requires
     add-put-holder
