@@ -1,14 +1,13 @@
 -- Two renames of the bench tree meet all that is assumed here, so what they leave is consistent. Assumes nothing.
 use mathlib.Core.Path.{_≡_, refl}
-use mathlib.Core.List.{List, []}
-use Prim.Native.Nat.{ℕ}
+use mathlib.Core.List.{[]}
 use lib.Dec.{lit<, lit≤}
 use borrow.Author.Tests.{eqb-false}
 use Rattle.seq.specs.Search.{all, count}
 use Rattle.seq.specs.Bytes.{part, sameBytes}
 use Rattle.seq.specs.Number.{numberAt, bytesOf}
 use Rattle.layout.specs.declared.Shape.{Shape}
-use Rattle.layout.specs.Contents.{Read, shapeOf}
+use Rattle.layout.specs.Contents.{shapeOf}
 use Rattle.layout.specs.Record.{recordAt}
 use Rattle.layout.specs.View.{viewOf}
 use Rattle.layout.specs.Bench.{bench}

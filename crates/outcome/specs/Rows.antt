@@ -1,29 +1,28 @@
 -- The rows of a rename meet what the journal asks of rows: each replaces one record whole, no two the same one, in groups that follow. Assumes nothing.
-use mathlib.Core.Path.{_≡_, refl, sym, ap, _∙_}
+use mathlib.Core.Path.{_≡_, refl, sym, ap}
 use mathlib.Core.Logic.{_≢_}
 use mathlib.Core.Bool.{Bool, true, false, not}
 use mathlib.Core.List.{List, _∷_, _++_, append-assoc}
 use Prim.Native.Nat.{ℕ, _+_, _≤_, _<_}
 use native.Mathlib.Omega.{arith}
 use lib.Dec.{eqb, lit<, lit≤}
-use lib.ListN.{length, length-replicate}
+use lib.ListN.{length}
 use borrow.Author.Tests.{eqb-false, not-true}
 use Rattle.layout.specs.declared.Shape.{Shape}
-use Rattle.layout.specs.Place.{Key, recordBytes, records}
+use Rattle.layout.specs.Place.{Key}
 use Rattle.layout.specs.Record.{record-length}
 use Rattle.layout.specs.View.{viewOf, inodeAt}
 use Rattle.encode.specs.Journal.{absent, journal-length}
 use Rattle.edits.specs.Finished.{slots-differ, moved-not-from, moved-not-into}
-use Rattle.plan.specs.Fit.{coverable}
 use Rattle.plan.specs.Write.{Write, inodeKey, entryKey, textKey, other-section, other-index}
 use Rattle.journal.specs.Pick.{All, all-join}
 use Rattle.journal.specs.Store.{Distinct, Spares}
 use Rattle.journal.specs.Plan.{WellFormed}
 use Rattle.crash.specs.Image.{Fits, first-ok, images}
 use Rattle.results.specs.declared.Move.{Move}
-use Rattle.results.specs.Results.{present, when, linksAfter, oldRow, movedRow, holderRow, replacedRow, textRow, intoRows, replacedRows, textRows, results, clearRow}
+use Rattle.results.specs.Results.{present, when, linksAfter, oldRow, movedRow, holderRow, replacedRow, textRow, intoRows, replacedRows, textRows, results}
 use Rattle.results.specs.Links.{links-le}
-use Rattle.results.specs.Again.{moved-length, holder-length, replaced-length}
+use Rattle.results.specs.Owed.{old-writes, moved-writes, holder-writes, replaced-writes, text-writes, clear-writes}
 use Rattle.rename.specs.Plan.{journalFor, journalRow, entryRow}
 use Rattle.outcome.specs.Outcome.{renamePlan}
 use Rattle.outcome.specs.Called.{Called, before-good, in-image, replaced-not-moved, replaced-not-from, replaced-not-into, entry-names, journal-zeros}
@@ -106,21 +105,35 @@ module _ {h : Shape} {s : List ℕ} {m : Move} {called : List ℕ} (c : Called h
   unfolding viewOf
   links-small i = omega (arith, links-le (viewOf h s) m i, c .read .laid .entries-most)
 
-  fits : (w : Write) → 1 ≤ w .group → w .group ≤ 4 → w .key .section < 5 → w .key .index < records h (w .key .section)
-      → coverable (w .key .section) ≡ true → length (w .body) ≡ recordBytes h (w .key .section) → Fits h w
-  fits w first last section index allowed whole = record {
-    writes = record { first = first; last = last; valid = record { in-image = section; in-section = index }; allowed = allowed; whole = whole };
+  pub results-fit : All (Fits h) (results h s m)
+  results-fit =
+      let laid = c .read .laid in
+      let range = in-image c in
+      results-all h s m (Fits h) (λ n. record { writes = replaced-writes h s m laid range n }) (λ n. record { writes = text-writes h s m laid range n })
+      (λ _. record { writes = holder-writes h s m laid range (m .into) (range .into) }) (record { writes = old-writes h s m laid range })
+      (record { writes = moved-writes h s m laid range }) (record { writes = holder-writes h s m laid range (m .from) (range .from) })
+
+  entry-fits : Fits h (entryRow h s m called)
+  entry-fits = record {
+    writes = record {
+      first = lit≤ tt;
+      last = lit≤ tt;
+      valid = record { in-image = lit< tt; in-section = in-image c .new };
+      allowed = refl;
+      whole = entry-names c .long;
+    };
   }
 
-  pub results-fit : All (Fits h) (results h s m)
-  results-fit = results-all h s m (Fits h)
-      (λ n. fits (replacedRow h s m) (lit≤ tt) (lit≤ tt) (lit< tt) (in-image c .replaced n) refl
-      (replaced-length h _ _ (m .now) _ (inode-long (m .replaced) (in-image c .replaced n))))
-      (λ n. fits (textRow h s m) (lit≤ tt) (lit≤ tt) (lit< tt) (in-image c .text n) refl refl)
-      (λ _. fits (holderRow h s m (m .into)) (lit≤ tt) (lit≤ tt) (lit< tt) (in-image c .into) refl (holder-length _ (m .now) _ ∙ inode-long (m .into) (in-image c .into)))
-      (fits (oldRow h s m) (lit≤ tt) (lit≤ tt) (lit< tt) (in-image c .old) refl (length-replicate (h .width) 0))
-      (fits (movedRow h s m) (lit≤ tt) (lit≤ tt) (lit< tt) (in-image c .moved) refl (moved-length (m .into) (m .now) _ ∙ inode-long (m .moved) (in-image c .moved)))
-      (fits (holderRow h s m (m .from)) (lit≤ tt) (lit≤ tt) (lit< tt) (in-image c .from) refl (holder-length _ (m .now) _ ∙ inode-long (m .from) (in-image c .from)))
+  journal-fits : Fits h (journalRow h s m called)
+  journal-fits = record {
+    writes = record {
+      first = lit≤ tt;
+      last = lit≤ tt;
+      valid = record { in-image = lit< tt; in-section = lit< tt };
+      allowed = refl;
+      whole = journal-length (journalFor m);
+    };
+  }
 
   -- ---- no two replace one record
 
@@ -151,9 +164,9 @@ module _ {h : Shape} {s : List ℕ} {m : Move} {called : List ℕ} (c : Called h
   pub well-formed : WellFormed (images h s) (renamePlan h s m called)
   well-formed = record {
     ok = first-ok h s (c .read);
-    set-fits = fits (journalRow h s m called) (lit≤ tt) (lit≤ tt) (lit< tt) (lit< tt) refl (journal-length (journalFor m));
-    clear-fits = fits (clearRow h) (lit≤ tt) (lit≤ tt) (lit< tt) (lit< tt) refl refl;
-    fits = (fits (entryRow h s m called) (lit≤ tt) (lit≤ tt) (lit< tt) (in-image c .new) refl (entry-names c .long), results-fit);
+    set-fits = journal-fits;
+    clear-fits = record { writes = clear-writes h };
+    fits = (entry-fits, results-fit);
     distinct = (entry-spared h s m (m .new) (λ e. slots-differ (before-good c) (c .allowed) (sym e)), results-distinct);
     apart = (section (λ e. omega arith), section-spared h s m 4 0 (omega arith));
     clears = refl;

@@ -38,7 +38,7 @@ use Rattle.outcome.specs.Called.{Called, before-good, in-image, replaced-not-mo
 use Rattle.outcome.specs.Rows.{results-fit, well-formed}
 use Rattle.outcome.specs.Finished.{finished-after, from-written, into-written}
 use Rattle.outcome.specs.Consistent.{before-consistent, finished-clear, finished-consistent}
-use Rattle.replay.specs.Way.{Mixed, holder-typed, mixed-results}
+use Rattle.replay.specs.Way.{Mixed, parent-typed, mixed-results}
 
 -- a rename as the crash theorem sees it
 abbrev pub renameChange : (h : Shape) (s : List ℕ) → Move → List ℕ → Change (images h s)
@@ -99,7 +99,7 @@ module _ {h : Shape} {s : List ℕ} {m : Move} {called : List ℕ} (c : Called h
   module _ {x : List ℕ} (mixed : Mixed h s m called x) (journal : recordOf h x journalKey ≡ journalBytes (journalFor m)) where
     directory : (i : ℕ) → IsDirectory v i → inodeAt h t i ≡ holderAfter h s m i → isDirectory (viewOf h x) i ≡ true
     unfolding viewOf
-    directory i d e = is-kind (viewOf h x) i 2 (d .0, holder-typed c mixed i (d .0) e ∙ d .1)
+    directory i d e = is-kind (viewOf h x) i 2 (d .0, parent-typed c mixed i (d .0) e ∙ d .1)
 
     journal-is : journalAt h x ≡ journalBytes (journalFor m)
     journal-is = sym (record-is h x journalKey (record { in-image = lit< tt; in-section = lit< tt })) ∙ journal

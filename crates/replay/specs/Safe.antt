@@ -17,25 +17,26 @@ use Rattle.plan.specs.Form.{planRows, planBytes}
 use Rattle.plan.specs.Write.{Write, entryKey, other-section, storeAll}
 use Rattle.apply.specs.Apply.{applyNumber}
 use Rattle.journal.specs.Pick.{All}
-use Rattle.journal.specs.Change.{Change, goal}
+use Rattle.journal.specs.Change.{Change, plan, goal}
 use Rattle.journal.specs.Events.{EventOf, State, decided}
 use Rattle.journal.specs.Obligations.{Obligations}
 use Rattle.journal.specs.Crash.{Safe}
-use Rattle.crash.specs.Image.{Ok, recordOf, record-is}
+use Rattle.journal.specs.Plan.{Plan, WellFormed, Recovers}
+use Rattle.crash.specs.Image.{Ok, recordOf, record-is, images}
 use Rattle.crash.specs.Job.{Job, jobs}
-use Rattle.crash.specs.Rows.{planOf}
+use Rattle.crash.specs.Rows.{jobsIn, planOf}
 use Rattle.crash.specs.Buffers.{Buffers, enough, enough-is, too-short}
 use Rattle.crash.specs.Recovery.{RecoveryJob, Fills, Answers}
-use Rattle.crash.specs.Operation.{planned, stateAfter}
-use Rattle.crash.specs.Safe.{planned-owed, planned-safe, planned-zero, planned-recovers, planned-refuses, planned-decided, planned-undecided}
+use Rattle.crash.specs.Operation.{rowsIn, planned, stateAfter}
+use Rattle.crash.specs.Safe.{planned-first, planned-owed, planned-safe, planned-zero, planned-recovers, planned-refuses, planned-decided, planned-undecided}
 use Rattle.edits.specs.Kinds.{EntryUsed}
 use Rattle.results.specs.declared.Move.{Move}
 use Rattle.results.specs.Results.{results, clearRow}
 use Rattle.results.specs.Rows.{results-le}
-use Rattle.rename.specs.Plan.{newEntry}
+use Rattle.rename.specs.Plan.{newEntry, planned as plannedBytes}
 use Rattle.recover.specs.Recover.{intoGood, moveIn, journalFits, ifConsistent, finishing, undoing, pendingRows, recover, decided as isDecided}
 use Rattle.recover.specs.Job.{Recovered, tooShort, recovered, recovered-short, recovered-done}
-use Rattle.outcome.specs.Outcome.{renamePlan, finished}
+use Rattle.outcome.specs.Outcome.{renamePlan, finished, rename-planned}
 use Rattle.outcome.specs.Called.{Called, in-image, entry-names}
 use Rattle.outcome.specs.Rows.{well-formed}
 use Rattle.outcome.specs.Finished.{finished-after}
@@ -111,19 +112,38 @@ module _ (h : Shape) (s : List ℕ) (m : Move) (called buffer : List ℕ) where
   stateOf es = stateAfter h s (renamePlan h s m called) buffer recoveryJob es
 
 module _ {h : Shape} {s : List ℕ} {m : Move} {called : List ℕ} (c : Called h s m called) (buffer : List ℕ) (long : planBytes ≤ length buffer) where
+  abbrev p : Plan (images h s)
+  p = renamePlan h s m called
+
+  abbrev 𝓦 : WellFormed (images h s) p
+  𝓦 = well-formed c
+
+  abbrev few : length (rowsIn h s p) ≤ planRows
+  few = rows-few h s m called
+
+  abbrev ρ : Recovers (images h s) p (recover h)
+  ρ = recovers c
+
+  abbrev 𝓐 : Answers h s (recover h) recoveryJob
+  𝓐 = recovery-answers h s
+
   abbrev 𝓙 : Change (jobs h s)
   𝓙 = renameJobs h s m called buffer
 
   abbrev state : List (EventOf (jobs h s)) → State (List ℕ) Job
   state es = stateOf h s m called buffer es
 
+  -- at first all rows of the plan's bytes wait
+  pub rename-first : plan 𝓙 ≡ jobsIn (plannedBytes h s m called buffer)
+  rename-first = planned-first h s p 𝓦 buffer long few (recover h) ρ recoveryJob 𝓐 ∙ ap jobsIn (rename-planned h s m called buffer)
+
   pub rename-owed : Obligations 𝓙
-  rename-owed = planned-owed h s (renamePlan h s m called) (well-formed c) buffer long (rows-few h s m called) (recover h) (recovers c) recoveryJob (recovery-answers h s)
+  rename-owed = planned-owed h s p 𝓦 buffer long few (recover h) ρ recoveryJob 𝓐
 
   -- After every list of events the image is on the way, what waits can be applied, and once recovery's rows are through it is the image
   -- before or the one after, by whether the new entry was applied.
   pub rename-safe : (es : List (EventOf (jobs h s))) → Safe 𝓙 (state es)
-  rename-safe es = planned-safe h s (renamePlan h s m called) (well-formed c) buffer long (rows-few h s m called) (recover h) (recovers c) recoveryJob (recovery-answers h s) es
+  rename-safe es = planned-safe h s p 𝓦 buffer long few (recover h) ρ recoveryJob 𝓐 es
 
   -- the image after is the finished one
   pub rename-goal : goal 𝓙 true ≡ finished h s m called
@@ -139,14 +159,14 @@ module _ {h : Shape} {s : List ℕ} {m : Move} {called : List ℕ} (c : Called h
 
   -- apply answers 0 for each row that waits
   pub rename-zero : (es : List (EventOf (jobs h s))) → All (λ j. applyNumber (state es .img) (j .plan) (j .number) ≡ 0) (state es .waiting)
-  rename-zero es = planned-zero h s (renamePlan h s m called) (well-formed c) buffer long (rows-few h s m called) (recover h) (recovers c) recoveryJob (recovery-answers h s) es
+  rename-zero es = planned-zero h s p 𝓦 buffer long few (recover h) ρ recoveryJob 𝓐 es
 
   -- recovery answers 0 with buffers that are long enough, and refuses any others
   pub rename-recovers : (es : List (EventOf (jobs h s))) (b : Buffers) → T (enough b (state es .img)) → recoveryJob .number b (state es .img) ≡ 0
-  rename-recovers es b t = planned-recovers h s (renamePlan h s m called) (well-formed c) buffer long (rows-few h s m called) (recover h) (recovers c) recoveryJob (recovery-answers h s) es b t
+  rename-recovers es b t = planned-recovers h s p 𝓦 buffer long few (recover h) ρ recoveryJob 𝓐 es b t
 
   pub rename-refuses : (es : List (EventOf (jobs h s))) (b : Buffers) → T (not (enough b (state es .img))) → recoveryJob .number b (state es .img) ≢ 0
-  rename-refuses es b t = planned-refuses h s (renamePlan h s m called) (well-formed c) buffer long (rows-few h s m called) (recover h) (recovers c) recoveryJob (recovery-answers h s) es b t
+  rename-refuses es b t = planned-refuses h s p 𝓦 buffer long few (recover h) ρ recoveryJob 𝓐 es b t
 
   -- ---- names are kept
 
@@ -181,14 +201,14 @@ module _ {h : Shape} {s : List ℕ} {m : Move} {called : List ℕ} (c : Called h
       x : List ℕ
       x = state es .img
 
-      p : (j : ℕ) → decided 𝓙 (state es) ≡ false → recordOf h x (entryKey j) ≡ recordOf h s (entryKey j)
-      p j e = planned-undecided h s (renamePlan h s m called) (well-formed c) buffer long (rows-few h s m called) (recover h) (recovers c) recoveryJob (recovery-answers h s) es e
+      record-same : (j : ℕ) → decided 𝓙 (state es) ≡ false → recordOf h x (entryKey j) ≡ recordOf h s (entryKey j)
+      record-same j e = planned-undecided h s p 𝓦 buffer long few (recover h) ρ recoveryJob 𝓐 es e
           (entryKey j) (other-section _ _ (λ z. omega arith)) tt
 
       same : (j : ℕ) → j < h .entries → decided 𝓙 (state es) ≡ false → entryAt h x j ≡ entryAt h s j
-      same j l e = slot x j l (p j e ∙ record-is h s (entryKey j) (record { in-image = lit< tt; in-section = l }))
+      same j l e = slot x j l (record-same j e ∙ record-is h s (entryKey j) (record { in-image = lit< tt; in-section = l }))
 
       go : (d : Bool) → decided 𝓙 (state es) ≡ d → Kept h s x m
       go false e = kept-before x (same (m .old) (in-image c .old) e) (same (m .new) (in-image c .new) e)
       go true e = kept-after x (slot x (m .new) (in-image c .new)
-          (planned-decided h s (renamePlan h s m called) (well-formed c) buffer long (rows-few h s m called) (recover h) (recovers c) recoveryJob (recovery-answers h s) es tt e))
+          (planned-decided h s p 𝓦 buffer long few (recover h) ρ recoveryJob 𝓐 es tt e))
