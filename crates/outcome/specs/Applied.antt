@@ -1,5 +1,5 @@
 -- The plan's bytes, applied whole: whatever order the groups permit, the finished image comes of it. Assumes nothing.
-use mathlib.Core.Path.{_≡_, refl, sym, ap, _∙_, subst}
+use mathlib.Core.Path.{_≡_, refl, ap, _∙_}
 use mathlib.Core.List.{List, [], _∷_, _++_}
 use Prim.Native.Nat.{ℕ, _≤_}
 use native.Mathlib.Omega.{arith}
@@ -8,7 +8,7 @@ use lib.ListN.{length, length-append}
 use Rattle.layout.specs.declared.Shape.{Shape}
 use Rattle.plan.specs.Form.{planRows, planBytes, rowCount}
 use Rattle.plan.specs.Write.{Write}
-use Rattle.journal.specs.Pick.{All, all-join}
+use Rattle.journal.specs.Pick.{All, all-join, all-map}
 use Rattle.journal.specs.Store.{putAll}
 use Rattle.journal.specs.Order.{Permitted, Sorted}
 use Rattle.crash.specs.Image.{Fits, images}
@@ -25,11 +25,12 @@ use Rattle.outcome.specs.Called.{Called}
 use Rattle.outcome.specs.Rows.{results-all, results-fit, well-formed}
 
 -- rows of one group stand in order, with others of no lower group behind them
-level-sorted : (h : Shape) (s : List ℕ) (g : ℕ) (us ws : List Write) → All (λ w. w .group ≡ g) us → All (λ w. g ≤ w .group) us → All (λ w. g ≤ w .group) ws
-    → Sorted (images h s) ws → Sorted (images h s) (us ++ ws)
-level-sorted h s g [] ws e l b d = d
-level-sorted h s g (u ∷ us) ws e l b d =
-    (subst (λ (n : ℕ). All (λ w. n ≤ w .group) (us ++ ws)) (sym (e .0)) (all-join (λ w. g ≤ w .group) us ws (l .1) b), level-sorted h s g us ws (e .1) (l .1) b d)
+level-sorted : (h : Shape) (s : List ℕ) (g : ℕ) (us ws : List Write) → All (λ w. w .group ≡ g) us → All (λ w. g ≤ w .group) ws → Sorted (images h s) ws
+    → Sorted (images h s) (us ++ ws)
+level-sorted h s g [] ws e l d = d
+level-sorted h s g (u ∷ us) ws e l d =
+    let level : All (λ w. g ≤ w .group) us = all-map (λ w. w .group ≡ g) (λ w. g ≤ w .group) (λ w f. omega arith) us (e .1) in
+    (rw (e .0) (all-join (λ w. g ≤ w .group) us ws level l), level-sorted h s g us ws (e .1) l d)
 
 module _ (h : Shape) (s : List ℕ) (m : Move) (called : List ℕ) where
   group-at-least : (n : ℕ) → n ≤ resultGroup → All (λ w. n ≤ w .group) (results h s m)
@@ -47,7 +48,7 @@ module _ (h : Shape) (s : List ℕ) (m : Move) (called : List ℕ) where
       behind-at-least 2 (lit≤ tt),
       level-sorted h s resultGroup (results h s m) (clearRow h ∷ [])
           (results-all h s m (λ w. w .group ≡ resultGroup) (λ _. refl) (λ _. refl) (λ _. refl) refl refl refl)
-          (group-at-least resultGroup (lit≤ tt)) (lit≤ tt, tt) (tt, tt),
+          (lit≤ tt, tt) (tt, tt),
     ),
   )
 
@@ -60,7 +61,8 @@ module _ {h : Shape} {s : List ℕ} {m : Move} {called : List ℕ} (c : Called h
   pub planned-count : rowCount (planned h s m called plan) ≡ length (renameRows h s m called)
   planned-count =
       let 𝓦 = well-formed c in
-      let fits : All (Fits h) (rowsIn h s (renamePlan h s m called)) = (𝓦 .set-fits, (𝓦 .fits .0, all-join (Fits h) (results h s m) (clearRow h ∷ []) (results-fit c) (𝓦 .clear-fits, tt))) in
+      let fits : All (Fits h) (rowsIn h s (renamePlan h s m called)) =
+      (𝓦 .set-fits, (𝓦 .fits .0, all-join (Fits h) (results h s m) (clearRow h ∷ []) (results-fit c) (𝓦 .clear-fits, tt))) in
       rw (rename-planned h s m called plan) at (plan-count h s (c .read) plan (rowsIn h s (renamePlan h s m called)) long (rows-few h s m called) fits)
       ∙ ap (λ (ws : List Write). length ws) (rename-rows h s m called)
 
@@ -73,4 +75,5 @@ module _ {h : Shape} {s : List ℕ} {m : Move} {called : List ℕ} (c : Called h
   pub applied-in-order : putAll (jobs h s) s (jobsIn (planned h s m called plan)) ≡ finished h s m called
   unfolding finished
   applied-in-order =
-      rw (rename-planned h s m called plan) at (planned-in-order h s (renamePlan h s m called) (well-formed c) plan long (rows-few h s m called) (rows-sorted h s m called))
+      rw (rename-planned h s m called plan) at
+      (planned-in-order h s (renamePlan h s m called) (well-formed c) plan long (rows-few h s m called) (rows-sorted h s m called))

@@ -132,7 +132,8 @@ module _ {h : Shape} {s : List ℕ} {m : Move} {called : List ℕ} (c : Called h
   -- ---- the new entry, and the journal record
 
   -- whether a slot is taken over can be seen from the move, or from the slot
-  pub entry-bytes : newEntry h s m called ≡ cond (entryUsed v (m .new)) (retargeted (m .moved) (entryAt h s (m .new))) (entryBytes (h .width) (m .into) (m .moved) (c .name))
+  pub entry-bytes : newEntry h s m called
+      ≡ cond (entryUsed v (m .new)) (retargeted (m .moved) (entryAt h s (m .new))) (entryBytes (h .width) (m .into) (m .moved) (c .name))
   entry-bytes = go (entryUsed v (m .new)) refl
     where
       go : (b : Bool) → entryUsed v (m .new) ≡ b

@@ -55,7 +55,8 @@ module _ {h : Shape} {s : List ℕ} {m : Move} {called : List ℕ} (c : Called h
 
   -- ---- each inode
 
-  moved-says : IsDirectory v (m .moved) → Says (inodeAt h s (m .moved)) (inodeAt h t (m .moved)) (v .links (m .moved)) (m .into) (v .modified (m .moved)) (m .now)
+  moved-says : IsDirectory v (m .moved)
+      → Says (inodeAt h s (m .moved)) (inodeAt h t (m .moved)) (v .links (m .moved)) (m .into) (v .modified (m .moved)) (m .now)
   unfolding viewOf
   moved-says d =
       rw (moved-written c) (moved-directory-says _ (inode-long c (m .moved) (d .0)) (m .now) (c .time) (m .into)
@@ -85,7 +86,8 @@ module _ {h : Shape} {s : List ℕ} {m : Move} {called : List ℕ} (c : Called h
   left-says i r n =
       let e = is-replaced c i r in
       subst (λ (k : ℕ). entriesAfter v m k ≢ 0 → Says (inodeAt h s k) (inodeAt h t k) (linksAfter v m k) (v .field k) (v .modified k) (m .now)) e
-      (λ n. rw (replaced-written c (replaced-present c (r .0))) (replaced-says _ (inode-long c (m .replaced) (rw e (replaced-below c i r))) (m .now) (c .time) h _ _ n (links-small c (m .replaced)))) n
+      (λ n. rw (replaced-written c (replaced-present c (r .0)))
+      (replaced-says _ (inode-long c (m .replaced) (rw e (replaced-below c i r))) (m .now) (c .time) h _ _ n (links-small c (m .replaced)))) n
 
   freed-zero : (i : ℕ) → Replaced v (m .new) i → entriesAfter v m i ≡ 0 → inodeAt h t i ≡ freeRecord h 0
   freed-zero i r z =
@@ -105,12 +107,14 @@ module _ {h : Shape} {s : List ℕ} {m : Move} {called : List ℕ} (c : Called h
   -- what an inode is: as before but for link count and times, or a moved directory, or freed
   data Inode (i : ℕ) : Type 0 where
     kept : (links modified changed : ℕ) → Says (inodeAt h s i) (inodeAt h t i) links (v .field i) modified changed → Inode i
-    turned : i ≡ m .moved → IsDirectory v (m .moved) → (links modified changed : ℕ) → Says (inodeAt h s i) (inodeAt h t i) links (m .into) modified changed → Inode i
+    turned : i ≡ m .moved → IsDirectory v (m .moved) → (links modified changed : ℕ)
+        → Says (inodeAt h s i) (inodeAt h t i) links (m .into) modified changed → Inode i
     freed : Replaced v (m .new) i → entriesAfter v m i ≡ 0 → Inode i
 
   which : (i : ℕ) → i < h .inodes → Inode i
   unfolding viewOf
-  which i l = go (ℕ-discrete i (m .moved)) (kind? v (m .moved) 2) (ℕ-discrete i (m .from)) (ℕ-discrete i (m .into)) (replaced? v (m .new) i) (ℕ-discrete (entriesAfter v m i) 0)
+  which i l = go (ℕ-discrete i (m .moved)) (kind? v (m .moved) 2) (ℕ-discrete i (m .from)) (ℕ-discrete i (m .into)) (replaced? v (m .new) i)
+      (ℕ-discrete (entriesAfter v m i) 0)
     where
       go : Dec (i ≡ m .moved) → Dec (IsDirectory v (m .moved)) → Dec (i ≡ m .from) → Dec (i ≡ m .into) → Dec (Replaced v (m .new) i)
           → Dec (entriesAfter v m i ≡ 0) → Inode i
@@ -121,7 +125,8 @@ module _ {h : Shape} {s : List ℕ} {m : Move} {called : List ℕ} (c : Called h
       go (no n) d (no p) (no q) (yes r) (yes z) = freed r z
       go (no n) d (no p) (no q) (yes r) (no z) = kept _ _ _ (left-says i r z)
       go (no n) d (no p) (no q) (no r) z =
-          kept (v .links i) (v .modified i) (v .changed i) (rw (untouched i l (⊎-elim n (⊎-elim p (⊎-elim q r)))) (says-itself (inodeAt h s i) (inode-long c i l)))
+          kept (v .links i) (v .modified i) (v .changed i)
+          (rw (untouched i l (⊎-elim n (⊎-elim p (⊎-elim q r)))) (says-itself (inodeAt h s i) (inode-long c i l)))
 
   -- ---- the counts
 
@@ -173,8 +178,8 @@ module _ {h : Shape} {s : List ℕ} {m : Move} {called : List ℕ} (c : Called h
       let new : targetsAfter v m i (m .new) ≡ false = edited-new m (m .new) _ _ (λ z. differ (sym z)) refl ∙ ne-eqb _ _ other in
       omega (
         arith,
-        count-edited (targets v i) (targetsAfter v m i) (v .entries) (m .old ∷ m .new ∷ []) (c .allowed .old-used .0, (differ, tt), (c .allowed .new-below, tt, tt))
-            (λ j _ off. edited-else m j _ _ (off .0) (off .1 .0)),
+        count-edited (targets v i) (targetsAfter v m i) (v .entries) (m .old ∷ m .new ∷ [])
+            (c .allowed .old-used .0, (differ, tt), (c .allowed .new-below, tt, tt)) (λ j _ off. edited-else m j _ _ (off .0) (off .1 .0)),
         ap bit here,
         ap bit there,
         ap bit old,

@@ -63,6 +63,9 @@ module _ {h : Shape} {s : List ℕ} {m : Move} {called : List ℕ} (c : Called h
   abbrev t : List ℕ
   t = finished h s m called
 
+  abbrev rows : List Write
+  rows = writes (images h s) (renamePlan h s m called)
+
   -- it is the image after the journaled plan
   pub finished-after : afterOf (images h s) (renamePlan h s m called) ≡ t
   unfolding finished
@@ -70,24 +73,24 @@ module _ {h : Shape} {s : List ℕ} {m : Move} {called : List ℕ} (c : Called h
 
   -- its layout is that of the image before
   pub finished-ok : Ok h s t
-  finished-ok = let 𝓦 = well-formed c in rw finished-after at (all-ok (images h s) (writes (images h s) (renamePlan h s m called)) (𝓦 .ok) (𝓦 .fits))
+  finished-ok = let 𝓦 = well-formed c in rw finished-after at (all-ok (images h s) rows (𝓦 .ok) (𝓦 .fits))
 
   -- ---- by keys
 
   pub finished-new : recordOf h t (entryKey (m .new)) ≡ newEntry h s m called
   finished-new =
       let 𝓦 = well-formed c in
-      rw finished-after at (all-same (images h s) (writes (images h s) (renamePlan h s m called)) (𝓦 .ok) (𝓦 .fits) (𝓦 .distinct) (entryRow h s m called) (inl refl))
+      rw finished-after at (all-same (images h s) rows (𝓦 .ok) (𝓦 .fits) (𝓦 .distinct) (entryRow h s m called) (inl refl))
 
   pub finished-result : (w : Write) → Has (results h s m) w → recordOf h t (w .key) ≡ w .body
   finished-result w a =
       let 𝓦 = well-formed c in
-      rw finished-after at (all-same (images h s) (writes (images h s) (renamePlan h s m called)) (𝓦 .ok) (𝓦 .fits) (𝓦 .distinct) w (inr a))
+      rw finished-after at (all-same (images h s) rows (𝓦 .ok) (𝓦 .fits) (𝓦 .distinct) w (inr a))
 
   pub finished-other : (k : Key) → entryKey (m .new) ≢ k → Spares (images h s) (results h s m) k → recordOf h t k ≡ recordOf h s k
   finished-other k n a =
       let 𝓦 = well-formed c in
-      rw finished-after at (all-other (images h s) (writes (images h s) (renamePlan h s m called)) (𝓦 .ok) (𝓦 .fits) k (n, a))
+      rw finished-after at (all-other (images h s) rows (𝓦 .ok) (𝓦 .fits) k (n, a))
 
   -- ---- by sections: what is written
 
@@ -138,7 +141,8 @@ module _ {h : Shape} {s : List ℕ} {m : Move} {called : List ℕ} (c : Called h
 
   pub handle-kept : (n : ℕ) → n < h .handles → handleAt h t n ≡ handleAt h s n
   handle-kept n l =
-      kept (record { section = 3; index = n }) (record { in-image = lit< tt; in-section = l }) (other-section _ _ (λ e. omega arith)) (section-spared h s m 3 n (omega arith))
+      kept (record { section = 3; index = n }) (record { in-image = lit< tt; in-section = l }) (other-section _ _ (λ e. omega arith))
+      (section-spared h s m 3 n (omega arith))
 
   pub journal-kept : journalAt h t ≡ journalAt h s
   journal-kept =

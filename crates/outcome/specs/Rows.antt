@@ -39,7 +39,9 @@ asked h s m = intoRows h s m ++ (replacedRows h s m ++ textRows h s m)
 
 pub results-are : (h : Shape) (s : List ℕ) (m : Move) → results h s m ≡ oldRow h s m ∷ movedRow h s m ∷ holderRow h s m (m .from) ∷ asked h s m
 unfolding results
-results-are h s m = ap (λ (ws : List Write). oldRow h s m ∷ movedRow h s m ∷ holderRow h s m (m .from) ∷ ws) (append-assoc (intoRows h s m) (replacedRows h s m) (textRows h s m))
+results-are h s m =
+    ap (λ (ws : List Write). oldRow h s m ∷ movedRow h s m ∷ holderRow h s m (m .from) ∷ ws)
+    (append-assoc (intoRows h s m) (replacedRows h s m) (textRows h s m))
 
 module _ (h : Shape) (s : List ℕ) (m : Move) (P : Write → Type 0) where
   module _ (replaced : m .replaced ≢ absent → P (replacedRow h s m)) (text : m .text ≢ absent → P (textRow h s m)) where
@@ -67,8 +69,8 @@ one-when h s false w = tt
 -- ---- records that the rows do not replace
 
 -- records of different sections, and of one section
-section : {j k a b : ℕ} → j ≢ k → _≢_ {A = Key} (record { section = j; index = a }) (record { section = k; index = b })
-section n = other-section _ _ n
+section : {j k a b : ℕ} → eqb j k ≡ false → _≢_ {A = Key} (record { section = j; index = a }) (record { section = k; index = b })
+section {j} {k} e = other-section _ _ (eqb-false j k e)
 
 index : {k a b : ℕ} → a ≢ b → _≢_ {A = Key} (record { section = k; index = a }) (record { section = k; index = b })
 index n = other-index _ _ n
@@ -77,23 +79,25 @@ module _ (h : Shape) (s : List ℕ) (m : Move) where
   -- of another section: handles and the journal record
   pub section-spared : (k i : ℕ) → 3 ≤ k → Spares (images h s) (results h s m) (record { section = k; index = i })
   section-spared k i l = results-all h s m (λ w. w .key ≢ record { section = k; index = i })
-      (λ _. section (λ e. omega arith)) (λ _. section (λ e. omega arith)) (λ _. section (λ e. omega arith))
-      (section (λ e. omega arith)) (section (λ e. omega arith)) (section (λ e. omega arith))
+      (λ _. before (lit< tt)) (λ _. before (lit< tt)) (λ _. before (lit< tt)) (before (lit< tt)) (before (lit< tt)) (before (lit< tt))
+    where
+      before : {j a : ℕ} → j < 3 → _≢_ {A = Key} (record { section = j; index = a }) (record { section = k; index = i })
+      before b = other-section _ _ (λ e. omega arith)
 
   pub entry-spared : (j : ℕ) → j ≢ m .old → Spares (images h s) (results h s m) (entryKey j)
   entry-spared j n = results-all h s m (λ w. w .key ≢ entryKey j)
-      (λ _. section (λ e. omega arith)) (λ _. section (λ e. omega arith)) (λ _. section (λ e. omega arith))
-      (index (λ e. n (sym e))) (section (λ e. omega arith)) (section (λ e. omega arith))
+      (λ _. section refl) (λ _. section refl) (λ _. section refl)
+      (index (λ e. n (sym e))) (section refl) (section refl)
 
   pub text-spared : (t : ℕ) → t ≢ m .text → Spares (images h s) (results h s m) (textKey t)
   text-spared t n = results-all h s m (λ w. w .key ≢ textKey t)
-      (λ _. section (λ e. omega arith)) (λ _. index (λ e. n (sym e))) (λ _. section (λ e. omega arith))
-      (section (λ e. omega arith)) (section (λ e. omega arith)) (section (λ e. omega arith))
+      (λ _. section refl) (λ _. index (λ e. n (sym e))) (λ _. section refl)
+      (section refl) (section refl) (section refl)
 
   pub inode-spared : (i : ℕ) → i ≢ m .moved → i ≢ m .from → i ≢ m .into → i ≢ m .replaced → Spares (images h s) (results h s m) (inodeKey i)
   inode-spared i moved from into replaced = results-all h s m (λ w. w .key ≢ inodeKey i)
-      (λ _. index (λ e. replaced (sym e))) (λ _. section (λ e. omega arith)) (λ _. index (λ e. into (sym e)))
-      (section (λ e. omega arith)) (index (λ e. moved (sym e))) (index (λ e. from (sym e)))
+      (λ _. index (λ e. replaced (sym e))) (λ _. section refl) (λ _. index (λ e. into (sym e)))
+      (section refl) (index (λ e. moved (sym e))) (index (λ e. from (sym e)))
 
 module _ {h : Shape} {s : List ℕ} {m : Move} {called : List ℕ} (c : Called h s m called) where
   -- ---- each row replaces a record whole
@@ -142,10 +146,13 @@ module _ {h : Shape} {s : List ℕ} {m : Move} {called : List ℕ} (c : Called h
       let good = before-good c in
       let ok = c .allowed in
       rw results-are (
-        (section (λ e. omega arith), (section (λ e. omega arith), spares (entryKey (m .old)) (λ _. section (λ e. omega arith)) (λ _. section (λ e. omega arith)) (λ _. section (λ e. omega arith)))),
+        (section refl, (section refl, spares (entryKey (m .old)) (λ _. section refl) (λ _. section refl) (λ _. section refl))),
         (
-          (index (λ e. moved-not-from good ok (sym e)), spares (inodeKey (m .moved)) (λ n. index (replaced-not-moved c n)) (λ _. section (λ e. omega arith)) (λ _. index (λ e. moved-not-into good ok (sym e)))),
-          (spares (inodeKey (m .from)) (λ n. index (replaced-not-from c n)) (λ _. section (λ e. omega arith)) (λ n. index n), asked-distinct),
+          (
+            index (λ e. moved-not-from good ok (sym e)),
+            spares (inodeKey (m .moved)) (λ n. index (replaced-not-moved c n)) (λ _. section refl) (λ _. index (λ e. moved-not-into good ok (sym e))),
+          ),
+          (spares (inodeKey (m .from)) (λ n. index (replaced-not-from c n)) (λ _. section refl) (λ n. index n), asked-distinct),
         ),
       )
     where
@@ -155,8 +162,8 @@ module _ {h : Shape} {s : List ℕ} {m : Move} {called : List ℕ} (c : Called h
 
       asked-distinct : Distinct (images h s) (asked h s m)
       asked-distinct = distinct-when h s (not (eqb (m .into) (m .from))) _ _
-          (λ _. freeing-all h s m (λ w. w .key ≢ inodeKey (m .into)) (λ n. index (replaced-not-into c n)) (λ _. section (λ e. omega arith)))
-          (distinct-when h s (present (m .replaced)) _ _ (λ _. all-when (λ w. w .key ≢ inodeKey (m .replaced)) (present (m .text)) _ (λ _. section (λ e. omega arith)))
+          (λ _. freeing-all h s m (λ w. w .key ≢ inodeKey (m .into)) (λ n. index (replaced-not-into c n)) (λ _. section refl))
+          (distinct-when h s (present (m .replaced)) _ _ (λ _. all-when (λ w. w .key ≢ inodeKey (m .replaced)) (present (m .text)) _ (λ _. section refl))
           (one-when h s (present (m .text)) (textRow h s m)))
 
   -- ---- the whole plan
@@ -168,7 +175,7 @@ module _ {h : Shape} {s : List ℕ} {m : Move} {called : List ℕ} (c : Called h
     clear-fits = record { writes = clear-writes h };
     fits = (entry-fits, results-fit);
     distinct = (entry-spared h s m (m .new) (λ e. slots-differ (before-good c) (c .allowed) (sym e)), results-distinct);
-    apart = (section (λ e. omega arith), section-spared h s m 4 0 (omega arith));
+    apart = (section refl, section-spared h s m 4 0 (omega arith));
     clears = refl;
     restores = sym (journal-zeros c);
     created-groups = tt;

@@ -64,7 +64,12 @@ told r = r .number ∷ rowCount (r .plan) ∷ []
 
 -- number and rows: nothing to do; taken back; finished; the same once more. Refused: another mark, another operation, the root moved, the
 -- old slot out of range, the replaced inode moved, an outcome with the root on another file system; and with no journal record, such an image
-pub bench-recovered : map (λ x. told (asked x)) (bench ∷ begun ∷ going ∷ further ∷ set going 592 2 ∷ set going 593 1 ∷ set going 598 0 ∷ set going 594 8 ∷ set going 600 3 ∷ set going 41 1 ∷ set bench 41 1 ∷ []) ≡
+abbrev inputs : List (List ℕ)
+inputs =
+    bench ∷ begun ∷ going ∷ further ∷ set going 592 2 ∷ set going 593 1 ∷ set going 598 0 ∷ set going 594 8 ∷ set going 600 3 ∷ set going 41 1
+    ∷ set bench 41 1 ∷ []
+
+pub bench-recovered : map (λ x. told (asked x)) inputs ≡
     (0 ∷ 0 ∷ []) ∷ (0 ∷ 1 ∷ []) ∷ (0 ∷ 6 ∷ []) ∷ (0 ∷ 6 ∷ [])
     ∷ (204 ∷ 0 ∷ []) ∷ (204 ∷ 0 ∷ []) ∷ (204 ∷ 0 ∷ []) ∷ (204 ∷ 0 ∷ []) ∷ (204 ∷ 0 ∷ []) ∷ (204 ∷ 0 ∷ []) ∷ (201 ∷ 0 ∷ [])
     ∷ []

@@ -142,7 +142,8 @@ module _ {h : Shape} {s : List ℕ} {m : Move} {called : List ℕ} (c : Called h
         rw (formed, kind, good)
 
     -- so what recovery does hangs on the new slot
-    by-slot : recover h x ≡ cond (decided (viewOf h x) (moveIn h x)) (cond (intoGood (viewOf h x) (moveIn h x)) (ifConsistent h x (finishing h x)) none) (ifConsistent h x (undoing h x))
+    by-slot : recover h x
+        ≡ cond (decided (viewOf h x) (moveIn h x)) (cond (intoGood (viewOf h x) (moveIn h x)) (ifConsistent h x (finishing h x)) none) (ifConsistent h x (undoing h x))
     unfolding recover pendingRows
     by-slot = rw (not-clear, fits)
 
@@ -202,7 +203,8 @@ module _ {h : Shape} {s : List ℕ} {m : Move} {called : List ℕ} (c : Called h
   new-slot y = record-is h y (entryKey (m .new)) (record { in-image = lit< tt; in-section = in-image c .new })
 
   -- rows whose outcome is consistent are answered
-  answered : (x : List ℕ) (ws : List Write) → All (Fits h) ws → (y : List ℕ) → consistent y ≡ true → putAll (images h s) x ws ≡ y → ifConsistent h x ws ≡ some ws
+  answered : (x : List ℕ) (ws : List Write) → All (Fits h) ws → (y : List ℕ) → consistent y ≡ true → putAll (images h s) x ws ≡ y
+      → ifConsistent h x ws ≡ some ws
   answered x ws f y g e =
       let k : consistent (storeAll h x ws) ≡ true = ap consistent (sym (puts-store h s x ws f) ∙ e) ∙ g in
       rw k
@@ -212,7 +214,8 @@ module _ {h : Shape} {s : List ℕ} {m : Move} {called : List ℕ} (c : Called h
 
   back : (x : List ℕ) → OnTheWay 𝓒 false x → recordOf h x journalKey ≡ journalBytes (journalFor m) → recover h x ≡ some (undoing h s)
   back x i j =
-      let same : recordOf h x (entryKey (m .new)) ≡ recordOf h s (entryKey (m .new)) = undecided-record plan (recover h) 𝓦 i (entryKey (m .new)) (other-section _ _ (λ e. omega arith)) tt in
+      let same : recordOf h x (entryKey (m .new)) ≡ recordOf h s (entryKey (m .new)) =
+      undecided-record plan (recover h) 𝓦 i (entryKey (m .new)) (other-section _ _ (λ e. omega arith)) tt in
       taken-back (way-mixed false i) j (sym (new-slot x) ∙ same ∙ new-slot s)
       ∙ answered x (undoing h s) undo-fits s (before-consistent c)
       (reached plan (recover h) 𝓦 false (undoing h s) (λ k a. a) tt i (clear-settles plan (recover h) 𝓦 false, tt))

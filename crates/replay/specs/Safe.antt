@@ -76,7 +76,8 @@ module _ (h : Shape) (x : List ℕ) where
   recover-few : (ws : List Write) → recover h x ≡ some ws → length ws ≤ planRows
   unfolding recover
   recover-few ws e =
-      subst Few e (few-cond (journalClear h x) (cond (consistent x) (some []) none) (pendingRows h x) (few-cond (consistent x) (some []) none (omega arith) tt) pending-few)
+      subst Few e (few-cond (journalClear h x) (cond (consistent x) (some []) none) (pendingRows h x)
+      (few-cond (consistent x) (some []) none (omega arith) tt) pending-few)
 
 -- it does what the rows by record say, and refuses buffers that are too short
 pub recovery-answers : (h : Shape) (s : List ℕ) → Answers h s (recover h) recoveryJob

@@ -1,4 +1,4 @@
--- Images on the way of a rename: each record but the journal's is as before or as finished. On every one of them the results are the rename's own. Assumes nothing.
+-- Images on the way of a rename: each record but the journal's is as before or as finished, and the results are the rename's own. Assumes nothing.
 use mathlib.Core.Path.{_≡_, sym, ap, _∙_}
 use mathlib.Core.Logic.{_≢_, _⊎_, inl, inr, ⊎-elim}
 use mathlib.Core.List.{List}
@@ -30,7 +30,8 @@ module _ {h : Shape} {s : List ℕ} {m : Move} {called : List ℕ} (c : Called h
   t = finished h s m called
 
   record-mixed : (k : Key) → Valid h k → k ≢ journalKey
-      → (recordAt h x (k .section) (k .index) ≡ recordAt h s (k .section) (k .index)) ⊎ (recordAt h x (k .section) (k .index) ≡ recordAt h t (k .section) (k .index))
+      → (recordAt h x (k .section) (k .index) ≡ recordAt h s (k .section) (k .index))
+      ⊎ (recordAt h x (k .section) (k .index) ≡ recordAt h t (k .section) (k .index))
   record-mixed k valid n =
       let back = sym (record-is h x k valid) in
       ⊎-elim (λ z. inl (back ∙ z ∙ record-is h s k valid)) (λ z. inr (back ∙ z ∙ record-is h t k valid)) (mixed .either k n)
