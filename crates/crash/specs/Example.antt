@@ -19,7 +19,7 @@ use Rattle.layout.specs.Contents.{Read, nameIs, rowIs, shapeOf, rowGood, rowsGo
 use Rattle.layout.specs.Record.{recordAt, store}
 use Rattle.plan.specs.Form.{planRows, planBytes, rowAt, headerOf, rowPut, rowsPut, cleared, noRow, rowCount}
 use Rattle.plan.specs.Fit.{coverable, coversSection, covers, rowFits, applicable}
-use Rattle.plan.specs.Write.{Write, inodeKey, entryKey, journalKey, other-section}
+use Rattle.plan.specs.Write.{Write, inodeKey, entryKey, journalKey, other-section, storeAll}
 use Rattle.apply.specs.Apply.{applyNumber, appliedImage}
 use Rattle.journal.specs.Store.{putAll}
 use Rattle.journal.specs.Change.{Change}
@@ -27,7 +27,7 @@ use Rattle.journal.specs.Events.{EventOf, apply, stray, crash, decided, start, 
 use Rattle.journal.specs.Obligations.{Obligations}
 use Rattle.journal.specs.Plan.{by-row, Plan, behindOf, WellFormed, Recovers}
 use Rattle.journal.specs.Planned.{clear-settles, behind-all}
-use Rattle.crash.specs.Image.{Fits, isValid, recordOf, read-of, first-ok, accepted, putWrite, images, storeAll}
+use Rattle.crash.specs.Image.{Fits, isValid, recordOf, read-of, first-ok, accepted, putWrite, images}
 use Rattle.crash.specs.Buffers.{Buffers, enough, enough-is, is-enough, too-short}
 use Rattle.crash.specs.Job.{jobs}
 use Rattle.crash.specs.Rows.{jobsIn, planOf}

@@ -15,7 +15,7 @@ use Rattle.layout.specs.Contents.{Laid, Read, layoutGood, shapeOf, good-laid}
 use Rattle.layout.specs.Record.{recordAt, store, store-same, store-other, store-contents, same-image}
 use Rattle.layout.specs.Commute.{store-shape, store-layout}
 use Rattle.plan.specs.Fit.{Writes, rowFits, written-fits}
-use Rattle.plan.specs.Write.{Write, rowFrom}
+use Rattle.plan.specs.Write.{Write, rowFrom, storeAll}
 use Rattle.journal.specs.Pick.{All}
 use Rattle.journal.specs.Store.{Store, putAll}
 
@@ -161,11 +161,6 @@ images h s₀ = record {
   get-other = λ {X} {r} o f j n. get-other h s₀ X r o f j n;
   ext = λ {X} {Y} o p e. image-ext h s₀ X Y o p e;
 }
-
--- the image with each row's bytes in place of its record, one after another
-abbrev pub storeAll : Shape → List ℕ → List Write → List ℕ
-storeAll h s [] = s
-storeAll h s (w ∷ ws) = storeAll h (store h s (w .key) (w .body)) ws
 
 -- rows that fit, applied one after another, are so many stores of records
 pub puts-store : (h : Shape) (s₀ s : List ℕ) (ws : List Write) → All (Fits h) ws → putAll (images h s₀) s ws ≡ storeAll h s ws

@@ -10,7 +10,7 @@ use lib.ListN.{length}
 use Rattle.layout.specs.declared.Shape.{Shape}
 use Rattle.layout.specs.Place.{Key}
 use Rattle.plan.specs.Form.{planRows, planBytes}
-use Rattle.plan.specs.Write.{Write}
+use Rattle.plan.specs.Write.{Write, storeAll}
 use Rattle.apply.specs.Apply.{applyNumber}
 use Rattle.journal.specs.Pick.{All}
 use Rattle.journal.specs.Store.{Spares, putAll}
@@ -21,7 +21,7 @@ use Rattle.journal.specs.Crash.{Safe, crash-safe}
 use Rattle.journal.specs.Order.{Permitted, Sorted, sorted-permitted, any-order}
 use Rattle.journal.specs.Plan.{Plan, WellFormed, Recovers, ByRow, createdOf, decideRow, writes, afterOf, change}
 use Rattle.journal.specs.Planned.{decided-record, undecided-record}
-use Rattle.crash.specs.Image.{recordOf, images, storeAll, puts-store}
+use Rattle.crash.specs.Image.{recordOf, images, puts-store}
 use Rattle.crash.specs.Buffers.{Buffers, enough}
 use Rattle.crash.specs.Job.{Job, jobs, answers-zero}
 use Rattle.crash.specs.Rows.{jobsIn, do-sorted, planOf, plan-does}

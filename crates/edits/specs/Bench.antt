@@ -20,24 +20,24 @@ use Rattle.edits.specs.Renamed.{renamed, renamed-consistent}
 use Rattle.edits.specs.Refusals.{missing-of, unopened-of, not-above-of}
 use Rattle.edits.specs.Bodies.{bodies-consistent}
 
-abbrev v : View
+abbrev pub v : View
 v = viewOf (shapeOf bench) bench
 
 good : ConsistentView v
 good = bodies-consistent (consistent-is bench bench-consistent .bodies)
 
 -- the names `k`, `g` and `e`
-abbrev k : List ℕ
+abbrev pub k : List ℕ
 k = 107 ∷ []
 
-abbrev g : List ℕ
+abbrev pub g : List ℕ
 g = 103 ∷ []
 
-abbrev e : List ℕ
+abbrev pub e : List ℕ
 e = 101 ∷ []
 
 -- `/a/f` to `/a/k`: a file, from slot 3 to the free slot 7 of the same directory
-new-name : Allowed v 3 7 3 1 1 k
+pub new-name : Allowed v 3 7 3 1 1 k
 unfolding bench any all part sameBytes numberAt bytesOf shapeOf recordAt viewOf reaches
 new-name = record {
   old-used = (lit< tt, eqb-false 1 0 refl);
@@ -61,7 +61,7 @@ pub new-name-consistent : ConsistentView (renamed v 3 7 3 1 1 k)
 new-name-consistent = renamed-consistent good new-name (eqb-false 1 0 refl)
 
 -- `/a/f` to `/b/g`: a file, from slot 3 to slot 5 of another directory, whose file has no other entry
-file-replaced : Allowed v 3 5 3 1 2 g
+pub file-replaced : Allowed v 3 5 3 1 2 g
 unfolding bench any all count part sameBytes numberAt bytesOf shapeOf recordAt viewOf reaches entriesOf
 file-replaced = record {
   old-used = (lit< tt, eqb-false 1 0 refl);
@@ -85,7 +85,7 @@ pub file-replaced-consistent : ConsistentView (renamed v 3 5 3 1 2 g)
 file-replaced-consistent = renamed-consistent good file-replaced (eqb-false 1 0 refl)
 
 -- `/a/d` to `/b/e/`: a directory, from slot 4 to the free slot 7 of another directory
-directory-moved : Allowed v 4 7 5 1 2 e
+pub directory-moved : Allowed v 4 7 5 1 2 e
 unfolding bench any all part sameBytes numberAt bytesOf shapeOf recordAt viewOf reaches
 directory-moved = record {
   old-used = (lit< tt, eqb-false 1 0 refl);

@@ -71,6 +71,36 @@ blank-text : (h : Shape) (t : List ℕ) (x : ℕ) → textAt h t x ≡ replicate
 unfolding viewOf noZero part all
 blank-text h t x e = record { short = rw e (omega arith); filled = rw e (zeros-replicate 64 1 63 (omega arith)); bytes = rw e }
 
+-- the new entry: where the slot was in use it is taken over, with parent and name as they are, and else it is made
+module _ {h : Shape} {s : List ℕ} {old new moved from into : ℕ} {called : List ℕ} (laid : Laid h s) (f : Bodies h s)
+    (ok : Allowed (viewOf h s) old new moved from into called) where
+  moved-below : moved < h .inodes
+  unfolding viewOf
+  moved-below = rw (ok .old-target) at (bodies-consistent f .placed .entry old (ok .old-used) .target .0)
+
+  taken-over : EntryUsed (viewOf h s) new → Names (retargeted moved (entryAt h s new)) (h .width) into moved called
+  unfolding viewOf
+  taken-over u =
+      let r = entryAt h s new in
+      let e = bodies-formed f .entry new (u .0) (u .1) in
+      let long : length r ≡ h .width = record-length h s 1 new (laid .long) (omega arith) (u .0) in
+      let itself = names-itself r (h .width) long (omega (arith, e .short, laid .width-least)) (e .padded) (e .filled) in
+      let there = names-target itself moved (omega (arith, moved-below, laid .inodes-most)) in
+      subst (λ (n : List ℕ). Names (retargeted moved r) (h .width) into moved n) (ok .new-name u)
+      (subst (λ (p : ℕ). Names (retargeted moved r) (h .width) p moved (entryName r)) (ok .new-parent u) there)
+
+  pub new-names : length called ≤ nameRoom h
+      → Names (cond (entryUsed (viewOf h s) new) (retargeted moved (entryAt h s new)) (entryBytes (h .width) into moved called)) (h .width) into moved called
+  unfolding viewOf
+  new-names fitting = go (entryUsed (viewOf h s) new) refl
+    where
+      go : (b : Bool) → entryUsed (viewOf h s) new ≡ b
+          → Names (cond b (retargeted moved (entryAt h s new)) (entryBytes (h .width) into moved called)) (h .width) into moved called
+      go true u = taken-over (ok .new-below, eqb-false _ _ (not-true _ u))
+      go false u =
+          entry-names (h .width) into moved called (omega (arith, fitting, laid .width-least)) (omega (arith, ok .into-directory .0, laid .inodes-most))
+          (omega (arith, moved-below, laid .inodes-most))
+
 module _ {h : Shape} {s t : List ℕ} {old new moved from into : ℕ} {called : List ℕ} (laid : Laid h s) (f : Bodies h s)
     (ok : Allowed (viewOf h s) old new moved from into called) (m : Written h s t old new moved from into called)
     (nonempty : length called ≢ 0) (fitting : length called ≤ nameRoom h) (named : nameGood called ≡ true) where
@@ -86,41 +116,14 @@ module _ {h : Shape} {s t : List ℕ} {old new moved from into : ℕ} {called : 
   form : Formed h s
   form = bodies-formed f
 
-  moved-below : moved < h .inodes
-  unfolding viewOf
-  moved-below = rw (ok .old-target) at (good .placed .entry old (ok .old-used) .target .0)
-
-  into-below : into < h .inodes
-  unfolding viewOf
-  into-below = ok .into-directory .0
-
   same-head : (i : ℕ) → i < h .inodes → (Gone v w new i → ⊥) → SameInode v w i
   unfolding viewOf
   same-head i l n =
       let byte = head-byte _ _ (m .head i l n) in
       record { kind = byte 0 (omega arith); system = byte 1 (omega arith); mode = number-same 2 _ _ 2 2 (λ k b. byte (2 + k) (omega arith)) }
 
-  -- the new entry where a slot is taken over, which has parent and name already
-  taken-over : EntryUsed v new → Names (retargeted moved (entryAt h s new)) (h .width) into moved called
-  unfolding viewOf
-  taken-over u =
-      let r = entryAt h s new in
-      let e = form .entry new (u .0) (u .1) in
-      let long : length r ≡ h .width = record-length h s 1 new (laid .long) (omega arith) (u .0) in
-      let itself = names-itself r (h .width) long (omega (arith, e .short, laid .width-least)) (e .padded) (e .filled) in
-      let there = names-target itself moved (omega (arith, moved-below, laid .inodes-most)) in
-      subst (λ (n : List ℕ). Names (retargeted moved r) (h .width) into moved n) (ok .new-name u)
-      (subst (λ (p : ℕ). Names (retargeted moved r) (h .width) p moved (entryName r)) (ok .new-parent u) there)
-
   new-entry : Names (entryAt h t new) (h .width) into moved called
-  unfolding viewOf
-  new-entry = rw (m .written) (go (entryUsed v new) refl)
-    where
-      go : (b : Bool) → entryUsed v new ≡ b → Names (cond b (retargeted moved (entryAt h s new)) (entryBytes (h .width) into moved called)) (h .width) into moved called
-      go true u = taken-over (ok .new-below, eqb-false _ _ (not-true _ u))
-      go false u =
-          entry-names (h .width) into moved called (omega (arith, fitting, laid .width-least)) (omega (arith, into-below, laid .inodes-most))
-          (omega (arith, moved-below, laid .inodes-most))
+  new-entry = rw (m .written) (new-names laid f ok fitting)
 
   new-form : EntryForm h t new
   unfolding viewOf

@@ -1,4 +1,4 @@
--- One write of an operation, said by its record, the plan's row for it (rule 74), and a plan filled with such rows. Assumes nothing.
+-- One write of an operation, said by its record, the image with it stored, the plan's row for it (rule 74), and a plan filled with such rows. Assumes nothing.
 use mathlib.Core.Path.{_≡_, refl, sym, ap, ap₂, _∙_}
 use mathlib.Core.Logic.{_≢_}
 use mathlib.Core.List.{List, [], _∷_, _++_, map, map-append}
@@ -7,6 +7,7 @@ use native.Mathlib.Omega.{arith}
 use lib.ListN.{length, length-append, length-map}
 use Rattle.layout.specs.declared.Shape.{Shape}
 use Rattle.layout.specs.Place.{Key, place}
+use Rattle.layout.specs.Record.{store}
 use Rattle.plan.specs.Form.{Row, rowOf, rowPut, rowsPut}
 use Rattle.plan.specs.Many.{rows-join}
 use Rattle.plan.specs.Fit.{rowFor}
@@ -36,6 +37,11 @@ other-section j k n e = n (ap (λ (x : Key). x .section) e)
 
 pub other-index : (j k : Key) → j .index ≢ k .index → j ≢ k
 other-index j k n e = n (ap (λ (x : Key). x .index) e)
+
+-- the image with each write's bytes in place of its record, one after another
+abbrev pub storeAll : Shape → List ℕ → List Write → List ℕ
+storeAll h s [] = s
+storeAll h s (w ∷ ws) = storeAll h (store h s (w .key) (w .body)) ws
 
 -- writes as rows of a plan, for an image of shape h
 module _ (h : Shape) where

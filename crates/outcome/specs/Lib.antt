@@ -1,0 +1,7 @@
+pub mod Outcome
+pub mod Called
+pub mod Rows
+pub mod Finished
+pub mod Applied
+pub mod Consistent
+pub mod Bench

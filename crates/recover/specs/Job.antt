@@ -1,0 +1,79 @@
+-- The job that recovers an image, as definitions: its number, and its plan and scratch buffers afterwards, for any bytes. Assumes nothing.
+use mathlib.Core.Path.{_≡_, sym, ap, _∙_}
+use mathlib.Core.Logic.{_⊎_, ⊎-elim}
+use mathlib.Core.Bool.{Bool, true, false, _||_, cond, or-true}
+use mathlib.Core.List.{List, []}
+use mathlib.Core.Option.{Option, none, some, Option·some-injective}
+use Prim.Native.Nat.{ℕ, _≤_, _<_}
+use native.Mathlib.Omega.{arith}
+use lib.Dec.{ltb}
+use lib.ListN.{length, replicate}
+use borrow.Author.Tests.{le-ltb, lt-ltb}
+use Rattle.seq.specs.Bytes.{put}
+use Rattle.layout.specs.declared.Shape.{Shape}
+use Rattle.layout.specs.Contents.{layoutGood, shapeOf}
+use Rattle.consistency.specs.Others.{journalClear}
+use Rattle.consistency.specs.Consistent.{consistent, unsound}
+use Rattle.plan.specs.Form.{planBytes, rowsPut, cleared}
+use Rattle.plan.specs.Write.{Write, rowsFrom, storeAll}
+use Rattle.recover.specs.Recover.{pendingRows, recover}
+
+-- its numbers: buffers too short, and an image that cannot be recovered
+abbrev pub tooShort : ℕ
+tooShort = 205
+
+abbrev pub notRecoverable : ℕ
+notRecoverable = 204
+
+pub record Recovered : Type 0 where
+  pub number : ℕ
+  pub plan : List ℕ
+  pub scratch : List ℕ
+
+module _ (plan scratch x : List ℕ) where
+  -- a refusal that leaves both as they were
+  abbrev pub refused : ℕ → Recovered
+  refused n = record { number = n; plan = plan; scratch = scratch }
+
+  -- the rows in the plan, the outcome in scratch; what lies past either stays
+  abbrev pub done : Shape → List Write → Recovered
+  done h ws = record { number = 0; plan = rowsPut (cleared plan) 0 (rowsFrom h ws); scratch = put scratch 0 (storeAll h x ws) }
+
+  -- not recoverable: scratch is zero over the image's length
+  abbrev pub byRows : Shape → Option (List Write) → Recovered
+  byRows h none = record { number = notRecoverable; plan = plan; scratch = put scratch 0 (replicate (length x) 0) }
+  byRows h (some ws) = done h ws
+
+  abbrev pub byJournal : Shape → Recovered
+  byJournal h = cond (journalClear h x) (cond (consistent x) (done h []) (refused unsound)) (byRows h (pendingRows h x))
+
+  unfoldable pub recovered : Recovered
+  recovered =
+      cond (ltb (length plan) planBytes || ltb (length scratch) (length x)) (refused tooShort)
+      (cond (layoutGood x) (byJournal (shapeOf x)) (refused unsound))
+
+  -- buffers that are too short are refused
+  pub recovered-short : (length plan < planBytes) ⊎ (length scratch < length x) → recovered ≡ refused tooShort
+  unfolding recovered
+  recovered-short = ⊎-elim (λ (l : length plan < planBytes). rw (lt-ltb _ _ l))
+      (λ (l : length scratch < length x). rw (lt-ltb _ _ l, or-true (ltb (length plan) planBytes)))
+
+  -- with buffers that are long enough, where recovery has rows, so does the job
+  module _ (long : planBytes ≤ length plan) (room : length x ≤ length scratch) (good : layoutGood x ≡ true) where
+    by-journal : recovered ≡ byJournal (shapeOf x)
+    unfolding recovered
+    by-journal = rw (le-ltb _ _ long, le-ltb _ _ room, good)
+
+    pub recovered-done : (h : Shape) (ws : List Write) → h ≡ shapeOf x → recover h x ≡ some ws → recovered ≡ done h ws
+    unfolding recover
+    recovered-done h ws shape e = by-journal ∙ ap byJournal (sym shape) ∙ go (journalClear h x) (consistent x) (pendingRows h x) e
+      where
+        differ : {ws : List Write} → _≡_ {A = Option (List Write)} none (some ws) → ⊥
+        differ e = let z : _≡_ {A = ℕ} 0 1 = cc in omega arith
+
+        go : (a b : Bool) (o : Option (List Write)) → cond a (cond b (some []) none) o ≡ some ws
+            → cond a (cond b (done h []) (refused unsound)) (byRows h o) ≡ done h ws
+        go true true o e = ap (done h) (Option·some-injective _ _ e)
+        go true false o e = absurd (differ e)
+        go false b none e = absurd (differ e)
+        go false b (some us) e = ap (done h) (Option·some-injective _ _ e)

@@ -1,0 +1,1 @@
+// Laws only: a rename survives crashes, since recovery's rows are its own. The subject stands in specs/.
