@@ -27,8 +27,10 @@ use Rattle.edits.specs.ConsistentView.{ConsistentView}
 use Rattle.edits.specs.Moved.{Allowed}
 use Rattle.edits.specs.Refusals.{missing-of, not-above-of, empty-of, unopened-of}
 use Rattle.refusals.specs.declared.case.Case.{Case}
-use Rattle.refusals.specs.Case.{exists, sameFile, otherSystem, insideItself, replacesOther, notEmpty, hasEntries, busy, isOpened, fullParent, noSlot}
+use Rattle.refusals.specs.Case.{exists, hasEntries, isOpened}
+use Rattle.refusals.specs.Passed.{Passed}
 use Rattle.rename.specs.Order.{freeSlot, directoryOf, slotOf, inodeOf, slashOf, nameOf, caseOf}
+use Rattle.rename.specs.Known.{NewFound, entry, name, old-found, new-found}
 
 -- an entry in use, from its test and back
 used-entry : (v : View) (j : ℕ) → j < v .entries → entryUsed v j ≡ true → EntryUsed v j
@@ -39,33 +41,6 @@ free-unused : (v : View) → EntryUsed v (freeSlot v) → ⊥
 unfolding freeSlot
 free-unused v (l, u) =
     u (eqb-true _ _ (not-false _ (not-true _ (first-passes (λ j. not (entryUsed v j)) (v .entries) l))))
-
--- old's walk has found an entry
-old-found : (v : View) (f : Finding) (n : ℕ) → Known v MustExist f → Numbered n f → n ≡ 0 → Existing v (directoryOf f) (slotOf v f) (inodeOf f) (slashOf f)
-old-found v (existing d j i slash) n known numbered z = known
-old-found v (missing d name slash) n known numbered z = absurd known
-old-found v nothing n known numbered z = absurd (numbered z)
-
--- new's has found an entry, or a name that is missing
-data NewFound (v : View) (f : Finding) : Type 0 where
-  entry : Existing v (directoryOf f) (slotOf v f) (inodeOf f) (slashOf f) → NewFound v f
-  name : inodeOf f ≡ absent → slotOf v f ≡ freeSlot v → Missing v (directoryOf f) (nameOf f) → NewFound v f
-
-new-found : (v : View) (f : Finding) (n : ℕ) → Known v MayBeMissing f → Numbered n f → n ≡ 0 → NewFound v f
-new-found v (existing d j i slash) n known numbered z = entry known
-new-found v (missing d name₁ slash) n known numbered z = name refl refl known
-new-found v nothing n known numbered z = absurd (numbered z)
-
--- what the steps that did not hold say
-pub record Steps (v : View) (c : Case) : Type 0 where
-  pub other : sameFile c ≡ false
-  pub systems : otherSystem v c ≡ false
-  pub not-inside : insideItself v c ≡ false
-  pub alike : replacesOther v c ≡ false
-  pub empty : notEmpty v c ≡ false
-  pub idle : busy v c ≡ false
-  pub room : fullParent v c ≡ false
-  pub slot : noSlot v c ≡ false
 
 -- tests that are false, one part after another
 both-false : (a b : Bool) → (a && b) ≡ false → a ≡ true → b ≡ false
@@ -88,13 +63,13 @@ pub record Granted (v : View) (c : Case) (called : List ℕ) : Type 0 where
   -- and else the name was missing
   pub missing : c .replaced ≡ absent → (called ≡ newName v c called) × Missing v (c .into) called
 
-module _ (v : View) (good : ConsistentView v) (few : v .inodes ≤ 512) (c : Case) (called : List ℕ) (p : Steps v c)
+module _ (v : View) (good : ConsistentView v) (few : v .inodes ≤ 512) (c : Case) (called : List ℕ) (p : Passed v c)
     (slash₁ : Bool) (old : Existing v (c .from) (c .old) (c .moved) slash₁) where
   old-entry : EntryUsed v (c .old)
   old-entry = used-entry v (c .old) (old .below) (old .used)
 
   systems-agree : v .system (c .from) ≡ v .system (c .into)
-  systems-agree = eqb-true _ _ (not-false _ (p .systems))
+  systems-agree = eqb-true _ _ (not-false _ (p .one-system))
 
   -- where new's name exists
   module _ (slash : Bool) (new : Existing v (c .into) (c .new) (c .replaced) slash) where
@@ -122,8 +97,8 @@ module _ (v : View) (good : ConsistentView v) (few : v .inodes ≤ 512) (c : Cas
       missing = λ n. absurd (n new-entry);
       other = λ u e. eqb-false _ _ (p .other) (sym e ∙ new .target);
       systems = systems-agree;
-      not-above = not-above-of v good (c .moved) (c .into) (kind-is v (c .into) 2 (new .directory)) (p .not-inside);
-      alike = λ u d. rw (new .target) (kind-is v (c .replaced) 2 (not-false _ (both-false (isDirectory v (c .moved) && exists c) _ (p .alike) (rw (is-kind v (c .moved) 2 d, named-exists)))));
+      not-above = not-above-of v good (c .moved) (c .into) (kind-is v (c .into) 2 (new .directory)) (p .outside);
+      alike = λ u d. rw (new .target) (kind-is v (c .replaced) 2 (not-false _ (both-false (isDirectory v (c .moved) && exists c) _ (p .types .other) (rw (is-kind v (c .moved) 2 d, named-exists)))));
       empty = λ u d. rw (new .target) (empty-of v (c .replaced) (both-false (isDirectory v (c .replaced)) _ (p .empty) (is-kind v (c .replaced) 2 (rw (new .target) at d))));
       unopened = λ u one. rw (new .target) (unopened-of v (c .replaced) (either-false (eqb (c .replaced) (c .current)) _
           (both-false (exists c && eqb (entriesOf v (c .replaced)) 1) _ (p .idle) (rw (named-exists, eq-eqb (entriesOf v (c .replaced)) 1 (rw (new .target) at one))))));
@@ -164,11 +139,11 @@ module _ (v : View) (good : ConsistentView v) (few : v .inodes ≤ 512) (c : Cas
       missing = λ n. rw made-name (missing-of v (c .into) called (lookup-misses v (c .into) called (new .lacks)));
       other = λ u. absurd (unused u);
       systems = systems-agree;
-      not-above = not-above-of v good (c .moved) (c .into) (kind-is v (c .into) 2 (new .directory)) (p .not-inside);
+      not-above = not-above-of v good (c .moved) (c .into) (kind-is v (c .into) 2 (new .directory)) (p .outside);
       alike = λ u. absurd (unused u);
       empty = λ u. absurd (unused u);
       unopened = λ u. absurd (unused u);
-      room = λ d n _. eqb-false _ _ (both-false (isDirectory v (c .moved) && not (eqb (c .from) (c .into)) && not (exists c)) _ (p .room)
+      room = λ d n _. eqb-false _ _ (both-false (isDirectory v (c .moved) && not (eqb (c .from) (c .into)) && not (exists c)) _ (p .countable)
           (rw (is-kind v (c .moved) 2 d, ne-eqb (c .from) (c .into) n, named-missing)));
       new-below = slot-below;
     }
@@ -181,12 +156,12 @@ module _ (v : View) (good : ConsistentView v) (few : v .inodes ≤ 512) (c : Cas
 
 -- Both walks whole, and no step that holds.
 pub granted : (v : View) → ConsistentView v → v .inodes ≤ 512 → (q : Request) (e : Ends) → Facts v MustExist (e .old) → Facts v MayBeMissing (e .new)
-    → e .old .number ≡ 0 → e .new .number ≡ 0 → Steps v (caseOf v q e) → Granted v (caseOf v q e) (nameOf (e .new .found))
+    → e .old .number ≡ 0 → e .new .number ≡ 0 → Passed v (caseOf v q e) → Granted v (caseOf v q e) (nameOf (e .new .found))
 granted v good few q e old new walked also p = go (new-found v (e .new .found) (e .new .number) (new .known) (new .numbered) also)
   where
     first : Existing v (directoryOf (e .old .found)) (slotOf v (e .old .found)) (inodeOf (e .old .found)) (slashOf (e .old .found))
     first = old-found v (e .old .found) (e .old .number) (old .known) (old .numbered) walked
 
     go : NewFound v (e .new .found) → Granted v (caseOf v q e) (nameOf (e .new .found))
-    go (entry x) = existing-granted v good few (caseOf v q e) (nameOf (e .new .found)) p _ first _ x
+    go (entry x _) = existing-granted v good few (caseOf v q e) (nameOf (e .new .found)) p _ first _ x
     go (name none free x) = missing-granted v good few (caseOf v q e) (nameOf (e .new .found)) p _ first none free x
