@@ -1,11 +1,9 @@
 -- The ways in which a component leaves a walk, each with what is known there: the step's definition read backwards. Assumes nothing.
 use mathlib.Core.Path.{_≡_, refl, sym}
-use mathlib.Core.Logic.{_≢_}
 use mathlib.Core.Bool.{Bool, true, false, _&&_, _||_, not, cond, false≢true}
 use mathlib.Core.List.{List}
 use Prim.Native.Nat.{ℕ, _+_, _≤_, _<_}
-use native.Mathlib.Omega.{arith}
-use lib.Dec.{ltb, leb}
+use lib.Dec.{eqb, ltb, leb}
 use lib.ListN.{length}
 use borrow.Author.Tests.{ltb-true, ltb-false, leb-false, not-true, not-false}
 use Rattle.seq.specs.Truth.{by-test}
@@ -18,9 +16,13 @@ use Rattle.component.specs.declared.state.Final.{Final}
 use Rattle.component.specs.declared.state.Final.the-variants.{MustExist, MayBeMissing}
 use Rattle.component.specs.Step.{pathLimit, linkLimit, Position, Step, existing, missing, refuse, names, move, splice, follow, lack, miss, enter, arrive, hit, seek, dots, read, inside, step}
 
+-- the numbers that a component is refused by
+abbrev pub componentNumber : ℕ → Bool
+componentNumber n = eqb n 2 || eqb n 13 || eqb n 20 || eqb n 22 || eqb n 36 || eqb n 40
+
 -- How the component that stands first at w leaves the walk by x.
 pub data Way (v : View) (last : Final) (w : Position) (x : Step) : Type 0 where
-  refuses : (n : ℕ) → n ≢ 0 → x ≡ refuse n w → Way v last w x
+  refuses : (n : ℕ) → componentNumber n ≡ true → x ≡ refuse n w → Way v last w x
   moves : (d : ℕ) → bare (behind (w .rest)) ≡ false → x ≡ move w (behind (w .rest)) d → Way v last w x
   follows : (i : ℕ) → isSymlink v i ≡ true → bare (behind (w .rest)) ≡ false → w .links < linkLimit
       → length (v .text (v .field i)) + length (behind (w .rest)) ≤ pathLimit
@@ -53,13 +55,13 @@ module _ (v : View) (who : Credentials) (last : Final) (w : Position) where
   abbrev slot : ℕ
   slot = lookup v (w .directory) name
 
-  way-refuse : (n : ℕ) → 0 < n → Way v last w (refuse n w)
-  way-refuse n some = refuses n (λ e. omega arith) refl
+  way-refuse : (n : ℕ) → componentNumber n ≡ true → Way v last w (refuse n w)
+  way-refuse n listed = refuses n listed refl
 
   way-follow : (i : ℕ) → isSymlink v i ≡ true → bare rest ≡ false → Way v last w (follow w (v .text (v .field i)) rest)
   way-follow i link more =
-      by-test (Way v last w) (leb linkLimit (w .links)) _ _ (λ e. way-refuse 40 (omega arith)) (λ few.
-      by-test (Way v last w) (ltb pathLimit (length (v .text (v .field i)) + length rest)) _ _ (λ e. way-refuse 36 (omega arith)) (λ short.
+      by-test (Way v last w) (leb linkLimit (w .links)) _ _ (λ e. way-refuse 40 refl) (λ few.
+      by-test (Way v last w) (ltb pathLimit (length (v .text (v .field i)) + length rest)) _ _ (λ e. way-refuse 36 refl) (λ short.
       follows i link more (leb-false _ _ few) (ltb-false _ _ short) refl))
 
   way-enter : (i : ℕ) → bare rest ≡ false → Way v last w (enter v w rest i)
@@ -68,7 +70,7 @@ module _ (v : View) (who : Credentials) (last : Final) (w : Position) where
   module _ (place : isDirectory v (w .directory) ≡ true) where
     way-arrive : slot < v .entries → Way v last w (arrive v w rest slot)
     way-arrive below =
-        by-test (Way v last w) (not (empty rest) && not (isDirectory v (v .target slot))) _ _ (λ e. way-refuse 20 (omega arith)) (λ e.
+        by-test (Way v last w) (not (empty rest) && not (isDirectory v (v .target slot))) _ _ (λ e. way-refuse 20 refl) (λ e.
         exists (not (empty rest)) place below (slash-asks (not (empty rest)) (isDirectory v (v .target slot)) e) refl)
 
     way-hit : slot < v .entries → Way v last w (hit v w rest slot)
@@ -77,25 +79,25 @@ module _ (v : View) (who : Credentials) (last : Final) (w : Position) where
 
     module _ (short : length name ≤ v .room) (plain : (isDot name || isDotDot name) ≡ false) where
       way-lack : (f : Final) → last ≡ f → v .entries ≤ slot → Way v last w (lack f w name rest)
-      way-lack MustExist is none = way-refuse 2 (omega arith)
+      way-lack MustExist is none = way-refuse 2 refl
       way-lack MayBeMissing is none = lacks (not (empty rest)) is place none short plain refl
 
       way-seek : Way v last w (seek v last w name rest)
       way-seek =
           by-test (Way v last w) (ltb slot (v .entries)) _ _ (λ hit-one. way-hit (ltb-true _ _ hit-one)) (λ none.
-          by-test (Way v last w) (not (bare rest)) _ _ (λ e. way-refuse 2 (omega arith)) (λ e. way-lack last refl (ltb-false _ _ none)))
+          by-test (Way v last w) (not (bare rest)) _ _ (λ e. way-refuse 2 refl) (λ e. way-lack last refl (ltb-false _ _ none)))
 
     way-dots : Way v last w (dots v w name rest)
-    way-dots = by-test (Way v last w) (bare rest) _ _ (λ e. way-refuse 22 (omega arith)) (λ more. moves _ more refl)
+    way-dots = by-test (Way v last w) (bare rest) _ _ (λ e. way-refuse 22 refl) (λ more. moves _ more refl)
 
     way-read : Way v last w (read v last w name rest)
     way-read =
-        by-test (Way v last w) (ltb (v .room) (length name)) _ _ (λ e. way-refuse 36 (omega arith)) (λ short.
+        by-test (Way v last w) (ltb (v .room) (length name)) _ _ (λ e. way-refuse 36 refl) (λ short.
         by-test (Way v last w) (isDot name || isDotDot name) _ _ (λ e. way-dots) (λ plain. way-seek (ltb-false _ _ short) plain))
 
   pub step-way : Way v last w (step v who last w)
   unfolding step
   step-way =
-      by-test (Way v last w) (not (isDirectory v (w .directory))) _ _ (λ e. way-refuse 20 (omega arith)) (λ place.
-      by-test (Way v last w) (not (w .waived || allows v who (w .directory) searchBit)) _ _ (λ e. way-refuse 13 (omega arith)) (λ e.
+      by-test (Way v last w) (not (isDirectory v (w .directory))) _ _ (λ e. way-refuse 20 refl) (λ place.
+      by-test (Way v last w) (not (w .waived || allows v who (w .directory) searchBit)) _ _ (λ e. way-refuse 13 refl) (λ e.
       way-read (not-false (isDirectory v (w .directory)) place)))

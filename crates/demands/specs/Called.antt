@@ -6,27 +6,19 @@ use mathlib.Core.List.{List, [], _∷_, _++_}
 use Prim.Native.Nat.{ℕ, _-_, _≤_, _<_}
 use native.Mathlib.Decide.{ℕ-discrete}
 use native.Mathlib.Omega.{arith}
-use lib.Dec.{eqb, ltb}
+use lib.Dec.{eqb}
 use lib.ListN.{length}
-use borrow.Author.Tests.{eqb-true, eqb-false, ltb-false, not-true, not-false, eq-eqb, ne-eqb}
+use borrow.Author.Tests.{eqb-true, not-false, eq-eqb, ne-eqb}
 use Rattle.seq.specs.Number.{span}
-use Rattle.seq.specs.Bytes.{noZero, part-length}
+use Rattle.seq.specs.Bytes.{part-length}
 use Rattle.layout.specs.declared.Shape.{Shape}
-use Rattle.layout.specs.Contents.{layoutGood, shapeOf, Read, good-laid}
+use Rattle.layout.specs.Contents.{shapeOf, Read}
 use Rattle.layout.specs.Record.{record-length}
-use Rattle.layout.specs.View.{View, viewOf, entryAt, isSymlink, nameRoom, readable-text}
+use Rattle.layout.specs.View.{View, viewOf, entryAt, nameRoom}
 use Rattle.names.specs.Name.{nameGood}
-use Rattle.consistency.specs.Others.{journalClear}
-use Rattle.consistency.specs.Consistent.{bodiesGood}
-use Rattle.consistency.specs.Facts.{Bodies, bodies-is, bodies-readable}
+use Rattle.consistency.specs.Facts.{Bodies}
 use Rattle.encode.specs.Journal.{absent}
 use Rattle.paths.specs.declared.request.Request.{Request}
-use Rattle.paths.specs.Request.{requestGood, good-old, good-new}
-use Rattle.component.specs.declared.state.Final.the-variants.{MustExist, MayBeMissing}
-use Rattle.walk.specs.Ends.{Facts, walk-facts}
-use Rattle.walk.specs.Walk.{halt}
-use Rattle.walk.specs.Both.{walksOf, newWalk}
-use Rattle.plan.specs.Form.{planBytes}
 use Rattle.edits.specs.Kinds.{EntryUsed}
 use Rattle.edits.specs.Bodies.{bodies-consistent, bodies-formed}
 use Rattle.refusals.specs.declared.case.Case.{Case}
@@ -35,9 +27,10 @@ use Rattle.refusals.specs.Case.{exists}
 use Rattle.refusals.specs.Steps.{Rule, refuse, decide, steps}
 use Rattle.refusals.specs.Passed.{Passes, passes, Passed, planned-passed}
 use Rattle.rename.specs.Plan.{moveOf}
-use Rattle.rename.specs.Order.{view, walks, caseOf, early, late, order}
+use Rattle.rename.specs.Order.{walks, caseOf, early, late, order}
 use Rattle.rename.specs.Job.{answer, move, called}
 use Rattle.outcome.specs.Called.{Called, move-text}
+use Rattle.demands.specs.Begun.{read, clear, bodies, old-facts, new-facts}
 use Rattle.demands.specs.Allowed.{newName, Granted, granted}
 
 -- where no test of a list holds, the part behind decides
@@ -60,25 +53,11 @@ module _ (s plan : List ℕ) (q : Request) (old new : List ℕ) (planned : answe
   unfolding order
   passed = passes (order s plan q old new) refl planned
 
-  pub long : planBytes ≤ length plan
+  -- nothing was refused before the walks
+  begun : decide (early s plan q old new) ≡ Planned
   unfolding order
-  long = ltb-false _ _ (passed .0)
-
-  pub read : Read s h
-  unfolding order
-  read = let g = not-false (layoutGood s) (passed .1 .0) in record { good = g; shape = refl; laid = good-laid s g }
-
-  clear : journalClear h s ≡ true
-  unfolding order
-  clear = not-false _ (passed .1 .1 .0)
-
-  pub bodies : Bodies h s
-  unfolding order
-  bodies = bodies-is h s (not-false _ (passed .1 .1 .1 .0))
-
-  request : requestGood v q old new ≡ true
-  unfolding order
-  request = not-false _ (passed .1 .1 .1 .1 .0)
+  begun =
+      rw (passed .0, passed .1 .0, passed .1 .1 .0, passed .1 .1 .1 .0, passed .1 .1 .1 .1 .0)
 
   old-whole : walks s plan q old new .old .number ≡ 0
   unfolding order
@@ -99,23 +78,15 @@ module _ (s plan : List ℕ) (q : Request) (old new : List ℕ) (planned : answe
       newRule : Rule
       newRule = refuse (not (eqb (walks s plan q old new .new .number) 0)) (walks s plan q old new .new .number)
 
-  texts : (i : ℕ) → isSymlink v i ≡ true → noZero (v .text (v .field i)) ≡ true
-  texts = readable-text h s (bodies-readable h s (read .laid) bodies)
+  abbrev image : Bodies h s
+  image = bodies s plan q old new begun
 
-  -- the facts of both walks
-  old-facts : Facts v MustExist (walks s plan q old new .old)
-  unfolding walksOf
-  old-facts = walk-facts v MustExist texts (q .who) (q .current) (q .starts .old) old (good-old v q old new request)
-
-  new-facts : Facts v MayBeMissing (walks s plan q old new .new)
-  unfolding walksOf
-  new-facts =
-      subst (λ (b : Bool). Facts v MayBeMissing (cond b (newWalk v q new) (halt (walks s plan q old new .old .number)))) (sym (eq-eqb _ 0 old-whole))
-      (walk-facts v MayBeMissing texts (q .who) (q .current) (q .starts .new) new (good-new v q old new request))
+  abbrev layout : Read s h
+  layout = read s plan q old new begun
 
   pub grant : Granted v c (called s plan q old new)
   unfolding viewOf
-  grant = granted v (bodies-consistent bodies) (read .laid .inodes-most) q (walks s plan q old new) old-facts new-facts old-whole new-whole steps-passed
+  grant = granted v (bodies-consistent image) (layout .laid .inodes-most) q (walks s plan q old new) (old-facts s plan q old new begun) (new-facts s plan q old new begun) old-whole new-whole steps-passed
 
   -- ---- the name of the new entry is a good one
 
@@ -131,12 +102,13 @@ module _ (s plan : List ℕ) (q : Request) (old new : List ℕ) (planned : answe
   entry-good : (j : ℕ) → EntryUsed v j → Good (v .name j)
   unfolding viewOf
   entry-good j u =
-      let form = bodies-formed bodies .entry j (u .0) (u .1) in
-      let long : length (entryAt h s j) ≡ h .width = record-length h s 1 j (read .laid .long) (omega arith) (u .0) in
-      let l = part-length (entryAt h s j) 8 (v .nameLength j) (omega (arith, form .short, read .laid .width-least)) in
+      let form = bodies-formed image .entry j (u .0) (u .1) in
+      let long : length (entryAt h s j) ≡ h .width = record-length h s 1 j (layout .laid .long) (omega arith) (u .0) in
+      let l = part-length (entryAt h s j) 8 (v .nameLength j) (omega (arith, form .short, layout .laid .width-least)) in
       record { some = λ z. u .1 (sym l ∙ z); short = rw l (form .short); good = form .name }
 
   name-good : Good name
+  unfolding viewOf
   name-good = go (ℕ-discrete (c .replaced) absent)
     where
       go : Dec (c .replaced ≡ absent) → Good name
@@ -155,9 +127,9 @@ module _ (s plan : List ℕ) (q : Request) (old new : List ℕ) (planned : answe
   pub planned-called : q .now < span 8 → Called h s (move s plan q old new) (called s plan q old new)
   unfolding moveOf
   planned-called time = record {
-    read = read;
-    bodies = bodies;
-    clear = clear;
+    read = layout;
+    bodies = image;
+    clear = clear s plan q old new begun;
     name = name;
     missing = λ none. grant .missing none .0;
     nonempty = name-good .some;

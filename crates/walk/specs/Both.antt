@@ -54,7 +54,7 @@ module _ (v : View) (q : Request) (old new : List ℕ) (first second : Walked) (
           is = e .is ∙ h;
           range = e .range;
           bound = rw (ap (λ (x : End). x .steps) (e .is)) zero-le;
-          facts = subst (λ (x : End). Facts v MayBeMissing x) (sym (e .is)) (record { known = tt; numbered = some });
+          facts = subst (λ (x : End). Facts v MayBeMissing x) (sym (e .is)) (record { known = tt; numbered = some; listed = walked .facts .listed });
         };
       }
 

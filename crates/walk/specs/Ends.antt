@@ -6,7 +6,7 @@ use mathlib.Core.List.{List}
 use Prim.Native.Nat.{ℕ, _≤_, _<_}
 use lib.Dec.{eqb}
 use lib.ListN.{length, getD}
-use Rattle.seq.specs.Truth.{and-both}
+use Rattle.seq.specs.Truth.{and-both, or-left, or-right, not-both}
 use Rattle.seq.specs.Search.{all-at, all-of}
 use Rattle.seq.specs.Bytes.{noZero, sameBytes}
 use Rattle.layout.specs.View.{View, entryUsed, isDirectory, isSymlink}
@@ -18,8 +18,8 @@ use Rattle.paths.specs.Lookup.{lookup, lookup-held, lookup-none}
 use Rattle.component.specs.declared.state.Final.{Final}
 use Rattle.component.specs.declared.state.Final.the-variants.{MustExist, MayBeMissing}
 use Rattle.component.specs.Step.{Position, Finding, existing, missing, nothing, End, Step, goes, ends, step}
-use Rattle.component.specs.Ways.{Way, refuses, moves, follows, exists, lacks, step-way}
-use Rattle.walk.specs.Walk.{walk, by-walk}
+use Rattle.component.specs.Ways.{componentNumber, Way, refuses, moves, follows, exists, lacks, step-way}
+use Rattle.walk.specs.Walk.{haltNumber, walk, by-walk}
 use Rattle.walk.specs.Bound.{Leads, ending, going, after-is, start-leads}
 
 -- A path that names inode i by the entry in slot j of directory d; it may end in a slash only if that is a directory.
@@ -53,9 +53,20 @@ Numbered n (existing d j i slash) = n ≡ 0
 Numbered n (missing d name slash) = n ≡ 0
 Numbered n nothing = n ≢ 0
 
+-- the numbers that a walk is answered with
+abbrev pub walkNumber : ℕ → Bool
+walkNumber n = eqb n 0 || haltNumber n || componentNumber n
+
 pub record Facts (v : View) (last : Final) (e : End) : Type 0 where
   pub known : Known v last (e .found)
   pub numbered : Numbered (e .number) (e .found)
+  pub listed : walkNumber (e .number) ≡ true
+
+-- a refusal, by a number of either list
+refusal-facts : (v : View) (last : Final) (n steps : ℕ) (p : ℕ → Bool) → p 0 ≡ false → p n ≡ true → walkNumber n ≡ true
+    → Facts v last (record { number = n; steps = steps; found = nothing })
+refusal-facts v last n steps p zero-not here listed =
+    record { known = tt; numbered = λ z. not-both (p n) here (ap p z ∙ zero-not); listed = listed }
 
 -- a component without a zero byte, and not of dots, is a good name
 good-component : (p : List ℕ) → noZero p ≡ true → (isDot (component p) || isDotDot (component p)) ≡ false → nameGood (component p) ≡ true
@@ -88,12 +99,13 @@ module _ (v : View) (last : Final) (texts : (i : ℕ) → isSymlink v i ≡ true
   missing-known l may d name slash m = subst (λ (f : Final). Known v f (missing d name slash)) (sym may) m
 
   hands-way : (w : Position) (x : Step) → bare (w .rest) ≡ false → noZero (w .rest) ≡ true → Way v last w x → Hands x
-  hands-way w x more plain (refuses n some e) = subst Hands (sym e) (record { known = tt; numbered = some })
+  hands-way w x more plain (refuses n listed e) =
+      subst Hands (sym e) (refusal-facts v last n _ componentNumber refl listed (or-right (eqb n 0 || haltNumber n) (componentNumber n) listed))
   hands-way w x more plain (moves d left e) = subst Hands (sym e) (behind-plain (w .rest) plain)
   hands-way w x more plain (follows i link left few short e) =
       subst Hands (sym e) (joined-plain (v .text (v .field i)) (behind (w .rest)) (texts i link) (behind-plain (w .rest) plain))
   hands-way w x more plain (exists slash place below slashed e) =
-      subst Hands (sym e) (record { known = existing-facts (w .directory) (component (w .rest)) slash place below slashed; numbered = refl })
+      subst Hands (sym e) (record { known = existing-facts (w .directory) (component (w .rest)) slash place below slashed; numbered = refl; listed = refl })
   hands-way w x more plain (lacks slash may place none short dots e) =
       subst Hands (sym e) (record {
         known = missing-known last may (w .directory) (component (w .rest)) slash (record {
@@ -104,6 +116,7 @@ module _ (v : View) (last : Final) (texts : (i : ℕ) → isSymlink v i ≡ true
           good = good-component (w .rest) plain dots;
         });
         numbered = refl;
+        listed = refl;
       })
 
   module _ (who : Credentials) where
@@ -118,5 +131,5 @@ module _ (v : View) (last : Final) (texts : (i : ℕ) → isSymlink v i ≡ true
     -- the facts hold of the end of every walk
     pub walk-facts : (current start : ℕ) (path : List ℕ) → noZero path ≡ true → Facts v last (walk v who last current start path)
     walk-facts current start path plain =
-        by-walk v who last (Facts v last) path (λ n some. record { known = tt; numbered = some })
+        by-walk v who last (Facts v last) path (λ n listed. refusal-facts v last n 0 haltNumber refl listed (or-left (eqb n 0 || haltNumber n) (componentNumber n) (or-right (eqb n 0) (haltNumber n) listed)))
         (λ short more directory waived. led-facts (start-leads v who last directory waived path short more) more plain) current start

@@ -1,10 +1,9 @@
 -- The walk of a whole path: where it begins, and component after component to its end (rules 48 and 53 to 56). Assumes nothing.
-use mathlib.Core.Path.{_≡_, ap, _∙_}
+use mathlib.Core.Path.{_≡_, refl, ap, _∙_}
 use mathlib.Core.Logic.{_≢_}
-use mathlib.Core.Bool.{Bool, true, false, _&&_, cond}
+use mathlib.Core.Bool.{Bool, true, false, _&&_, _||_, cond}
 use mathlib.Core.List.{List}
 use Prim.Native.Nat.{ℕ, zero, suc, _≤_, _<_}
-use native.Mathlib.Omega.{arith}
 use lib.Dec.{eqb, ltb}
 use lib.ListN.{length}
 use borrow.Author.Tests.{ltb-false, eq-eqb, ne-eqb, lt-ltb, le-ltb}
@@ -20,6 +19,10 @@ use Rattle.walk.specs.declared.start.Start.the-variants.{Closed, At}
 -- rule 48: the start that stands for the current directory
 abbrev pub noHandle : ℕ
 noHandle = 255
+
+-- the numbers that a path is refused by before its walk begins
+abbrev pub haltNumber : ℕ → Bool
+haltNumber n = eqb n 2 || eqb n 36 || eqb n 9 || eqb n 16
 
 -- a path that no walk begins on
 abbrev pub halt : ℕ → End
@@ -76,16 +79,16 @@ module _ (v : View) (who : Credentials) (last : Final) where
     walk-begins some short = rw (ne-eqb _ _ some, le-ltb _ _ short)
 
   -- what holds of a walk that does not begin, and of one that does, holds of every walk
-  module _ (P : End → Type 0) (path : List ℕ) (halts : (n : ℕ) → n ≢ 0 → P (halt n))
+  module _ (P : End → Type 0) (path : List ℕ) (halts : (n : ℕ) → haltNumber n ≡ true → P (halt n))
       (begins : length path ≤ pathLimit → bare path ≡ false → (directory : ℕ) (waived : Bool) → P (walkFrom stepLimit (startAt directory waived path))) where
     by-begun : length path ≤ pathLimit → (start : Start) → P (begun start path)
-    by-begun short Closed = halts 9 (λ e. omega arith)
+    by-begun short Closed = halts 9 refl
     by-begun short (At directory waived) =
-        by-test P (bare path) _ _ (λ e. halts 16 (λ z. omega arith)) (λ more. begins short more directory waived)
+        by-test P (bare path) _ _ (λ e. halts 16 refl) (λ more. begins short more directory waived)
 
     pub by-walk : (current start : ℕ) → P (walk current start path)
     unfolding walk
     by-walk current start =
-        by-test P (empty path) _ _ (λ e. halts 2 (λ z. omega arith)) (λ some.
-        by-test P (ltb pathLimit (length path)) _ _ (λ e. halts 36 (λ z. omega arith)) (λ short.
+        by-test P (empty path) _ _ (λ e. halts 2 refl) (λ some.
+        by-test P (ltb pathLimit (length path)) _ _ (λ e. halts 36 refl) (λ short.
         by-begun (ltb-false _ _ short) (startOf v current start path)))

@@ -1,0 +1,75 @@
+-- What is known where nothing is refused before the walks: a consistent image, a good request, and the facts of both walks. Assumes nothing.
+use mathlib.Core.Path.{_≡_, refl, sym, ap, _∙_, subst}
+use mathlib.Core.Bool.{Bool, true, false, not, cond}
+use mathlib.Core.List.{List, []}
+use Prim.Native.Nat.{ℕ, _≤_}
+use native.Mathlib.Decide.{ℕ-discrete}
+use lib.ListN.{length}
+use lib.Dec.{eqb}
+use borrow.Author.Tests.{ltb-false, not-false, eq-eqb, ne-eqb, eqb-false}
+use Rattle.seq.specs.Bytes.{noZero}
+use Rattle.layout.specs.declared.Shape.{Shape}
+use Rattle.layout.specs.Contents.{layoutGood, shapeOf, Read, good-laid}
+use Rattle.layout.specs.View.{View, viewOf, isSymlink, readable-text}
+use Rattle.consistency.specs.Others.{journalClear}
+use Rattle.consistency.specs.Facts.{Bodies, bodies-is, bodies-readable}
+use Rattle.paths.specs.declared.request.Request.{Request}
+use Rattle.paths.specs.Request.{requestGood, good-old, good-new}
+use Rattle.component.specs.declared.state.Final.the-variants.{MustExist, MayBeMissing}
+use Rattle.component.specs.Step.{End}
+use Rattle.walk.specs.Walk.{halt}
+use Rattle.walk.specs.Ends.{Facts, walk-facts}
+use Rattle.walk.specs.Both.{walksOf, oldWalk, newWalk, newAfter}
+use Rattle.plan.specs.Form.{planBytes}
+use Rattle.refusals.specs.declared.case.Answer.the-variants.{Planned}
+use Rattle.refusals.specs.Steps.{decide}
+use Rattle.refusals.specs.Passed.{Passes, passes}
+use Rattle.rename.specs.Order.{walks, early}
+
+module _ (s plan : List ℕ) (q : Request) (old new : List ℕ) (begun : decide (early s plan q old new) ≡ Planned) where
+  abbrev h : Shape
+  h = shapeOf s
+
+  abbrev v : View
+  v = viewOf h s
+
+  passed : Passes (early s plan q old new)
+  passed = passes (early s plan q old new) refl begun
+
+  pub long : planBytes ≤ length plan
+  long = ltb-false _ _ (passed .0)
+
+  pub read : Read s h
+  read = let g = not-false (layoutGood s) (passed .1 .0) in record { good = g; shape = refl; laid = good-laid s g }
+
+  pub clear : journalClear h s ≡ true
+  clear = not-false _ (passed .1 .1 .0)
+
+  pub bodies : Bodies h s
+  bodies = bodies-is h s (not-false _ (passed .1 .1 .1 .0))
+
+  request : requestGood v q old new ≡ true
+  request = not-false _ (passed .1 .1 .1 .1 .0)
+
+  texts : (i : ℕ) → isSymlink v i ≡ true → noZero (v .text (v .field i)) ≡ true
+  texts = readable-text h s (bodies-readable h s (read .laid) bodies)
+
+  -- the facts of both walks
+  first-facts : Facts v MustExist (oldWalk v q old)
+  first-facts = walk-facts v MustExist texts (q .who) (q .current) (q .starts .old) old (good-old v q old new request)
+
+  pub old-facts : Facts v MustExist (walks s plan q old new .old)
+  unfolding walksOf
+  old-facts = first-facts
+
+  pub new-facts : Facts v MayBeMissing (walks s plan q old new .new)
+  unfolding walksOf
+  new-facts = go (ℕ-discrete (oldWalk v q old .number) 0)
+    where
+      go : Dec (oldWalk v q old .number ≡ 0) → Facts v MayBeMissing (newAfter v q (oldWalk v q old .number) new)
+      go (yes z) =
+          subst (λ (b : Bool). Facts v MayBeMissing (cond b (newWalk v q new) (halt (oldWalk v q old .number)))) (sym (eq-eqb _ 0 z))
+          (walk-facts v MayBeMissing texts (q .who) (q .current) (q .starts .new) new (good-new v q old new request))
+      go (no n) =
+          subst (λ (b : Bool). Facts v MayBeMissing (cond b (newWalk v q new) (halt (oldWalk v q old .number)))) (sym (ne-eqb _ 0 n))
+          (record { known = tt; numbered = n; listed = first-facts .listed })
