@@ -1,4 +1,4 @@
--- On an image that is the one before or the one after a rename, record by record, the results are those on the image before: what recovery writes is what the rename wrote. Assumes nothing.
+-- On an image on the way of a rename, as before or as after record by record, the results are those on the image before. Assumes nothing.
 use mathlib.Core.Path.{_≡_, refl, sym, ap, ap₂, _∙_}
 use mathlib.Core.Logic.{_≢_, _⊎_, ⊎-elim}
 use mathlib.Core.Bool.{Bool, true, false, not}
@@ -23,7 +23,8 @@ use Rattle.results.specs.Records.{replaced-freed}
 use Rattle.results.specs.Again.{holder-kind, holder-again, moved-again, replaced-kind, replaced-again, afresh}
 use Rattle.afresh.specs.Recount.{Agrees, entries-agree, links-agree}
 
--- The image x is on the way of the rename on s: every entry off the two slots is as before, and every inode that the rename writes is as before or as after.
+-- The image x is on the way of the rename on s: an entry off the two slots is as before, and an inode that the rename writes is as before
+-- or as after.
 pub record PartWay (h : Shape) (s x : List ℕ) (m : Move) : Type 0 where
   pub entry : (j : ℕ) → j < h .entries → j ≢ m .old → j ≢ m .new → entryAt h x j ≡ entryAt h s j
   pub moved : (inodeAt h x (m .moved) ≡ inodeAt h s (m .moved)) ⊎ (inodeAt h x (m .moved) ≡ movedAfter h s m)
@@ -80,7 +81,8 @@ module _ (h : Shape) (s x : List ℕ) (m : Move) (laid : Laid h s) (range : InIm
           let k : viewOf h x .kind (m .replaced) ≡ viewOf h s .kind (m .replaced) =
           ⊎-elim (λ z. ap inodeKind z) (λ z. ap inodeKind z ∙ replaced-kind h left links (m .now) _ n) (way .replaced named) in
           ap (λ (c : ℕ). replacedBytes h left c (m .now) (inodeAt h x (m .replaced))) (links-agree agrees (m .replaced) k)
-          ∙ afresh (λ r. replacedBytes h left links (m .now) r) (inodeAt h s (m .replaced)) _ (replaced-again _ (long (m .replaced) (range .replaced named)) h left links (m .now)) (way .replaced named)
+          ∙ afresh (λ r. replacedBytes h left links (m .now) r) (inodeAt h s (m .replaced)) _
+          (replaced-again _ (long (m .replaced) (range .replaced named)) h left links (m .now)) (way .replaced named)
 
   -- The results on x are the results on s, row by row and byte by byte.
   pub results-same : results h x m ≡ results h s m

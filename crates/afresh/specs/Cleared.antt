@@ -1,4 +1,4 @@
--- The counts as edited are those of the entries with the old one cleared, on an image where the new entry stands: how the rules say what recovery counts. Assumes nothing.
+-- Where the new entry stands, the counts as edited are those of the entries with the old one cleared. Assumes nothing.
 use mathlib.Core.Path.{_≡_, refl, sym, ap, _∙_}
 use mathlib.Core.Logic.{_≢_, inl}
 use mathlib.Core.List.{List}

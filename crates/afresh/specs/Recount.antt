@@ -1,4 +1,4 @@
--- Views that agree off the two slots of a move, and in the types of what is still named, have the same counts as edited; where the edit has been made these are the counts. Assumes nothing.
+-- Views that agree off the slots of a move, and in the types of what is still named, have the same counts as edited. Assumes nothing.
 use mathlib.Core.Path.{_≡_, refl, sym, ap, _∙_}
 use mathlib.Core.Logic.{_≢_, _⊎_, ⊎-elim}
 use mathlib.Core.Bool.{Bool, true, false, _&&_}

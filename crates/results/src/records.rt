@@ -7,6 +7,7 @@ ghost use Rattle.layout.specs.Contents.{Laid};
 ghost use Rattle.layout.specs.View.{inodeAt};
 ghost use Rattle.results.specs.Results.{movedAfter, holderAfter, replacedAfter};
 
+// Inode i as it stands, copied.
 fn inode(s: &[u8], h: Shape, i: usize) -> [u8; 32]
     requires { ⌜ Laid h (now s) × (i < h .inodes) ⌝ }
     ensures { λ r. ⌜ r ≡ inodeAt h (now (s .entry)) i ⌝ }

@@ -9,6 +9,7 @@ ghost use Rattle.plan.specs.Form.{planRows, planBytes, rowPut};
 ghost use Rattle.plan.specs.Write.{rowFrom, Filled};
 ghost use Rattle.results.specs.Results.{InImage, movedRow, holderRow, alwaysRows, intoRows, replacedRows, results};
 
+// Their ordering group.
 const GROUP: u8 = 3;
 
 // The number that names no replaced inode and no text.

@@ -2,9 +2,9 @@
 use mathlib.Core.Path.{ap, ap₂, _∙_}
 use mathlib.Core.List.{List}
 use Prim.Native.Nat.{ℕ}
+use borrow.Author.Needs.{needs}
 use Rattle.encode.specs.Inode.{withLinks, withModified, withChanged}
 use Rattle.results.specs.Results.{holderBytes}
-use borrow.Author.Needs.{needs}
 use Rattle.results.proofs.records.holder.Statement.{statement}
 use Rattle.results.proofs.records.holder.Tie as tie
 
@@ -35,13 +35,15 @@ set-changed-requires c κs = search needs
 returns : tie.Need-returns
 unfolding holderBytes
 returns c =
-    let m = c .before .before .before .before .before .before .before .before .before .before .before .before .args .m in
-    let counted = c .before .before .before .before .before .before .before .before .before .before .links-after .ensures .0 in
-    let read = c .before .before .before .before .before .before .before .before .before .inode .ensures in
-    c .before .set-changed .ensures
-    ∙ ap (λ x. withChanged (m .now) x) (c .before .before .before .before .set-modified .ensures
-    ∙ ap (λ x. withModified (m .now) x) (c .before .before .before .before .before .before .before .set-links .ensures
-    ∙ ap₂ (λ (n : ℕ) (x : List ℕ). withLinks n x) counted read))
+    let changed = c .before in
+    let modified = changed .before .before .before in
+    let linked = modified .before .before .before in
+    let read = linked .before .before in
+    let m = read .before .before .before .args .m in
+    let counted = read .before .links-after .ensures .0 in
+    changed .set-changed .ensures
+    ∙ ap (λ x. withChanged (m .now) x) (modified .set-modified .ensures
+    ∙ ap (λ x. withModified (m .now) x) (linked .set-links .ensures ∙ ap₂ (λ (n : ℕ) (x : List ℕ). withLinks n x) counted (read .inode .ensures)))
 
 pub holder-spec : {M : Type 1} → statement M
 holder-spec =

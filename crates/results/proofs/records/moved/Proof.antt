@@ -1,9 +1,9 @@
 -- `results::records::moved` meets its contract. Assumes nothing.
 use mathlib.Core.Path.{ap, sym, _∙_}
+use borrow.Author.Needs.{needs}
 use Rattle.layout.specs.Fields.{inodeKind}
 use Rattle.encode.specs.Inode.{withField, withChanged}
 use Rattle.results.specs.Records.{moved-directory, moved-other}
-use borrow.Author.Needs.{needs}
 use Rattle.results.proofs.records.moved.Statement.{statement}
 use Rattle.results.proofs.records.moved.Tie as tie
 

@@ -2,9 +2,9 @@
 use mathlib.Core.Path.{ap, ap₂, sym, _∙_}
 use mathlib.Core.List.{List}
 use Prim.Native.Nat.{ℕ}
+use borrow.Author.Needs.{needs}
 use Rattle.encode.specs.Inode.{withLinks, withChanged}
 use Rattle.results.specs.Records.{replaced-freed, replaced-kept}
-use borrow.Author.Needs.{needs}
 use Rattle.results.proofs.records.replaced.Statement.{statement}
 use Rattle.results.proofs.records.replaced.Tie as tie
 
@@ -34,12 +34,14 @@ set-changed-requires c κs = search needs
 
 returns-2 : tie.Need-returns-2
 returns-2 c =
-    let m = c .before .before .before .before .before .before .before .before .before .before .before .args .m in
-    let counted = c .before .before .before .before .before .before .before .links-after .ensures .0 in
-    let read = c .before .before .before .before .before .before .inode .ensures in
-    let test = c .before .before .before .before .before .before .before .before in
-    c .before .set-changed .ensures
-    ∙ ap (λ x. withChanged (m .now) x) (c .before .before .before .before .set-links .ensures ∙ ap₂ (λ (n : ℕ) (x : List ℕ). withLinks n x) counted read)
+    let changed = c .before in
+    let linked = changed .before .before .before in
+    let read = linked .before .before in
+    let test = read .before .before in
+    let m = test .before .before .before .args .m in
+    let counted = read .before .links-after .ensures .0 in
+    changed .set-changed .ensures
+    ∙ ap (λ x. withChanged (m .now) x) (linked .set-links .ensures ∙ ap₂ (λ (n : ℕ) (x : List ℕ). withLinks n x) counted (read .inode .ensures))
     ∙ sym (replaced-kept _ _ _ (m .now) _ (λ e. test .if1 .left (test .before .entries-after .ensures .0 ∙ e)))
 
 pub replaced-spec : {M : Type 1} → statement M

@@ -24,8 +24,11 @@ same-length c = search needs
 
 returns : tie.Need-returns
 returns c =
-    let args = c .before .before .before .before .before .before .before .before .before .before .before .before .before .before .before .before .args in
-    results-filled (args .h) (args .s .now) (args .m) (c .before .before .before .before .before .before .before .before .before .before .before .before .put-always .ensures) (c .before .before .before .before .before .before .before .before .put-into .ensures) (c .before .before .before .before .put-replaced .ensures)
+    let third = c .before .before .before .before in
+    let second = third .before .before .before .before in
+    let first = second .before .before .before .before in
+    let args = first .before .before .before .before .args in
+    results-filled (args .h) (args .s .now) (args .m) (first .put-always .ensures) (second .put-into .ensures) (third .put-replaced .ensures)
     (text-none (args .h) (args .s .now) (args .m) (c .if1 .taken))
 
 text-requires : tie.Need-text-requires
@@ -46,10 +49,14 @@ same-length-2 c = search needs
 
 returns-2 : tie.Need-returns-2
 returns-2 c =
-    let args = c .before .before .before .before .before .before .before .before .before .before .before .before .before .before .before .before .before .before .before .before .before .args in
-    results-filled (args .h) (args .s .now) (args .m) (c .before .before .before .before .before .before .before .before .before .before .before .before .before .before .before .before .before .put-always .ensures) (c .before .before .before .before .before .before .before .before .before .before .before .before .before .put-into .ensures) (c .before .before .before .before .before .before .before .before .before .put-replaced .ensures)
-    (text-one (args .h) (args .s .now) (args .m) (c .before .before .before .before .before .if1 .left)
-    (row-put (args .h) (textRow (args .h) (args .s .now) (args .m)) _ _ (c .before .before .put-clearing .ensures) (c .before .before .before .text .ensures) refl))
+    let row = c .before .before in
+    let third = row .before .before .before .before .before .before .before in
+    let second = third .before .before .before .before in
+    let first = second .before .before .before .before in
+    let args = first .before .before .before .before .args in
+    let cleared = row-put (args .h) (textRow (args .h) (args .s .now) (args .m)) _ _ (row .put-clearing .ensures) (row .before .text .ensures) refl in
+    results-filled (args .h) (args .s .now) (args .m) (first .put-always .ensures) (second .put-into .ensures) (third .put-replaced .ensures)
+    (text-one (args .h) (args .s .now) (args .m) (row .before .before .before .if1 .left) cleared)
 
 pub put-spec : {M : Type 1} → statement M
 put-spec =

@@ -33,10 +33,13 @@ same-length c = search needs
 
 returns : tie.Need-returns
 returns c =
-    let args = c .before .before .before .before .before .before .before .before .before .before .before .before .before .before .before .args in
-    always-filled (args .h) (args .s .now) (args .m)
-    (row-put (args .h) (oldRow (args .h) (args .s .now) (args .m)) _ _ (c .before .before .before .before .before .before .before .before .before .before .put-clearing .ensures) (c .before .before .before .before .before .before .before .before .before .before .before .entry .ensures) refl)
-    (c .before .before .before .before .before .before .put-moved .ensures) (c .before .before .put-holder .ensures)
+    let third = c .before .before in
+    let second = third .before .before .before .before in
+    let first = second .before .before .before .before in
+    let args = first .before .before .before .before .before .args in
+    let cleared =
+    row-put (args .h) (oldRow (args .h) (args .s .now) (args .m)) _ _ (first .put-clearing .ensures) (first .before .entry .ensures) refl in
+    always-filled (args .h) (args .s .now) (args .m) cleared (second .put-moved .ensures) (third .put-holder .ensures)
 
 pub put-always-spec : {M : Type 1} → statement M
 put-always-spec =

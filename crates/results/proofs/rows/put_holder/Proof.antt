@@ -22,8 +22,11 @@ same-length c = search needs
 
 returns : tie.Need-returns
 returns c =
-    let args = c .before .before .before .before .before .before .before .before .before .args in
-    row-put (args .h) (holderRow (args .h) (args .s .now) (args .m) (args .i)) _ _ (c .before .before .put-row .ensures) (c .before .before .before .before .inode .ensures) (c .before .before .before .before .before .before .holder .ensures)
+    let row = c .before .before in
+    let made = row .before .before .before .before in
+    let args = made .before .before .before .args in
+    row-put (args .h) (holderRow (args .h) (args .s .now) (args .m) (args .i)) _ _ (row .put-row .ensures) (row .before .before .inode .ensures)
+    (made .holder .ensures)
 
 pub put-holder-spec : {M : Type 1} → statement M
 put-holder-spec =

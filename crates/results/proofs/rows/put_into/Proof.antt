@@ -20,8 +20,9 @@ same-length c = search needs
 
 returns-2 : tie.Need-returns-2
 returns-2 c =
-    let args = c .before .before .before .before .before .before .before .before .args in
-    into-one (args .h) (args .s .now) (args .m) (c .before .before .before .before .if1 .left) (c .before .before .put-holder .ensures)
+    let row = c .before .before in
+    let args = row .before .before .before .before .before .before .args in
+    into-one (args .h) (args .s .now) (args .m) (row .before .before .if1 .left) (row .put-holder .ensures)
 
 pub put-into-spec : {M : Type 1} → statement M
 put-into-spec = tie.close (tie.spec returns put-holder-requires add-result same-length returns-2)

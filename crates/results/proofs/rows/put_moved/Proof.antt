@@ -22,8 +22,11 @@ same-length c = search needs
 
 returns : tie.Need-returns
 returns c =
-    let args = c .before .before .before .before .before .before .before .before .before .args in
-    row-put (args .h) (movedRow (args .h) (args .s .now) (args .m)) _ _ (c .before .before .put-row .ensures) (c .before .before .before .before .inode .ensures) (c .before .before .before .before .before .before .moved .ensures)
+    let row = c .before .before in
+    let made = row .before .before .before .before in
+    let args = made .before .before .before .args in
+    row-put (args .h) (movedRow (args .h) (args .s .now) (args .m)) _ _ (row .put-row .ensures) (row .before .before .inode .ensures)
+    (made .moved .ensures)
 
 pub put-moved-spec : {M : Type 1} → statement M
 put-moved-spec =

@@ -31,9 +31,12 @@ same-length c = search needs
 
 returns-2 : tie.Need-returns-2
 returns-2 c =
-    let args = c .before .before .before .before .before .before .before .before .before .before .before .args in
-    replaced-one (args .h) (args .s .now) (args .m) (c .before .before .before .before .before .before .before .if1 .left)
-    (row-put (args .h) (replacedRow (args .h) (args .s .now) (args .m)) _ _ (c .before .before .put-row .ensures) (c .before .before .before .before .inode .ensures) (c .before .before .before .before .before .before .replaced .ensures))
+    let row = c .before .before in
+    let made = row .before .before .before .before in
+    let args = made .before .before .before .before .before .args in
+    replaced-one (args .h) (args .s .now) (args .m) (made .before .if1 .left)
+    (row-put (args .h) (replacedRow (args .h) (args .s .now) (args .m)) _ _ (row .put-row .ensures) (row .before .before .inode .ensures)
+    (made .replaced .ensures))
 
 pub put-replaced-spec : {M : Type 1} → statement M
 put-replaced-spec =
