@@ -4,6 +4,4 @@ pub mod Rows
 pub mod Finished
 pub mod Applied
 pub mod Consistent
-pub mod Unrefused
-pub mod Planned
 pub mod Bench
