@@ -1,3 +1,4 @@
 pub mod Allowed
 pub mod Begun
 pub mod Called
+pub mod Demand1

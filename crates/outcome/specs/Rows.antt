@@ -20,10 +20,10 @@ use Rattle.journal.specs.Store.{Distinct, Spares}
 use Rattle.journal.specs.Plan.{WellFormed}
 use Rattle.crash.specs.Image.{Fits, first-ok, images}
 use Rattle.results.specs.declared.Move.{Move}
-use Rattle.results.specs.Results.{present, when, linksAfter, oldRow, movedRow, holderRow, replacedRow, textRow, intoRows, replacedRows, textRows, results}
+use Rattle.results.specs.Results.{present, clearGroup, when, linksAfter, oldRow, movedRow, holderRow, replacedRow, textRow, intoRows, replacedRows, textRows, results}
 use Rattle.results.specs.Links.{links-le}
 use Rattle.results.specs.Owed.{old-writes, moved-writes, holder-writes, replaced-writes, text-writes, clear-writes}
-use Rattle.rename.specs.Plan.{journalFor, journalRow, entryRow}
+use Rattle.rename.specs.Plan.{entryGroup, journalFor, journalRow, entryRow}
 use Rattle.outcome.specs.Outcome.{renamePlan}
 use Rattle.outcome.specs.Called.{Called, before-good, in-image, replaced-not-moved, replaced-not-from, replaced-not-into, entry-names, journal-zeros}
 
@@ -180,7 +180,7 @@ module _ {h : Shape} {s : List ℕ} {m : Move} {called : List ℕ} (c : Called h
     restores = sym (journal-zeros c);
     created-groups = tt;
     decide-group = λ _. lit< tt;
-    rest-groups = results-all h s m (λ w. (2 < w .group) × (w .group < 4)) (λ _. (lit< tt, lit< tt)) (λ _. (lit< tt, lit< tt)) (λ _. (lit< tt, lit< tt))
+    rest-groups = results-all h s m (λ w. (entryGroup < w .group) × (w .group < clearGroup)) (λ _. (lit< tt, lit< tt)) (λ _. (lit< tt, lit< tt)) (λ _. (lit< tt, lit< tt))
         (lit< tt, lit< tt) (lit< tt, lit< tt) (lit< tt, lit< tt);
     clear-group = lit< tt;
   }

@@ -18,7 +18,7 @@ use Rattle.plan.specs.Form.{planBytes, rowsPut, cleared}
 use Rattle.plan.specs.Write.{Write, rowsFrom, storeAll}
 use Rattle.recover.specs.Recover.{pendingRows, recover}
 
--- its numbers: buffers too short, and an image that cannot be recovered
+-- recovery: its numbers for buffers that are too short, and for an image that cannot be recovered
 abbrev pub tooShort : ℕ
 tooShort = 205
 

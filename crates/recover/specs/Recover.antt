@@ -15,7 +15,7 @@ use Rattle.plan.specs.Write.{Write, storeAll}
 use Rattle.results.specs.declared.Move.{Move}
 use Rattle.results.specs.Results.{present, results, clearRow}
 
--- the move that a journal record names; the new parent is the one of the entry in the new slot
+-- recovery: the move that a journal record names; the new parent is the one of the entry in the new slot
 abbrev pub moveFrom : View → Journal → Move
 moveFrom v j = record {
   old = j .old;
@@ -32,18 +32,19 @@ moveFrom v j = record {
 abbrev pub belowOrAbsent : ℕ → ℕ → Bool
 belowOrAbsent i n = implies (present i) (ltb i n)
 
--- fit: numbers in range, different slots, the moved inode not the root, neither it nor the old parent replaced, the old parent another directory
+-- recovery, fit: numbers in range, different slots, the moved inode not the root, neither it nor the old parent replaced, the old parent another
+-- directory
 unfoldable pub moveGood : View → Move → Bool
 moveGood v m =
     ltb (m .old) (v .entries) && ltb (m .new) (v .entries) && ltb (m .moved) (v .inodes) && belowOrAbsent (m .replaced) (v .inodes)
     && belowOrAbsent (m .text) (v .texts) && not (eqb (m .old) (m .new)) && not (eqb (m .moved) 0) && not (eqb (m .moved) (m .from))
     && not (eqb (m .replaced) (m .moved)) && not (eqb (m .replaced) (m .from)) && isDirectory v (m .from)
 
--- the new entry has been applied: its slot is in use and targets the moved inode
+-- recovery: the new entry has been applied, so its slot is in use and targets the moved inode
 unfoldable pub decided : View → Move → Bool
 decided v m = entryUsed v (m .new) && eqb (v .target (m .new)) (m .moved)
 
--- the new parent is a directory, and neither moved nor replaced
+-- recovery: the new parent is a directory, and neither moved nor replaced
 unfoldable pub intoGood : View → Move → Bool
 intoGood v m = isDirectory v (m .into) && not (eqb (m .into) (m .moved)) && not (eqb (m .into) (m .replaced))
 
@@ -51,28 +52,28 @@ module _ (h : Shape) (x : List ℕ) where
   abbrev pub moveIn : Move
   moveIn = moveFrom (viewOf h x) (journalOf (journalAt h x))
 
-  -- fit: the record is formed, its operation is a rename, and its move is good
+  -- recovery, fit: the record is formed (rule 12), its operation is a rename, and its move is good
   unfoldable pub journalFits : Bool
   journalFits = journalFormed (journalAt h x) && eqb (journalOf (journalAt h x) .kind) 0 && moveGood (viewOf h x) moveIn
 
-  -- rows are answered only if their outcome is consistent
+  -- recovery: rows are answered only if their outcome is consistent
   abbrev pub ifConsistent : List Write → Option (List Write)
   ifConsistent ws = cond (consistent (storeAll h x ws)) (some ws) none
 
-  -- the rows that finish the rename: the results, made afresh, and the journal record cleared
+  -- recovery: the rows that finish the rename are the results, made afresh, and the one that clears the journal record
   abbrev pub finishing : List Write
   finishing = results h x moveIn ++ clearRow h ∷ []
 
-  -- the row that takes it back
+  -- recovery: that one alone takes it back
   abbrev pub undoing : List Write
   undoing = clearRow h ∷ []
 
-  -- what a journal record that is set leads to
+  -- recovery: what a journal record that is set leads to
   unfoldable pub pendingRows : Option (List Write)
   pendingRows =
       cond journalFits (cond (decided (viewOf h x) moveIn) (cond (intoGood (viewOf h x) moveIn) (ifConsistent finishing) none) (ifConsistent undoing))
       none
 
-  -- a clear one leaves nothing to do on a consistent image
+  -- recovery: a clear one leaves nothing to do on a consistent image
   unfoldable pub recover : Option (List Write)
   recover = cond (journalClear h x) (cond (consistent x) (some []) none) pendingRows

@@ -1,3 +1,4 @@
 pub mod Way
 pub mod Recovers
 pub mod Safe
+pub mod Survives

@@ -1,0 +1,97 @@
+-- Demand 1: every job, given any bytes, answers with a number of the table, and with one that the table has for it (rules 47, 75 to 82). Assumes nothing.
+use mathlib.Core.Path.{_≡_, refl, sym, ap, _∙_, subst}
+use mathlib.Core.Bool.{Bool, true, false, _&&_, _||_, cond}
+use mathlib.Core.List.{List, [], _∷_, _++_}
+use Prim.Native.Nat.{ℕ}
+use native.Mathlib.Decide.{ℕ-discrete}
+use lib.Dec.{eqb, ltb}
+use lib.ListN.{length}
+use borrow.Author.Tests.{eqb-true}
+use Rattle.layout.specs.Contents.{layoutGood, shapeOf}
+use Rattle.paths.specs.declared.request.Request.{Request}
+use Rattle.component.specs.Ways.{componentNumber}
+use Rattle.walk.specs.Walk.{haltNumber}
+use Rattle.walk.specs.Ends.{walkNumber}
+use Rattle.consistency.specs.Others.{journalClear}
+use Rattle.consistency.specs.Consistent.{bodiesGood, unsound, pending, recordsNumber, checkNumber}
+use Rattle.plan.specs.Form.{planBytes}
+use Rattle.plan.specs.Fit.{applicable}
+use Rattle.apply.specs.Apply.{shortPlan, badLayout, badRow, applyNumber}
+use Rattle.refusals.specs.declared.case.Answer.the-variants.{Refused, Planned}
+use Rattle.refusals.specs.Steps.{numberOf, decide}
+use Rattle.refusals.specs.Decide.{decide-number, decide-refused, decide-passed}
+use Rattle.rename.specs.Order.{walks, early, late, order}
+use Rattle.rename.specs.Job.{answer, renamed}
+use Rattle.demands.specs.Begun.{old-facts, new-facts}
+
+-- a number of a list
+abbrev pub among : List ℕ → ℕ → Bool
+among [] n = false
+among (m ∷ ms) n = eqb n m || among ms n
+
+-- the numbers of each job
+abbrev pub checkNumbers : List ℕ
+checkNumbers = 0 ∷ 201 ∷ 203 ∷ []
+
+abbrev pub landNumbers : List ℕ
+landNumbers = 0 ∷ 201 ∷ 205 ∷ 207 ∷ []
+
+-- success, the errors of the POSIX page as Linux numbers them, and our own
+abbrev pub renameNumbers : List ℕ
+renameNumbers = 0 ∷ 1 ∷ 2 ∷ 9 ∷ 13 ∷ 16 ∷ 18 ∷ 20 ∷ 21 ∷ 22 ∷ 28 ∷ 30 ∷ 31 ∷ 36 ∷ 39 ∷ 40 ∷ 201 ∷ 202 ∷ 203 ∷ 205 ∷ []
+
+pub check-listed : (s : List ℕ) → among checkNumbers (checkNumber s) ≡ true
+unfolding checkNumber recordsNumber
+check-listed s = go (layoutGood s) (journalClear (shapeOf s) s) (bodiesGood (shapeOf s) s)
+  where
+    go : (a b c : Bool) → among checkNumbers (cond a (cond b (cond c 0 unsound) pending) unsound) ≡ true
+    go true true true = refl
+    go true true false = refl
+    go true false c = refl
+    go false b c = refl
+
+pub land-listed : (image plan : List ℕ) (row : ℕ) → among landNumbers (applyNumber image plan row) ≡ true
+unfolding applyNumber
+land-listed image plan row = go (ltb (length plan) planBytes) (layoutGood image) (applicable (shapeOf image) plan row)
+  where
+    go : (a b c : Bool) → among landNumbers (cond a shortPlan (cond b (cond c 0 badRow) badLayout)) ≡ true
+    go true b c = refl
+    go false true true = refl
+    go false true false = refl
+    go false false c = refl
+
+-- a walk's number is one of rename's
+split : {A : Type 0} (a b : Bool) → (a ≡ true → A) → (b ≡ true → A) → (a || b) ≡ true → A
+split true b f g e = f refl
+split false b f g e = g e
+
+walk-listed : (n : ℕ) → walkNumber n ≡ true → among renameNumbers n ≡ true
+walk-listed n e =
+    split (eqb n 0 || haltNumber n) (componentNumber n)
+    (split (eqb n 0) (haltNumber n) (is 0 refl)
+    (split (eqb n 2 || eqb n 36 || eqb n 9) (eqb n 16) (split (eqb n 2 || eqb n 36) (eqb n 9) (split (eqb n 2) (eqb n 36) (is 2 refl) (is 36 refl)) (is 9 refl)) (is 16 refl)))
+    (split (eqb n 2 || eqb n 13 || eqb n 20 || eqb n 22 || eqb n 36) (eqb n 40)
+    (split (eqb n 2 || eqb n 13 || eqb n 20 || eqb n 22) (eqb n 36)
+    (split (eqb n 2 || eqb n 13 || eqb n 20) (eqb n 22)
+    (split (eqb n 2 || eqb n 13) (eqb n 20) (split (eqb n 2) (eqb n 13) (is 2 refl) (is 13 refl)) (is 20 refl)) (is 22 refl)) (is 36 refl)) (is 40 refl)) e
+  where
+    is : (k : ℕ) → among renameNumbers k ≡ true → eqb n k ≡ true → among renameNumbers n ≡ true
+    is k here f = rw (eqb-true n k f) here
+
+module _ (s plan : List ℕ) (q : Request) (old new : List ℕ) where
+  late-listed : decide (early s plan q old new) ≡ Planned → among renameNumbers (numberOf (decide (late s plan q old new))) ≡ true
+  late-listed begun =
+      decide-number (among renameNumbers) (late s plan q old new) refl
+      (rw (walk-listed _ (old-facts s plan q old new begun .listed), walk-listed _ (new-facts s plan q old new begun .listed)))
+
+  pub rename-listed : among renameNumbers (renamed s plan q old new .number) ≡ true
+  unfolding renamed order
+  rename-listed = go (ℕ-discrete (numberOf (decide (early s plan q old new))) 0)
+    where
+      go : Dec (numberOf (decide (early s plan q old new)) ≡ 0) → among renameNumbers (numberOf (decide (early s plan q old new ++ late s plan q old new))) ≡ true
+      go (yes none) =
+          rw (decide-passed (late s plan q old new) (early s plan q old new) refl none)
+          (late-listed (decide-passed [] (early s plan q old new) refl none))
+      go (no some) =
+          rw (decide-refused (late s plan q old new) (early s plan q old new) some)
+          (decide-number (among renameNumbers) (early s plan q old new) refl refl)
