@@ -2,3 +2,4 @@ pub mod Allowed
 pub mod Begun
 pub mod Called
 pub mod Demand1
+pub mod Demand2
