@@ -1,2 +1,5 @@
 pub mod Passed
 pub mod Allowed
+pub mod Line
+pub mod Table
+pub mod Bench

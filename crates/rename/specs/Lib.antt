@@ -6,5 +6,3 @@ pub mod Order
 pub mod Job
 pub mod Outs
 pub mod Known
-
-pub mod Bench
