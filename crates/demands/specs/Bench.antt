@@ -31,9 +31,9 @@ use Rattle.refusals.specs.Case.{stickyDenied, hasEntries, isOpened}
 use Rattle.rename.specs.Plan.{moveOf, renameRows, planned}
 use Rattle.rename.specs.Order.{freeSlot, order}
 use Rattle.rename.specs.Job.{renamed, planAfter}
-use Rattle.demands.specs.Line.{below, appliedRows, outcome}
+use Rattle.demands.specs.Line.{below, applyRows, outcome}
 use Rattle.demands.specs.Table.{table}
 
 pub bench-table : map (λ l. outcome (l .asked)) table ≡ map (λ l. l .expected) table
-unfolding bench any all first count part put zeros noZero sameBytes numberAt bytesOf nameIs rowIs shapeOf rowGood rowsGood layoutGood recordAt viewOf kindOf nameBytes isDots nameGood clash hasDuplicate entriesOf childDirectories leads reaches leafGood fileGood directoryGood textShared symlinkGood inodeGood entryFormed entryLinked entryGood textLinked textGood openGood handleGood journalClear bodiesGood recordsNumber checkNumber allows path.slashes path.nameBytes isNamed lookup requestGood step walkFrom walk walksOf entryBytes journalHead journalBytes rowAt headerOf rowPut rowsPut cleared coversSection covers rowFits applicable applyNumber appliedImage movedBytes holderBytes replacedBytes entriesAfter childrenAfter linksAfter results stickyDenied hasEntries isOpened moveOf renameRows planned freeSlot order renamed planAfter below appliedRows outcome table
+unfolding bench any all first count part put zeros noZero sameBytes numberAt bytesOf nameIs rowIs shapeOf rowGood rowsGood layoutGood recordAt viewOf kindOf nameBytes isDots nameGood clash hasDuplicate entriesOf childDirectories leads reaches leafGood fileGood directoryGood textShared symlinkGood inodeGood entryFormed entryLinked entryGood textLinked textGood openGood handleGood journalClear bodiesGood recordsNumber checkNumber allows path.slashes path.nameBytes isNamed lookup requestGood step walkFrom walk walksOf entryBytes journalHead journalBytes rowAt headerOf rowPut rowsPut cleared coversSection covers rowFits applicable applyNumber appliedImage movedBytes holderBytes replacedBytes entriesAfter childrenAfter linksAfter results stickyDenied hasEntries isOpened moveOf renameRows planned freeSlot order renamed planAfter below applyRows outcome table
 bench-table = refl

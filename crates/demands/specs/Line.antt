@@ -1,11 +1,11 @@
 -- A line of a table of renames: what is asked, and what the definitions of the jobs rename, land and check make of it. Assumes nothing.
-use mathlib.Core.Bool.{Bool, cond}
+use mathlib.Core.Bool.{Bool, true, _&&_, cond}
 use mathlib.Core.List.{List, [], _∷_, _++_, map}
 use Prim.Native.Nat.{ℕ, zero, suc}
 use lib.Dec.{eqb}
 use lib.ListN.{replicate, drop}
-use Rattle.seq.specs.Search.{all, first}
-use Rattle.seq.specs.Bytes.{part, zeros, sameBytes}
+use Rattle.seq.specs.Search.{first}
+use Rattle.seq.specs.Bytes.{part, zeros}
 use Rattle.layout.specs.Contents.{shapeOf}
 use Rattle.layout.specs.Fields.{journalNewSlot}
 use Rattle.layout.specs.Place.{recordBytes}
@@ -45,10 +45,9 @@ pub record Applied : Type 0 where
   pub headers : List (List ℕ)
   pub past : List ℕ
 
--- What the plan buffer holds after the job: what it held before, or a plan of no rows, or one with rows.
+-- The plan buffer after the job: its bytes where it has no rows, or what the rows do.
 pub data After : Type 0 where
-  kept : After
-  blank : After
+  bytes : List ℕ → After
   planned : Applied → After
 
 -- Number, rows and both walk counts, and the plan buffer.
@@ -72,33 +71,39 @@ unfoldable pub below : ℕ → List ℕ
 below zero = []
 below (suc n) = below n ++ n ∷ []
 
--- the image after the first n rows of a plan, in listed order, by the job land
-unfoldable pub appliedRows : List ℕ → List ℕ → ℕ → List ℕ
-appliedRows image plan zero = image
-appliedRows image plan (suc n) = appliedImage (appliedRows image plan n) plan n
+-- An image on the way through a plan, and whether the job land has answered 0 for every row so far.
+pub record Way : Type 0 where
+  pub image : List ℕ
+  pub applies : Bool
+
+abbrev pub applyNext : List ℕ → ℕ → Way → Way
+applyNext plan i w = record { image = appliedImage (w .image) plan i; applies = w .applies && eqb (applyNumber (w .image) plan i) 0 }
+
+-- through the first n rows, in listed order
+unfoldable pub applyRows : List ℕ → List ℕ → ℕ → Way
+applyRows image plan zero = record { image = image; applies = true }
+applyRows image plan (suc n) = applyNext plan n (applyRows image plan n)
 
 abbrev pub entryIn : View → ℕ → Entry
 entryIn v slot = record { slot = slot; parent = v .parent slot; target = v .target slot; name = v .name slot }
 
-module _ (image plan : List ℕ) (rows : ℕ) where
-  -- s is the image after all rows, and v what it says
-  abbrev pub appliedOf : List ℕ → View → Applied
-  appliedOf s v = record {
-    entry = entryIn v (journalNewSlot (rowAt plan 0 .body));
-    links = map (v .links) (below (v .inodes));
-    free = first (λ i. zeros (inodeAt (shapeOf s) s i) 0 (recordBytes (shapeOf s) 0)) (v .inodes);
-    applies = all (λ i. eqb (applyNumber (appliedRows image plan i) plan i) 0) rows;
-    check = checkNumber s;
-    headers = map (λ i. part plan (headerAt i) headerBytes) (below planRows);
-    past = drop planBytes plan;
-  }
+-- w is the way through all rows, and v what its image says
+abbrev pub appliedOf : List ℕ → Way → View → Applied
+appliedOf plan w v = record {
+  entry = entryIn v (journalNewSlot (rowAt plan 0 .body));
+  links = map (v .links) (below (v .inodes));
+  free = first (λ i. zeros (inodeAt (shapeOf (w .image)) (w .image) i) 0 (recordBytes (shapeOf (w .image)) 0)) (v .inodes);
+  applies = w .applies;
+  check = checkNumber (w .image);
+  headers = map (λ i. part plan (headerAt i) headerBytes) (below planRows);
+  past = drop planBytes plan;
+}
 
-  abbrev pub appliedIn : List ℕ → Applied
-  appliedIn s = appliedOf s (viewOf (shapeOf s) s)
+abbrev pub appliedBy : List ℕ → Way → Applied
+appliedBy plan w = appliedOf plan w (viewOf (shapeOf (w .image)) (w .image))
 
-  abbrev pub afterwards : After
-  afterwards =
-      cond (sameBytes plan dirty) kept (cond (sameBytes plan (replicate planBytes 0 ++ past)) blank (planned (appliedIn (appliedRows image plan rows))))
+abbrev pub afterwards : List ℕ → List ℕ → ℕ → After
+afterwards image plan rows = cond (eqb rows 0) (bytes plan) (planned (appliedBy plan (applyRows image plan rows)))
 
 abbrev pub outcomeOf : List ℕ → List ℕ → Renamed → Outcome
 outcomeOf image plan r = record { answer = r; after = afterwards image plan (r .rows) }

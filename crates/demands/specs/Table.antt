@@ -8,8 +8,9 @@ use Rattle.seq.specs.Number.{bytesOf}
 use Rattle.layout.specs.Bench.{bench}
 use Rattle.paths.specs.declared.request.Request.{Request}
 use Rattle.walk.specs.Walk.{noHandle}
+use Rattle.plan.specs.Form.{planBytes}
 use Rattle.rename.specs.declared.Renamed.{Renamed}
-use Rattle.demands.specs.Line.{Entry, Outcome, kept, blank, planned, Line, past}
+use Rattle.demands.specs.Line.{Entry, Outcome, bytes, planned, Line, past, dirty}
 
 -- ---- what is asked
 
@@ -82,11 +83,11 @@ answers number rows old new = record { number = number; rows = rows; old = old; 
 
 -- a number that is not 0: the plan buffer is as it was
 abbrev pub refused : ℕ → ℕ → ℕ → Outcome
-refused number old new = record { answer = answers number 0 old new; after = kept }
+refused number old new = record { answer = answers number 0 old new; after = bytes dirty }
 
 -- two names of one file: a plan of no rows
 abbrev pub same : ℕ → ℕ → Outcome
-same old new = record { answer = answers 0 0 old new; after = blank }
+same old new = record { answer = answers 0 0 old new; after = bytes (replicate planBytes 0 ++ past) }
 
 -- slot, parent, target and name of the new entry
 abbrev pub entry : ℕ → ℕ → ℕ → List ℕ → Entry
@@ -94,7 +95,7 @@ entry slot parent target name = record { slot = slot; parent = parent; target = 
 
 -- group, length, offset and body of a row, as the bytes of its header
 abbrev pub row : ℕ → ℕ → ℕ → ℕ → List ℕ
-row group bytes offset body = group ∷ 0 ∷ bytesOf 2 bytes ++ bytesOf 2 offset ++ bytesOf 2 body
+row group long offset body = group ∷ 0 ∷ bytesOf 2 long ++ bytesOf 2 offset ++ bytesOf 2 body
 
 -- rows up to the ninth, the unused ones of zeros
 abbrev pub nine : List (List ℕ) → List (List ℕ)
