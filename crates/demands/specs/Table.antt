@@ -14,11 +14,11 @@ use Rattle.demands.specs.Line.{Entry, Outcome, bytes, planned, Line, pas
 
 -- ---- what is asked
 
--- a user and group, in the root at time 500; old starts at a handle, new in the root
+-- a user and group of one number, in the root at time 500; old has a start, new begins in the root
 abbrev pub caller : ℕ → ℕ → Request
 caller id start = record { who = record { user = id; group = id }; current = 0; starts = record { old = start; new = noHandle }; now = 500 }
 
--- whom all inodes belong to
+-- the one whom all inodes belong to
 abbrev pub owner : Request
 owner = caller 100 noHandle
 
