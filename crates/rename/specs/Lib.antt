@@ -7,4 +7,3 @@ pub mod Job
 pub mod Outs
 pub mod Known
 pub mod Walked
-pub mod Bench

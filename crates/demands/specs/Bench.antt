@@ -1,0 +1,39 @@
+-- Every line of the table holds: one claim, by computation of the jobs' definitions. Assumes nothing.
+use mathlib.Core.Path.{_≡_, refl}
+use mathlib.Core.List.{map}
+use Rattle.seq.specs.Search.{any, all, first, count}
+use Rattle.seq.specs.Bytes.{part, put, zeros, noZero, sameBytes}
+use Rattle.seq.specs.Number.{numberAt, bytesOf}
+use Rattle.layout.specs.Contents.{nameIs, rowIs, shapeOf, rowGood, rowsGood, layoutGood}
+use Rattle.layout.specs.Record.{recordAt}
+use Rattle.layout.specs.View.{viewOf}
+use Rattle.layout.specs.Bench.{bench}
+use Rattle.names.specs.Name.{nameBytes, isDots, nameGood, clash, hasDuplicate}
+use Rattle.tree.specs.Tree.{entriesOf, childDirectories, leads, reaches}
+use Rattle.tree.specs.Inode.{leafGood, fileGood, directoryGood, textShared, symlinkGood, inodeGood}
+use Rattle.consistency.specs.Entry.{entryFormed, entryLinked, entryGood}
+use Rattle.consistency.specs.Others.{textLinked, textGood, openGood, handleGood, journalClear}
+use Rattle.consistency.specs.Consistent.{bodiesGood, recordsNumber, checkNumber}
+use Rattle.encode.specs.Entry.{entryBytes}
+use Rattle.encode.specs.Journal.{journalHead, journalBytes}
+use Rattle.paths.specs.Permission.{allows}
+use Rattle.paths.specs.Path as path
+use Rattle.paths.specs.Lookup.{isNamed, lookup}
+use Rattle.paths.specs.Request.{requestGood}
+use Rattle.component.specs.Step.{step}
+use Rattle.walk.specs.Walk.{walkFrom, walk}
+use Rattle.walk.specs.Both.{walksOf}
+use Rattle.plan.specs.Form.{rowAt, headerOf, rowPut, rowsPut, cleared}
+use Rattle.plan.specs.Fit.{coversSection, covers, rowFits, applicable}
+use Rattle.apply.specs.Apply.{applyNumber, appliedImage}
+use Rattle.results.specs.Results.{entriesAfter, childrenAfter, linksAfter, movedBytes, holderBytes, replacedBytes, results}
+use Rattle.refusals.specs.Case.{stickyDenied, hasEntries, isOpened}
+use Rattle.rename.specs.Plan.{moveOf, renameRows, planned}
+use Rattle.rename.specs.Order.{freeSlot, order}
+use Rattle.rename.specs.Job.{renamed, planAfter}
+use Rattle.demands.specs.Line.{below, applyRows, outcome}
+use Rattle.demands.specs.Table.{table}
+
+pub bench-table : map (λ l. outcome (l .asked)) table ≡ map (λ l. l .expected) table
+unfolding bench any all first count part put zeros noZero sameBytes numberAt bytesOf nameIs rowIs shapeOf rowGood rowsGood layoutGood recordAt viewOf nameBytes isDots nameGood clash hasDuplicate entriesOf childDirectories leads reaches leafGood fileGood directoryGood textShared symlinkGood inodeGood entryFormed entryLinked entryGood textLinked textGood openGood handleGood journalClear bodiesGood recordsNumber checkNumber allows path.slashes path.nameBytes isNamed lookup requestGood step walkFrom walk walksOf entryBytes journalHead journalBytes rowAt headerOf rowPut rowsPut cleared coversSection covers rowFits applicable applyNumber appliedImage movedBytes holderBytes replacedBytes entriesAfter childrenAfter linksAfter results stickyDenied hasEntries isOpened moveOf renameRows planned freeSlot order renamed planAfter below applyRows outcome table
+bench-table = refl
