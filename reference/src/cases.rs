@@ -26,7 +26,7 @@ pub const PARTS: &[Part] = &[
     // an image, a request: where both walks end
     Part { name: "walk", make: walk::all, answers: PROGRAM },
     // an image, a buffer, a request: number, rows, both counts and the buffer after
-    Part { name: "rename", make: rename::all, answers: "reference/rename.stdout" },
+    Part { name: "rename", make: rename::all, answers: PROGRAM },
 ];
 
 /// The cases of one class, by the numbers that answer them.

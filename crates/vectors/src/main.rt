@@ -7,6 +7,8 @@ mod image;
 mod land;
 mod plan;
 mod reader;
+mod renames;
+mod request;
 mod walks;
 
 // So many items are too many. Nothing says that a file ends, so a count of its items ends the loop.
@@ -20,6 +22,8 @@ const WALK_CASE: u8 = 3;
 
 const LAND_CASE: u8 = 4;
 
+const RENAME_CASE: u8 = 5;
+
 // Reads the rest of an item, and answers it where it is a case.
 fn item(fd: i32, tag: u8, base: &mut [u8], image: &mut [u8], plan: &mut [u8]) -> bool {
     if tag == BASE {
@@ -29,10 +33,13 @@ fn item(fd: i32, tag: u8, base: &mut [u8], image: &mut [u8], plan: &mut [u8]) ->
         return check::case(fd, base, image);
     }
     if tag == WALK_CASE {
-        return walks::case(fd, base, image);
+        return walks::case(fd, base, image, plan);
     }
     if tag == LAND_CASE {
         return land::case(fd, base, image, plan);
+    }
+    if tag == RENAME_CASE {
+        return renames::case(fd, base, image, plan);
     }
     reader::complain(b"an item has an unknown tag");
     false
@@ -81,4 +88,5 @@ fn main() {
     run(b"check");
     run(b"land");
     run(b"walk");
+    run(b"rename");
 }

@@ -1,17 +1,16 @@
 // The cases of the walk: two paths of a request, resolved on a consistent image.
 use crate::image;
 use crate::reader;
+use crate::request;
+use crate::request::Job;
 use component::state::Found;
 use layout::Shape;
 use layout::contents::Contents;
 use libc::STDOUT_FILENO;
-use paths::request::Credentials;
 use paths::request::Request;
-use paths::request::Starts;
 use walk::resolve::Walked;
 ghost use mathlib.Core.Path.{_≡_};
 ghost use mathlib.Core.Bool.{true};
-ghost use lib.ListN.{length};
 ghost use Rattle.layout.specs.View.{viewOf, Readable};
 ghost use Rattle.paths.specs.Request.{requestGood};
 ghost use Rattle.component.specs.State.{Ranged};
@@ -109,7 +108,7 @@ fn line(s: &[u8], h: Shape, q: Request, old: &[u8], new: &[u8])
 }
 
 // Prints the line of a case; false where its image is not consistent.
-fn answer(s: &[u8], q: Request, old: &[u8], new: &[u8]) -> bool {
+pub fn answer(s: &[u8], q: Request, old: &[u8], new: &[u8]) -> bool {
     if consistency::check(s) != 0 {
         reader::complain(b"the image of a walk is not consistent");
         return false;
@@ -122,73 +121,6 @@ fn answer(s: &[u8], q: Request, old: &[u8], new: &[u8]) -> bool {
     true
 }
 
-// Room for the longest path.
-fn buffer() -> [u8; 600]
-    ensures { λ r. ⌜ 600 ≡ length r ⌝ }
-{
-    [0; 600]
-}
-
-// Reads the two paths, which fill their buffers, and answers.
-fn filled(fd: i32, s: &[u8], q: Request, old: &mut [u8], new: &mut [u8]) -> bool {
-    if !reader::fill(fd, old) {
-        return false;
-    }
-    if !reader::fill(fd, new) {
-        return false;
-    }
-    answer(s, q, old, new)
-}
-
-// Cuts the buffers to the lengths of the paths.
-fn lent(fd: i32, s: &[u8], q: Request, old: &mut [u8], n: usize, new: &mut [u8], m: usize) -> bool {
-    if old.len() < n {
-        reader::complain(b"a path is too long");
-        return false;
-    }
-    if new.len() < m {
-        reader::complain(b"a path is too long");
-        return false;
-    }
-    filled(fd, s, q, &mut old[..n], &mut new[..m])
-}
-
-// Reads the two paths, of these lengths, and answers.
-fn both(fd: i32, s: &[u8], q: Request, n: usize, m: usize) -> bool {
-    let mut old = buffer();
-    let mut new = buffer();
-    lent(fd, s, q, &mut old, n, &mut new, m)
-}
-
-// Reads a request and answers it.
-fn request(fd: i32, s: &[u8]) -> bool {
-    let mut b = [0u8; 16];
-    if !reader::fill(fd, &mut b) {
-        return false;
-    }
-    let who = Credentials {
-        user: reader::joined(b[0], b[1], b[2], b[3]) as u32,
-        group: reader::joined(b[4], b[5], b[6], b[7]) as u32,
-    };
-    let starts = Starts {
-        old: b[10],
-        new: b[11],
-    };
-    let q = Request {
-        who,
-        current: reader::pair(b[8], b[9]),
-        starts,
-        now: 0,
-    };
-    both(
-        fd,
-        s,
-        q,
-        reader::joined(b[12], b[13], 0, 0),
-        reader::joined(b[14], b[15], 0, 0),
-    )
-}
-
 // The length of a consistent image, which its own table of contents tells.
 fn image_length(base: &[u8]) -> usize {
     if base.len() < 40 {
@@ -197,20 +129,20 @@ fn image_length(base: &[u8]) -> usize {
     reader::joined(base[36], base[37], 0, 0) + 32
 }
 
-// Reads a case and prints its line.
-pub fn case(fd: i32, base: &[u8], image: &mut [u8]) -> bool {
+// Reads a case and prints its line. The plan buffer is not used.
+pub fn case(fd: i32, base: &[u8], image: &mut [u8], plan: &mut [u8]) -> bool {
     let n = image_length(base);
     if image.len() < n {
         reader::complain(b"an image is too long");
         return false;
     }
-    made(fd, base, &mut image[..n])
+    made(fd, base, &mut image[..n], plan)
 }
 
 // Makes the image, which fills its buffer, and reads the rest of the case.
-fn made(fd: i32, base: &[u8], image: &mut [u8]) -> bool {
+fn made(fd: i32, base: &[u8], image: &mut [u8], plan: &mut [u8]) -> bool {
     if !image::make(fd, base, image) {
         return false;
     }
-    request(fd, image)
+    request::read(fd, Job::Walk, image, plan)
 }
