@@ -7,72 +7,18 @@
  * Only if it takes them all is the file written: each record by itself, at its own offset, one ordering group
  * after the other, with a sync behind each group.
  *
- * The groups are what makes a plan safe against a loss of power. The journal record (group 1) has to be on the
- * disk before the new entry (2), that before the old entry is cleared and counts and times are set (3), and all
- * of them before the journal record is cleared (4). A disk that writes the cleared old entry first and then
- * loses power leaves a file that has no name, and no journal record from which recovery could know it. One that
- * clears the journal record first leaves wrong counts that no recovery will look for. Inside a group any order
- * will do.
- *
  * Exit status: 0 the plan is on the disk; 1 a row is refused; 2 a file cannot be used. After 1 and 2 the image
  * file is as it was. 3 writing failed: some records may be new and others not, as after a loss of power, so
  * recovery has to come before anything else.
  */
-#define _POSIX_C_SOURCE 200809L
-
-#include <errno.h>
-#include <fcntl.h>
-#include <stdio.h>
-#include <stdlib.h>
-#include <string.h>
-#include <unistd.h>
+#define PROGRAM "land"
+#include "records.h"
 
 #include "mirepillar.h"
 
-/* No image is longer than LONGEST_IMAGE. A plan takes 648 bytes, and what a longer file has behind them is not used. */
-enum { LONGEST_IMAGE = 53448, LONGEST_PLAN = 65536 };
-enum { ROWS = 9, HEADER_BYTES = 8, GROUPS = 4 };
-enum { REFUSED = 1, UNUSABLE = 2, UNFINISHED = 3 };
+/* A plan takes 648 bytes, and what a longer file has behind them is not used. */
+enum { LONGEST_PLAN = 65536, ROWS = 9 };
 enum { BAD_LAYOUT = 201, SHORT_PLAN = 205, NOT_LANDABLE = 207 };
-
-/* A file's bytes, all of them. */
-struct contents {
-    uint8_t *bytes;
-    size_t len;
-};
-
-static _Noreturn void fail(int status, const char *name, const char *sentence)
-{
-    fprintf(stderr, "land: %s: %s\n", name, sentence);
-    exit(status);
-}
-
-static int open_file(const char *name, int flags)
-{
-    int file = open(name, flags);
-    if (file < 0)
-        fail(UNUSABLE, name, strerror(errno));
-    return file;
-}
-
-/* Reads a whole file. One byte more than the longest is asked for, so that a longer file is seen and not cut. */
-static struct contents read_file(const char *name, int file, size_t longest, const char *too_long)
-{
-    struct contents contents = {malloc(longest + 1), 0};
-    if (contents.bytes == NULL)
-        fail(UNUSABLE, name, "there is no memory for it");
-    while (contents.len <= longest) {
-        ssize_t count = read(file, contents.bytes + contents.len, longest + 1 - contents.len);
-        if (count < 0 && errno == EINTR)
-            continue;
-        if (count < 0)
-            fail(UNUSABLE, name, strerror(errno));
-        if (count == 0)
-            return contents;
-        contents.len += (size_t)count;
-    }
-    fail(UNUSABLE, name, too_long);
-}
 
 /* A header of eight zeros is no row. The plan has at least 648 bytes here, since mp_land did not answer 205. */
 static int is_row(struct contents plan, size_t row)
@@ -122,42 +68,6 @@ static size_t land_rows(struct contents image, struct contents plan)
     return row;
 }
 
-static unsigned two_bytes(const uint8_t *bytes)
-{
-    return bytes[0] + 256u * bytes[1];
-}
-
-/* Writes the bytes at their place and nothing else of the file. */
-static void write_at(const char *name, int file, const uint8_t *bytes, size_t len, off_t at)
-{
-    while (len > 0) {
-        ssize_t count = pwrite(file, bytes, len, at);
-        if (count < 0 && errno == EINTR)
-            continue;
-        if (count <= 0)
-            fail(UNFINISHED, name, count < 0 ? strerror(errno) : "no byte could be written");
-        bytes += count;
-        len -= (size_t)count;
-        at += count;
-    }
-}
-
-/* Writes the records of one group, and comes back when the disk has them. The rows are ones that mp_land took. */
-static void write_group(const char *name, int file, struct contents plan, size_t rows, uint8_t group)
-{
-    int written = 0;
-    for (size_t row = 0; row < rows; row++) {
-        const uint8_t *header = plan.bytes + HEADER_BYTES * row;
-        if (header[0] != group)
-            continue;
-        const uint8_t *body = plan.bytes + two_bytes(header + 6);
-        write_at(name, file, body, two_bytes(header + 2), (off_t)two_bytes(header + 4));
-        written = 1;
-    }
-    if (written && fdatasync(file) != 0)
-        fail(UNFINISHED, name, strerror(errno));
-}
-
 int main(int argc, char **argv)
 {
     if (argc != 3)
@@ -169,10 +79,7 @@ int main(int argc, char **argv)
     if (close(plan_file) != 0)
         fail(UNUSABLE, argv[2], strerror(errno));
     size_t rows = land_rows(image, plan);
-    for (uint8_t group = 1; group <= GROUPS; group++)
-        write_group(argv[1], image_file, plan, rows, group);
-    if (close(image_file) != 0)
-        fail(UNFINISHED, argv[1], strerror(errno));
+    write_plan(argv[1], image_file, plan.bytes, rows);
     free(plan.bytes);
     free(image.bytes);
     return 0;

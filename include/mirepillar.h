@@ -22,6 +22,24 @@ static inline uint8_t mp_number(uint64_t result)
     return (uint8_t)(result & 0xff);
 }
 
+/* How many rows the plan has: bits 8 to 15. */
+static inline uint8_t mp_rows(uint64_t result)
+{
+    return (uint8_t)(result >> 8 & 0xff);
+}
+
+/* How many components of the old path, its symlinks' texts included, were looked at: bits 16 to 31. */
+static inline uint16_t mp_old_steps(uint64_t result)
+{
+    return (uint16_t)(result >> 16 & 0xffff);
+}
+
+/* The same of the new path: bits 32 to 47. The bits above are 0. */
+static inline uint16_t mp_new_steps(uint64_t result)
+{
+    return (uint16_t)(result >> 32 & 0xffff);
+}
+
 /*
  * Checks an image, and changes nothing. The result has a number alone:
  *
@@ -30,6 +48,33 @@ static inline uint8_t mp_number(uint64_t result)
  *   203  its layout is right and its journal record is not all zero; no other record was looked at.
  */
 uint64_t mp_check(const uint8_t *image, size_t image_len);
+
+/* What a start is where a relative path begins in the current directory and at no handle. */
+enum { MP_CURRENT_DIRECTORY = 255 };
+
+/*
+ * Plans a rename. The image is only read: landing the plan's rows is what renames.
+ *
+ * The request is the caller's user and group, the current directory (an inode), where each path
+ * begins if it is relative (a handle, or MP_CURRENT_DIRECTORY), the time to be set, and two paths,
+ * which need no byte 0 behind them. The result has a number, the rows, and both counts of steps:
+ *
+ *     0  the first 648 bytes of the plan's buffer are the plan, and what is behind them is as it
+ *        was; two names of one file give a plan of no rows, since there is nothing to do;
+ *   205  the buffer has fewer than 648 bytes;
+ *   201  the layout of the image is bad, or its journal record is clear and another record is at fault;
+ *   203  its layout is right and its journal record is not all zero: recovery has to come first;
+ *   202  the current directory is none, or a path has a byte 0 in it;
+ *  else  an errno of Linux, by which a walk or the rename itself is refused, such as 2 (ENOENT).
+ *
+ * The first of these that applies is given, the walk of the old path coming before that of the new
+ * one, and both before the rename itself. After any but 0 the buffer is as it was, and there are no
+ * rows. The counts are 0 where no walk has begun.
+ */
+uint64_t mp_rename(const uint8_t *image, size_t image_len,
+                   uint32_t user, uint32_t group, uint16_t cwd, uint8_t old_start, uint8_t new_start, uint64_t now,
+                   const uint8_t *old_path, size_t old_len, const uint8_t *new_path, size_t new_len,
+                   uint8_t *plan, size_t plan_len);
 
 /*
  * Lands one row of a plan: copies its body onto the image. The rows are numbered from 0, and any

@@ -10,8 +10,8 @@
 #include <stdlib.h>
 #include <string.h>
 
-enum { TAG_BASE = 1, TAG_CHECK = 2, TAG_LAND = 4 };
-enum { LONGEST_BASE = 53448, LONGEST_CASE = 131072, MOST_EDITS = 12, LONGEST_PLAN = 1024 };
+enum { TAG_BASE = 1, TAG_CHECK = 2, TAG_WALK = 3, TAG_LAND = 4, TAG_RENAME = 5 };
+enum { LONGEST_BASE = 53448, LONGEST_CASE = 131072, MOST_EDITS = 12, LONGEST_PLAN = 1024, LONGEST_PATH = 600 };
 enum { MOST_TOLD = 10 };
 
 /* A file's bytes, and the part of them that is not yet read. */
@@ -121,6 +121,36 @@ static struct buffer read_plan(struct input *input)
     return plan;
 }
 
+/* The plan buffer of a rename, with other bytes than a plan has. */
+static struct buffer read_plan_buffer(struct input *input)
+{
+    struct buffer plan = block(take_up_to(input, 2, LONGEST_PLAN), NULL, 0);
+    uint8_t fill = *take(input, 1);
+    for (size_t i = 0; i < plan.len; i++)
+        plan.bytes[i] = fill ^ (uint8_t)i;
+    return plan;
+}
+
+/* Reads a request, and gives what mp_rename answers to it. */
+static uint64_t ask_rename(struct input *input, struct buffer image, struct buffer plan)
+{
+    uint32_t user = (uint32_t)take_number(input, 4);
+    uint32_t group = (uint32_t)take_number(input, 4);
+    uint16_t cwd = (uint16_t)take_number(input, 2);
+    uint8_t old_start = *take(input, 1);
+    uint8_t new_start = *take(input, 1);
+    uint64_t now = take_number(input, 8);
+    size_t old_len = take_up_to(input, 2, LONGEST_PATH);
+    size_t new_len = take_up_to(input, 2, LONGEST_PATH);
+    struct buffer old_path = block(old_len, take(input, old_len), old_len);
+    struct buffer new_path = block(new_len, take(input, new_len), new_len);
+    uint64_t result = mp_rename(image.bytes, image.len, user, group, cwd, old_start, new_start, now, old_path.bytes,
+                                old_path.len, new_path.bytes, new_path.len, plan.bytes, plan.len);
+    free(new_path.bytes);
+    free(old_path.bytes);
+    return result;
+}
+
 static uint64_t read_answer(struct input *input, uint8_t end)
 {
     uint64_t answer = 0;
@@ -178,7 +208,39 @@ static int land_case(struct input *cases, struct input *answers, unsigned long c
     return same_result && same_image;
 }
 
-/* Runs one file of cases, and gives the number of differences. */
+static int rename_case(struct input *cases, struct input *answers, unsigned long count)
+{
+    struct buffer image = read_image(cases);
+    struct buffer plan = read_plan_buffer(cases);
+    uint64_t before = checksum(image);
+    uint64_t result = ask_rename(cases, image, plan);
+    if (checksum(image) != before)
+        fail("mp_rename", "an image was changed");
+    int differences = !same("the number of mp_rename", count, mp_number(result), read_answer(answers, ' '));
+    differences += !same("the rows of mp_rename", count, mp_rows(result), read_answer(answers, ' '));
+    differences += !same("the steps of old", count, mp_old_steps(result), read_answer(answers, ' '));
+    differences += !same("the steps of new", count, mp_new_steps(result), read_answer(answers, ' '));
+    differences += !same("the rest of the result of mp_rename", count, result >> 48, 0);
+    differences += !same("the buffer's checksum after mp_rename", count, checksum(plan), read_answer(answers, '\n'));
+    free(plan.bytes);
+    free(image.bytes);
+    return differences == 0;
+}
+
+/* Steps over a case of the walk and its answer: the walk is no job of its own, so there is nothing to call. */
+static void skip_walk(struct input *cases, struct input *answers)
+{
+    enum { EDIT_BYTES = 5, STARTS_BYTES = 12 };
+    take(cases, EDIT_BYTES * take_up_to(cases, 1, MOST_EDITS));
+    take(cases, STARTS_BYTES);
+    size_t old_len = take_up_to(cases, 2, LONGEST_PATH);
+    size_t new_len = take_up_to(cases, 2, LONGEST_PATH);
+    take(cases, old_len + new_len);
+    while (*take(answers, 1) != '\n')
+        ;
+}
+
+/* Runs the cases of one file, and gives the number of differences. */
 static unsigned long run(const char *path, struct input *answers)
 {
     struct input cases = open_input(path);
@@ -189,8 +251,12 @@ static unsigned long run(const char *path, struct input *answers)
             read_base(&cases);
         else if (tag == TAG_CHECK)
             differences += !check_case(&cases, answers, ++count);
+        else if (tag == TAG_WALK)
+            skip_walk(&cases, answers);
         else if (tag == TAG_LAND)
             differences += !land_case(&cases, answers, ++count);
+        else if (tag == TAG_RENAME)
+            differences += !rename_case(&cases, answers, ++count);
         else
             fail(path, "an item has an unknown tag");
     }
@@ -199,7 +265,7 @@ static unsigned long run(const char *path, struct input *answers)
     return differences;
 }
 
-/* The files of cases in the order of their answers; answers of further parts may follow. */
+/* The files of cases in the order of their answers. */
 int main(int argc, char **argv)
 {
     if (argc < 3)

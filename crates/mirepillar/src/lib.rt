@@ -1,7 +1,14 @@
 // The C interface: include/mirepillar.h declares these functions.
+use paths::request::Credentials;
+use paths::request::Request;
+use paths::request::Starts;
+use rename::Renamed;
 ghost use mathlib.Core.Path.{_≡_};
 ghost use Rattle.consistency.specs.Consistent.{checkNumber};
 ghost use Rattle.apply.specs.Apply.{applyNumber, appliedImage};
+ghost use Rattle.rename.specs.Job.{renamed, planAfter};
+ghost use Rattle.rename.specs.Bounds.{Small};
+ghost use Rattle.mirepillar.specs.Result.{requestOf, packed};
 
 // The job check. The number is the whole result.
 #[no_mangle]
@@ -10,6 +17,44 @@ pub extern "C" fn mp_check(image: &[u8]) -> u64
 {
     let number = consistency::check(image);
     number as u64
+}
+
+// The result of a rename: each part in bits of its own.
+fn pack(r: Renamed) -> u64
+    requires { ⌜ Small r ⌝ }
+    ensures { λ n. ⌜ n ≡ packed r ⌝ }
+{
+    (r.number as u64) + 256 * (r.rows as u64) + 65536 * (r.old as u64) + 4294967296 * (r.new as u64)
+}
+
+// The job rename.
+#[no_mangle]
+pub extern "C" fn mp_rename(
+    image: &[u8],
+    user: u32,
+    group: u32,
+    current: u16,
+    from: u8,
+    into: u8,
+    time: u64,
+    old: &[u8],
+    new: &[u8],
+    plan: &mut [u8],
+) -> u64
+    ensures { λ r. ⌜ (r ≡ packed (renamed (now (image .entry)) (now (plan .entry)) (requestOf user group current from into time) (now (old .entry)) (now (new .entry)))) × (now (plan .exit) ≡ planAfter (now (image .entry)) (now (plan .entry)) (requestOf user group current from into time) (now (old .entry)) (now (new .entry))) ⌝ }
+{
+    let who = Credentials { user, group };
+    let starts = Starts {
+        old: from,
+        new: into,
+    };
+    let q = Request {
+        who,
+        current,
+        starts,
+        now: time,
+    };
+    pack(rename::rename(image, q, old, new, plan))
 }
 
 // The job land, with its row taken as all 64 bits. The number is the whole result.

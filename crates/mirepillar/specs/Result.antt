@@ -1,0 +1,35 @@
+-- What C hands over and gets back: the parts of a request, and the job's answer as one number, each part in bits of its own. Assumes nothing.
+use mathlib.Core.Path.{_≡_}
+use Prim.Native.Nat.{ℕ, _+_, _*_, _/_, _%_, _≤_, _<_}
+use native.Mathlib.Omega.{arith}
+use Rattle.paths.specs.declared.request.Request.{Request}
+use Rattle.rename.specs.declared.Renamed.{Renamed}
+use Rattle.rename.specs.Bounds.{Small}
+
+abbrev pub requestOf : ℕ → ℕ → ℕ → ℕ → ℕ → ℕ → Request
+requestOf user group current old new time = record {
+  who = record { user = user; group = group };
+  current = current;
+  starts = record { old = old; new = new };
+  now = time;
+}
+
+-- bits 0 to 7 the number, 8 to 15 the rows, 16 to 31 old's count, 32 to 47 new's
+unfoldable pub packed : Renamed → ℕ
+packed r = r .number + 256 * r .rows + 65536 * r .old + 4294967296 * r .new
+
+-- The parts as the header's accessors take them out; nothing stands above them.
+pub record Parts (n : ℕ) (r : Renamed) : Type 0 where
+  pub number : n % 256 ≡ r .number
+  pub rows : n / 256 % 256 ≡ r .rows
+  pub old : n / 65536 % 65536 ≡ r .old
+  pub new : n / 4294967296 % 65536 ≡ r .new
+  pub rest : n < 281474976710656
+
+pub packed-parts : (r : Renamed) → r .number < 256 → Small r → Parts (packed r) r
+unfolding packed
+packed-parts r byte small =
+    let rows = small .rows in
+    let old = small .old in
+    let new = small .new in
+    record { number = omega arith; rows = omega arith; old = omega arith; new = omega arith; rest = omega arith }

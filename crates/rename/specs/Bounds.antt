@@ -1,0 +1,69 @@
+-- The parts of the job's answer are small: no more rows than a plan holds, and no walk of more than 1,152 component checks (rule 68). Assumes nothing.
+use mathlib.Core.Path.{sym, subst}
+use mathlib.Core.List.{List, [], _∷_}
+use Prim.Native.Nat.{ℕ, _+_, _≤_, zero-le}
+use native.Mathlib.Omega.{arith}
+use lib.Dec.{eqb}
+use lib.ListN.{length, length-append}
+use Rattle.seq.specs.Truth.{by-test}
+use Rattle.layout.specs.declared.Shape.{Shape}
+use Rattle.layout.specs.View.{View}
+use Rattle.layout.specs.Contents.{shapeOf}
+use Rattle.paths.specs.declared.request.Request.{Request}
+use Rattle.component.specs.declared.state.Final.the-variants.{MustExist, MayBeMissing}
+use Rattle.component.specs.Step.{stepLimit, End}
+use Rattle.walk.specs.Bound.{walk-bound}
+use Rattle.walk.specs.Both.{walksOf, oldWalk}
+use Rattle.plan.specs.Form.{planRows}
+use Rattle.results.specs.declared.Move.{Move}
+use Rattle.results.specs.Results.{results, clearRow}
+use Rattle.results.specs.Rows.{results-le}
+use Rattle.refusals.specs.declared.case.Answer.{Answer}
+use Rattle.refusals.specs.declared.case.Answer.the-variants.{Refused, Same, Planned}
+use Rattle.refusals.specs.Steps.{decide}
+use Rattle.rename.specs.declared.Renamed.{Renamed}
+use Rattle.rename.specs.Plan.{renameRows}
+use Rattle.rename.specs.Order.{view, walks, early}
+use Rattle.rename.specs.Job.{answer, move, called, rowsOf, countOf, renamed}
+use Rattle.rename.specs.Outs.{Answers}
+
+pub record Small (r : Renamed) : Type 0 where
+  pub rows : r .rows ≤ planRows
+  pub old : r .old ≤ stepLimit
+  pub new : r .new ≤ stepLimit
+
+rows-le : (h : Shape) (s : List ℕ) (m : Move) (name : List ℕ) → length (renameRows h s m name) ≤ planRows
+unfolding renameRows
+rows-le h s m name = omega (arith, results-le h s m, length-append (results h s m) (clearRow h ∷ []))
+
+old-bound : (v : View) (q : Request) (old new : List ℕ) → walksOf v q old new .old .steps ≤ stepLimit
+unfolding walksOf
+old-bound v q old new = walk-bound v (q .who) MustExist (q .current) (q .starts .old) old
+
+new-bound : (v : View) (q : Request) (old new : List ℕ) → walksOf v q old new .new .steps ≤ stepLimit
+unfolding walksOf
+new-bound v q old new =
+    by-test (λ (e : End). e .steps ≤ stepLimit) (eqb (oldWalk v q old .number) 0) _ _
+    (λ z. walk-bound v (q .who) MayBeMissing (q .current) (q .starts .new) new) (λ z. zero-le)
+
+module _ (s plan : List ℕ) (q : Request) (old new : List ℕ) where
+  answered-rows : (a : Answer) → rowsOf s plan q old new a ≤ planRows
+  answered-rows (Refused n) = zero-le
+  answered-rows Same = zero-le
+  answered-rows Planned = rows-le (shapeOf s) s (move s plan q old new) (called s plan q old new)
+
+  counted : (a : Answer) (n : ℕ) → n ≤ stepLimit → countOf s plan q old new a n ≤ stepLimit
+  counted (Refused k) n l = zero-le
+  counted Same n l = zero-le
+  counted Planned n l = l
+
+  pub renamed-small : Small (renamed s plan q old new)
+  unfolding renamed
+  renamed-small = record {
+    rows = answered-rows (answer s plan q old new);
+    old = counted (decide (early s plan q old new)) _ (old-bound (view s plan q old new) q old new);
+    new = counted (decide (early s plan q old new)) _ (new-bound (view s plan q old new) q old new);
+  }
+
+pub answers-small : {s plan : List ℕ} {q : Request} {old new : List ℕ} {r : Renamed} {after : List ℕ} → Answers s plan q old new r after → Small r
+answers-small {s} {plan} {q} {old} {new} a = subst Small (sym (a .is)) (renamed-small s plan q old new)
