@@ -244,23 +244,33 @@ static void skip_walk(struct input *cases, struct input *answers)
 static unsigned long run(const char *path, struct input *answers)
 {
     struct input cases = open_input(path);
-    unsigned long count = 0, differences = 0;
+    unsigned long count = 0, skipped = 0, differences = 0;
     while (cases.left > 0) {
-        uint8_t tag = *take(&cases, 1);
-        if (tag == TAG_BASE)
+        switch (*take(&cases, 1)) {
+        case TAG_BASE:
             read_base(&cases);
-        else if (tag == TAG_CHECK)
+            break;
+        case TAG_CHECK:
             differences += !check_case(&cases, answers, ++count);
-        else if (tag == TAG_WALK)
+            break;
+        case TAG_WALK:
             skip_walk(&cases, answers);
-        else if (tag == TAG_LAND)
+            skipped++;
+            break;
+        case TAG_LAND:
             differences += !land_case(&cases, answers, ++count);
-        else if (tag == TAG_RENAME)
+            break;
+        case TAG_RENAME:
             differences += !rename_case(&cases, answers, ++count);
-        else
+            break;
+        default:
             fail(path, "an item has an unknown tag");
+        }
     }
-    printf("%s: %lu cases, %lu differences\n", path, count, differences);
+    if (skipped > 0)
+        printf("%s: %lu cases passed over, the walk is no job of its own\n", path, skipped);
+    else
+        printf("%s: %lu cases, %lu differences\n", path, count, differences);
     free(cases.bytes);
     return differences;
 }
@@ -274,6 +284,8 @@ int main(int argc, char **argv)
     unsigned long differences = 0;
     for (int i = 2; i < argc; i++)
         differences += run(argv[i], &answers);
+    if (answers.left > 0)
+        fail(argv[1], "there are more answers than cases");
     free(answers.bytes);
     return differences > 0;
 }
