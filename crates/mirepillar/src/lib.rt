@@ -27,7 +27,7 @@ fn pack(r: Renamed) -> u64
     (r.number as u64) + 256 * (r.rows as u64) + 65536 * (r.old as u64) + 4294967296 * (r.new as u64)
 }
 
-// The job rename.
+// The job rename. The starts of old and new are from and into.
 #[no_mangle]
 pub extern "C" fn mp_rename(
     image: &[u8],
