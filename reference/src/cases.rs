@@ -10,23 +10,21 @@ use crate::vectors::Writer;
 pub struct Part {
     pub name: &'static str,
     pub make: fn() -> Collection,
-    /// The file that its answers stand in, behind those of the parts before it.
-    pub answers: &'static str,
 }
 
-/// What the program of the proved library prints.
-const PROGRAM: &str = "crates/vectors/stdout";
+/// The file of the answers, part after part: what the program of the proved library prints.
+pub const ANSWERS: &str = "crates/vectors/stdout";
 
 /// Every part, in the order of the answers; this list alone decides what is written and verified.
 pub const PARTS: &[Part] = &[
     // an image: its number
-    Part { name: "check", make: check::all, answers: PROGRAM },
+    Part { name: "check", make: check::all },
     // an image, a plan, a row: the number and the image after
-    Part { name: "land", make: land::all, answers: PROGRAM },
+    Part { name: "land", make: land::all },
     // an image, a request: where both walks end
-    Part { name: "walk", make: walk::all, answers: PROGRAM },
+    Part { name: "walk", make: walk::all },
     // an image, a buffer, a request: number, rows, both counts and the buffer after
-    Part { name: "rename", make: rename::all, answers: PROGRAM },
+    Part { name: "rename", make: rename::all },
 ];
 
 /// The cases of one class, by the numbers that answer them.

@@ -1,6 +1,6 @@
 //! The commands: `write` makes the files of test vectors, `verify` compares the stored ones with fresh ones.
 
-use mirepillar_reference::cases::{Collection, Part, PARTS};
+use mirepillar_reference::cases::{Collection, Part, ANSWERS, PARTS};
 use std::collections::BTreeMap;
 use std::path::{Path, PathBuf};
 use std::process::ExitCode;
@@ -15,7 +15,7 @@ fn files(parts: &Parts) -> BTreeMap<String, Vec<u8>> {
     let mut files = BTreeMap::new();
     for (part, collection) in parts {
         files.insert(format!("crates/vectors/data/{}", part.name), collection.writer.data.clone());
-        files.entry(part.answers.to_string()).or_default().extend(collection.expected().into_bytes());
+        files.entry(ANSWERS.to_string()).or_default().extend(collection.expected().into_bytes());
     }
     files
 }
