@@ -1,3 +1,5 @@
 pub mod Recover
 pub mod Job
-pub mod Bench
+pub mod Drafts
+pub mod Outcome
+pub mod Outs

@@ -23,10 +23,10 @@ abbrev pub belowOrAbsent : ℕ → ℕ → Bool
 belowOrAbsent i n = implies (present i) (ltb i n)
 
 -- rule 111: the numbers are in range; that of the old parent is asked for by rule 112
-abbrev pub inRange : View → Journal → Bool
-inRange v j =
-    ltb (j .old) (v .entries) && ltb (j .new) (v .entries) && ltb (j .moved) (v .inodes) && belowOrAbsent (j .replaced) (v .inodes)
-    && belowOrAbsent (j .text) (v .texts)
+abbrev pub inRange : Shape → Journal → Bool
+inRange h j =
+    ltb (j .old) (h .entries) && ltb (j .new) (h .entries) && ltb (j .moved) (h .inodes) && belowOrAbsent (j .replaced) (h .inodes)
+    && belowOrAbsent (j .text) (h .texts)
 
 -- rule 112: the slots differ, the moved inode is not the root, and it, the old parent and the replaced inode are different
 abbrev pub different : Journal → Bool
@@ -35,8 +35,8 @@ different j =
     && not (eqb (j .replaced) (j .parent))
 
 -- rules 111 and 112: the record of a rename fits the image
-unfoldable pub renameFits : View → Journal → Bool
-renameFits v j = inRange v j && different j && isDirectory v (j .parent)
+unfoldable pub renameFits : Shape → List ℕ → Journal → Bool
+renameFits h x j = inRange h j && different j && isDirectory (viewOf h x) (j .parent)
 
 -- the move that the record names; the new parent is the one of the entry in the new slot
 abbrev pub moveFrom : View → Journal → Move
@@ -74,7 +74,7 @@ module _ (h : Shape) (x : List ℕ) where
 
   -- and of a pending rename
   unfoldable pub renameDraft : Journal → Option (List Write)
-  renameDraft j = cond (renameFits (viewOf h x) j) (moveDraft (moveFrom (viewOf h x) j)) none
+  renameDraft j = cond (renameFits h x j) (moveDraft (moveFrom (viewOf h x) j)) none
 
   -- ---- any pending operation
 
