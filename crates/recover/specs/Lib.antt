@@ -1,5 +1,6 @@
 pub mod Recover
 pub mod Job
+pub mod Fit
 pub mod Drafts
 pub mod Outcome
 pub mod Outs
