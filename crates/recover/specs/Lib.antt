@@ -1,5 +1,6 @@
 pub mod Recover
 pub mod Job
 pub mod Drafts
+pub mod Fit
 pub mod Outcome
 pub mod Outs
