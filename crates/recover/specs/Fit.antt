@@ -1,27 +1,38 @@
--- What a pending rename that fits says of its numbers, and that the draft of a recovery writes what it may (rules 110 to 114). Assumes nothing.
-use mathlib.Core.Path.{_≡_, subst}
-use mathlib.Core.Bool.{Bool, true, _&&_}
-use mathlib.Core.List.{List, [], _∷_, _++_}
+-- A pending rename that fits and the draft of a recovery: the tests' last ways out, the numbers' ranges, one law for each way out of the draft, and
+-- that its rows are such as an operation may write (rules 110 to 114). Assumes nothing.
+use mathlib.Core.Path.{_≡_, refl, _∙_, subst}
+use mathlib.Core.Bool.{Bool, true, false, _&&_, not}
+use mathlib.Core.List.{List, [], _∷_}
 use mathlib.Core.Logic.{_≢_}
 use mathlib.Core.Option.{Option, none, some}
-use Prim.Native.Nat.{ℕ, zero, suc, _≤_, _<_}
+use Prim.Native.Nat.{ℕ, zero, suc, _+_, _≤_, _<_}
 use native.Mathlib.Omega.{arith}
-use lib.Dec.{ltb}
+use lib.Dec.{eqb, ltb}
 use lib.ListN.{length, length-append}
-use borrow.Author.Tests.{ltb-true, ne-eqb}
+use borrow.Author.Tests.{ltb-true, lt-ltb, ne-eqb}
 use Rattle.seq.specs.Truth.{and-left, and-right, implies-at, by-test}
 use Rattle.layout.specs.declared.Shape.{Shape}
 use Rattle.layout.specs.Contents.{Laid}
 use Rattle.layout.specs.View.{viewOf, journalAt, isDirectory, isKind-below}
 use Rattle.encode.specs.declared.journal.Journal.{Journal}
 use Rattle.encode.specs.Journal.{absent, journalOf, journalFormed}
-use Rattle.plan.specs.Form.{planRows}
-use Rattle.plan.specs.Write.{Write, AllWrites, writes-join}
+use Rattle.plan.specs.Form.{planRows, rowPut}
+use Rattle.plan.specs.Write.{Write, AllWrites, writes-join, rowFrom, Filled, filled-one, filled-join}
 use Rattle.results.specs.declared.Move.{Move}
 use Rattle.results.specs.Results.{InImage, present, results, clearRow}
 use Rattle.results.specs.Owed.{results-write, clear-writes}
 use Rattle.results.specs.Rows.{results-le}
 use Rattle.recover.specs.Recover.{belowOrAbsent, inRange, different, renameFits, moveFrom, decided, intoGood, undoing, finishing, moveDraft, renameDraft, kindDraft, draft}
+
+-- ---- the tests' last ways out
+
+pub range-last : (h : Shape) (j : Journal) → j .old < h .entries → j .new < h .entries → j .moved < h .inodes
+    → belowOrAbsent (j .replaced) (h .inodes) ≡ true → inRange h j ≡ belowOrAbsent (j .text) (h .texts)
+range-last h j old new moved replaced = rw (lt-ltb _ _ old, lt-ltb _ _ new, lt-ltb _ _ moved, replaced)
+
+pub different-last : (j : Journal) → j .old ≢ j .new → j .moved ≢ 0 → j .moved ≢ j .parent → j .replaced ≢ j .moved
+    → different j ≡ not (eqb (j .replaced) (j .parent))
+different-last j slots root parent replaced = rw (ne-eqb _ _ slots, ne-eqb _ _ root, ne-eqb _ _ parent, ne-eqb _ _ replaced)
 
 -- ---- a record that fits
 
@@ -66,6 +77,67 @@ module _ (h : Shape) (x : List ℕ) (j : Journal) (fit : renameFits h x j ≡ tr
     text = below _ _ (range .4);
   }
 
+  -- the same of the move as the code has it
+  module _ (m : Move) (is : m ≡ moveFrom (viewOf h x) j) where
+    pub move-new : m .new < h .entries
+    move-new = rw is fits-new
+
+    pub move-image : intoGood (viewOf h x) m ≡ true → InImage h m
+    move-image good = rw is (fits-image (rw is at good))
+
+    pub rename-move : renameDraft h x j ≡ moveDraft h x m
+    unfolding renameDraft
+    rename-move = rw (fit, is)
+
+-- ---- the ways out of a draft
+
+module _ (h : Shape) (x : List ℕ) where
+  pub rename-unfit : (j : Journal) → renameFits h x j ≡ false → renameDraft h x j ≡ none
+  unfolding renameDraft
+  rename-unfit j unfit = rw unfit
+
+  module _ (m : Move) where
+    pub move-undone : decided (viewOf h x) m ≡ false → moveDraft h x m ≡ some (undoing h x)
+    unfolding moveDraft
+    move-undone undecided = rw undecided
+
+    pub move-unfit : decided (viewOf h x) m ≡ true → intoGood (viewOf h x) m ≡ false → moveDraft h x m ≡ none
+    unfolding moveDraft
+    move-unfit done bad = rw (done, bad)
+
+    pub move-finished : decided (viewOf h x) m ≡ true → intoGood (viewOf h x) m ≡ true → moveDraft h x m ≡ some (finishing h x m)
+    unfolding moveDraft
+    move-finished done good = rw (done, good)
+
+  pub draft-unformed : journalFormed (journalAt h x) ≡ false → draft h x ≡ none
+  unfolding draft
+  draft-unformed bad = rw bad
+
+  module _ (formed : journalFormed (journalAt h x) ≡ true) (j : Journal) (is : j ≡ journalOf (journalAt h x)) where
+    kind-draft : draft h x ≡ kindDraft h x (j .kind) j
+    unfolding draft
+    kind-draft = rw (formed, is)
+
+    pub draft-rename : j .kind ≡ 0 → draft h x ≡ renameDraft h x j
+    draft-rename e = kind-draft ∙ rw e
+
+    pub draft-other : j .kind ≢ 0 → draft h x ≡ none
+    draft-other n = kind-draft ∙ go (j .kind) n
+      where
+        go : (k : ℕ) → k ≢ 0 → kindDraft h x k j ≡ none
+        go zero n = absurd (n refl)
+        go (suc k) n = refl
+
+-- ---- the rows in a plan
+
+module _ (h : Shape) (x : List ℕ) (m : Move) {p q : List ℕ} {n : ℕ} (filled : Filled h p 0 (results h x m) q n) where
+  -- the results leave a place for the row behind them
+  pub results-below : n < planRows
+  results-below = omega (arith, filled .next, results-le h x m)
+
+  pub finishing-filled : {r : List ℕ} → r ≡ rowPut q n (rowFrom h (clearRow h)) → Filled h p 0 (finishing h x m) r (n + 1)
+  finishing-filled e = filled-join h filled (filled-one h (clearRow h) e)
+
 -- ---- what a draft writes
 
 -- rows that an operation may write, and few enough for a plan; where there are none, there is nothing to ask
@@ -104,5 +176,6 @@ module _ (h : Shape) (x : List ℕ) (laid : Laid h x) where
       let j = journalOf (journalAt h x) in
       by-test (Owed h) (journalFormed (journalAt h x)) (kindDraft h x (j .kind) j) none (λ _. kind-owed (j .kind) j) (λ _. tt)
 
+  -- so whatever rows a draft has, a plan of them can be made and applied
   pub draft-writes : (ws : List Write) → draft h x ≡ some ws → AllWrites h ws × (length ws ≤ planRows)
   draft-writes ws e = subst (Owed h) e draft-owed

@@ -1,6 +1,5 @@
 -- `recover::renames::below_or_absent` meets its contract. Assumes nothing.
 use borrow.Author.Tests.{eq-eqb, ne-eqb}
-use borrow.Author.Needs.{needs}
 use Rattle.recover.proofs.renames.below_or_absent.Statement.{statement}
 use Rattle.recover.proofs.renames.below_or_absent.Tie as tie
 
