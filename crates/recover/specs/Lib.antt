@@ -2,5 +2,6 @@ pub mod Recover
 pub mod Job
 pub mod Fit
 pub mod Drafts
+pub mod Fit
 pub mod Outcome
 pub mod Outs
