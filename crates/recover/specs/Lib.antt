@@ -1,6 +1,5 @@
 pub mod Recover
 pub mod Job
-pub mod Fit
 pub mod Drafts
 pub mod Fit
 pub mod Outcome

@@ -2,23 +2,27 @@
 use mathlib.Core.Path.{_≡_, refl, sym, ap, _∙_, subst}
 use mathlib.Core.Logic.{_≢_}
 use mathlib.Core.Bool.{Bool, true, false, cond}
-use mathlib.Core.List.{List, []}
+use mathlib.Core.List.{List, [], _++_}
 use mathlib.Core.Option.{Option, none, some}
 use Prim.Native.Nat.{ℕ, _+_, _≤_}
+use native.Mathlib.Nat.{zero-add}
 use native.Mathlib.Omega.{arith}
-use lib.ListN.{length, replicate, drop, length-replicate, length-map}
+use lib.ListN.{length, replicate, take, drop, length-replicate, length-map}
+use lib.Seq.{length-take-le}
 use Rattle.seq.specs.Truth.{refuted}
 use Rattle.seq.specs.Bytes.{put, put-eq, put-whole}
 use Rattle.layout.specs.declared.Shape.{Shape}
 use Rattle.layout.specs.Contents.{Read}
-use Rattle.consistency.specs.Consistent.{consistent, checkNumber, checked-consistent, consistent-checked}
+use Rattle.consistency.specs.Others.{journalClear}
+use Rattle.consistency.specs.Consistent.{bodiesGood, consistent, unsound, checkNumber, checked-consistent, consistent-checked}
 use Rattle.plan.specs.Form.{planRows, planBytes, rowsPut, cleared}
+use Rattle.plan.specs.Many.{rows-length}
 use Rattle.plan.specs.Copied.{rows-copied}
 use Rattle.plan.specs.Write.{Write, AllWrites, Filled, storeAll, rowsFrom}
 use Rattle.recover.specs.declared.Answer.{Answer}
-use Rattle.recover.specs.declared.draft.Draft.the-variants.{Rows}
+use Rattle.recover.specs.declared.draft.Draft.the-variants.{Unfit, Rows}
 use Rattle.recover.specs.Recover.{draft, ifConsistent, pendingRows}
-use Rattle.recover.specs.Job.{Recovered, answerOf, notRecoverable, outcomeOf, byRows}
+use Rattle.recover.specs.Job.{Recovered, answerOf, notRecoverable, outcomeOf, refused, done, byRows, byJournal}
 use Rattle.recover.specs.Drafts.{Drafted}
 use Rattle.recover.specs.Fit.{draft-writes}
 use Rattle.recover.specs.Outcome.{appliedFrom, stored-length, rows-formed, rows-applied}
@@ -36,10 +40,22 @@ pub record Answers (o : Recovered) (r : Answer) (plan scratch : List ℕ) : Type
 pub answers-as : {o p : Recovered} {r t : Answer} {plan scratch : List ℕ} → Answers o r plan scratch → t ≡ r → o ≡ p → Answers p t plan scratch
 answers-as {o} {p} {r} {t} {plan} {scratch} a e f = subst (λ (q : Recovered). Answers q t plan scratch) f (record { is = e ∙ a .is; plan-is = a .plan-is; scratch-is = a .scratch-is })
 
+-- a refusal leaves both buffers as they were
+pub answers-refused : (plan scratch x : List ℕ) (n : ℕ) {o : Recovered} → o ≡ refused plan scratch x n → Answers o (refusedBy n) plan scratch
+answers-refused plan scratch x n e = answers-as (record { is = refl; plan-is = refl; scratch-is = refl }) refl (sym e)
+
 -- A draft of so many rows of an image is ready to be settled.
 pub record Ready (x : List ℕ) (h : Shape) (n : ℕ) (plan : List ℕ) : Type 0 where
   pub read : Read x h
   pub drafted : Drafted h (replicate planBytes 0) (draft h x) (Rows n) plan
+
+-- it is exactly a plan
+pub ready-exact : {x : List ℕ} {h : Shape} {n : ℕ} {d : List ℕ} → Ready x h n d → length d ≡ planBytes
+ready-exact {x} {h} {n} {d} ready = go (draft h x) (ready .drafted)
+  where
+    go : (o : Option (List Write)) → Drafted h (replicate planBytes 0) o (Rows n) d → length d ≡ planBytes
+    go none f = absurd f
+    go (some ws) f = ap (λ (xs : List ℕ). length xs) (f .plan) ∙ rows-length (rowsFrom h ws) (replicate planBytes 0) 0 ∙ length-replicate {A = ℕ} planBytes 0
 
 -- what scratch shows is as long as the image
 pub outcome-length : (h : Shape) (x : List ℕ) (o : Option (List Write)) → length (outcomeOf h x o) ≡ length x
@@ -56,6 +72,15 @@ answers-none plan scratch x h whole e z f =
       scratch-is = f ∙ ap (λ (n : ℕ). replicate n 0) whole
           ∙ sym (put-whole scratch (replicate (length x) 0) (whole ∙ sym (length-replicate (length x) 0)));
     }) refl (ap (byRows plan scratch x h) (sym e))
+
+-- a record that does not fit is not recoverable
+pub unfit-none : (h : Shape) (x p q : List ℕ) → Drafted h p (draft h x) Unfit q → pendingRows h x ≡ none
+unfolding pendingRows
+unfit-none h x p q f = ap (ifConsistent h x) (go (draft h x) f)
+  where
+    go : (o : Option (List Write)) → Drafted h p o Unfit q → o ≡ none
+    go none f = refl
+    go (some ws) f = absurd f
 
 -- settled: the rows of the draft, by their outcome
 module _ (plan scratch x : List ℕ) (h : Shape) (whole : length scratch ≡ length x) (long : planBytes ≤ length plan) (read : Read x h) where
@@ -121,3 +146,38 @@ module _ (plan scratch x : List ℕ) (h : Shape) (whole : length scratch ≡ len
             → Answers (byRows plan scratch x h (pendingRows h x)) (record { number = 0; rows = n }) q y
         go none is f = absurd f
         go (some ws) is f = rows-done ws is (replicate planBytes 0) refl d n f y outcome fine q e
+
+-- ---- by the journal record
+
+module _ (plan scratch x : List ℕ) (h : Shape) where
+  -- set: pending works on the front of scratch, and what lies behind it stays
+  module _ (room : length x ≤ length scratch) where
+    front-put : (o : Option (List Write)) → put (take (length x) scratch) 0 (outcomeOf h x o) ++ drop (length x) scratch ≡ put scratch 0 (outcomeOf h x o)
+    front-put o =
+        let n = outcome-length h x o in
+        let l : length (take (length x) scratch) ≡ length x = length-take-le (length x) scratch room in
+        let m : 0 + length (outcomeOf h x o) ≡ length x = zero-add _ ∙ n in
+        ap (λ (ys : List ℕ). ys ++ drop (length x) scratch) (put-whole (take (length x) scratch) (outcomeOf h x o) (l ∙ sym n))
+        ∙ ap (λ (k : ℕ). outcomeOf h x o ++ drop k scratch) (sym m) ∙ sym (put-eq scratch 0 (outcomeOf h x o) (omega arith))
+
+    front-answers : (o : Option (List Write)) {r : Answer} {q front : List ℕ} → Answers (byRows plan (take (length x) scratch) x h o) r q front
+        → Answers (byRows plan scratch x h o) r q (front ++ drop (length x) scratch)
+    front-answers none a = record { is = a .is; plan-is = a .plan-is; scratch-is = ap (λ (ys : List ℕ). ys ++ drop (length x) scratch) (a .scratch-is) ∙ front-put none }
+    front-answers (some ws) a = record { is = a .is; plan-is = a .plan-is; scratch-is = ap (λ (ys : List ℕ). ys ++ drop (length x) scratch) (a .scratch-is) ∙ front-put (some ws) }
+
+    pub answers-pending : journalClear h x ≡ false → {r : Answer} {q front : List ℕ} → Answers (byRows plan (take (length x) scratch) x h (pendingRows h x)) r q front
+        → Answers (byJournal plan scratch x h) r q (front ++ drop (length x) scratch)
+    answers-pending set a = answers-as (front-answers (pendingRows h x) a) refl (rw set)
+
+  -- clear: the bodies decide
+  module _ (read : Read x h) (clear : journalClear h x ≡ true) where
+    by-bodies : consistent x ≡ bodiesGood h x
+    unfolding consistent
+    by-bodies = rw (read .good, ← read .shape, clear)
+
+    pub answers-unsound : bodiesGood h x ≡ false → Answers (byJournal plan scratch x h) (refusedBy unsound) plan scratch
+    answers-unsound bad = answers-as (record { is = refl; plan-is = refl; scratch-is = refl }) refl (rw (clear, by-bodies, bad))
+
+    pub answers-nothing : bodiesGood h x ≡ true → {q z : List ℕ} → q ≡ cleared plan → z ≡ put scratch 0 x → Answers (byJournal plan scratch x h) (refusedBy 0) q z
+    unfolding rowsPut
+    answers-nothing good e f = answers-as {o = done plan scratch x h []} (record { is = refl; plan-is = e; scratch-is = f }) refl (rw (clear, by-bodies, good))

@@ -33,7 +33,14 @@ fn refused(number: u8) -> Answer
 }
 
 // The rows of a draft, which are answered only if their outcome is consistent. Scratch is as long as the image.
-fn settle(s: &[u8], h: Shape, rows: usize, draft: &[u8], plan: &mut [u8], scratch: &mut [u8]) -> Answer
+fn settle(
+    s: &[u8],
+    h: Shape,
+    rows: usize,
+    draft: &[u8],
+    plan: &mut [u8],
+    scratch: &mut [u8],
+) -> Answer
     requires { ⌜ Ready (now s) h rows (now draft) × (planBytes ≤ length (now plan)) × (length (now scratch) ≡ length (now s)) ⌝ }
     ensures { λ r. ⌜ Answers (byRows (now (plan .entry)) (now (scratch .entry)) (now (s .entry)) h (pendingRows h (now (s .entry)))) r (now (plan .exit)) (now (scratch .exit)) ⌝ }
 {

@@ -70,9 +70,16 @@ module _ (h : Shape) (s : List ℕ) (m : Move) (laid : Laid h s) (range : InImag
   results-write =
       let into = when-writes h (not (eqb (m .into) (m .from))) (holderRow h s m (m .into)) (λ _. holder-writes (m .into) (range .into)) in
       let replaced = when-writes h (present (m .replaced)) (replacedRow h s m) (λ e. replaced-writes (eqb-false _ _ (not-true _ e))) in
-      let text = when-writes h (present (m .text)) (textRow h s m) (λ e. text-writes (eqb-false _ _ (not-true _ e))) in
-      (old-writes, (moved-writes, (holder-writes (m .from) (range .from),
-      writes-join h (intoRows h s m ++ replacedRows h s m) (textRows h s m) (writes-join h (intoRows h s m) (replacedRows h s m) into replaced) text)))
+      let text = when-writes h (present (m .text)) (textRow h s m) (λ e. text-writes (eqb-false _ _ (not-true _ e))) in (
+        old-writes,
+        (
+          moved-writes,
+          (
+            holder-writes (m .from) (range .from),
+            writes-join h (intoRows h s m ++ replacedRows h s m) (textRows h s m) (writes-join h (intoRows h s m) (replacedRows h s m) into replaced) text,
+          ),
+        ),
+      )
 
 pub clear-writes : (h : Shape) → Writes h clearGroup journalKey (freeRecord h 4)
 clear-writes h = record {

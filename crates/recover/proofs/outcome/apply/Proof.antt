@@ -33,10 +33,12 @@ loop-again : tie.Need-loop-again Inv-loop μ-loop
 loop-again c =
     let args = c .before .before .before .before .before .before .before .before .args in
     let loop = c .before .before .before .before .before .loop in
-    let i = loop .i in
-    (search needs, search needs,
-    ap (λ (x : List ℕ). appliedFrom x (args .plan .now) (i + 1) (args .n - (i + 1))) (c .before .before .land .ensures .1)
-    ∙ sym (applied-turn (loop .image) (args .plan .now) i (args .n) (search needs)) ∙ loop .inv .2)
+    let i = loop .i in (
+      search needs,
+      search needs,
+      ap (λ (x : List ℕ). appliedFrom x (args .plan .now) (i + 1) (args .n - (i + 1))) (c .before .before .land .ensures .1)
+          ∙ sym (applied-turn (loop .image) (args .plan .now) i (args .n) (search needs)) ∙ loop .inv .2,
+    )
 
 same-length : tie.Need-same-length Inv-loop μ-loop
 same-length c = search needs
