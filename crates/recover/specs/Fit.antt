@@ -5,10 +5,9 @@ use mathlib.Core.Bool.{Bool, true, false, _&&_, not}
 use mathlib.Core.List.{List, [], _∷_}
 use mathlib.Core.Logic.{_≢_}
 use mathlib.Core.Option.{Option, none, some}
-use Prim.Native.Nat.{ℕ, zero, suc, _+_, _≤_, _<_}
+use Prim.Native.Nat.{ℕ, zero, suc, _+_, _<_}
 use native.Mathlib.Omega.{arith}
 use lib.Dec.{eqb, ltb}
-use lib.ListN.{length, length-append}
 use borrow.Author.Tests.{ltb-true, lt-ltb, ne-eqb}
 use Rattle.seq.specs.Truth.{and-left, and-right, implies-at, by-test}
 use Rattle.layout.specs.declared.Shape.{Shape}
@@ -140,20 +139,17 @@ module _ (h : Shape) (x : List ℕ) (m : Move) {p q : List ℕ} {n : ℕ} (fille
 
 -- ---- what a draft writes
 
--- rows that an operation may write, and few enough for a plan; where there are none, there is nothing to ask
+-- rows that an operation may write; where there are none, there is nothing to ask
 abbrev Owed : Shape → Option (List Write) → Type 0
 Owed h none = Unit {0}
-Owed h (some ws) = AllWrites h ws × (length ws ≤ planRows)
+Owed h (some ws) = AllWrites h ws
 
 module _ (h : Shape) (x : List ℕ) (laid : Laid h x) where
   undoing-owed : Owed h (some (undoing h x))
-  undoing-owed = ((clear-writes h, tt), omega arith)
+  undoing-owed = (clear-writes h, tt)
 
   finishing-owed : (m : Move) → InImage h m → Owed h (some (finishing h x m))
-  finishing-owed m range = (
-    writes-join h (results h x m) (clearRow h ∷ []) (results-write h x m laid range) (clear-writes h, tt),
-    omega (arith, results-le h x m, length-append (results h x m) (clearRow h ∷ [])),
-  )
+  finishing-owed m range = writes-join h (results h x m) (clearRow h ∷ []) (results-write h x m laid range) (clear-writes h, tt)
 
   move-owed : (m : Move) → (intoGood (viewOf h x) m ≡ true → InImage h m) → Owed h (moveDraft h x m)
   unfolding moveDraft
@@ -176,6 +172,6 @@ module _ (h : Shape) (x : List ℕ) (laid : Laid h x) where
       let j = journalOf (journalAt h x) in
       by-test (Owed h) (journalFormed (journalAt h x)) (kindDraft h x (j .kind) j) none (λ _. kind-owed (j .kind) j) (λ _. tt)
 
-  -- so whatever rows a draft has, a plan of them can be made and applied
-  pub draft-writes : (ws : List Write) → draft h x ≡ some ws → AllWrites h ws × (length ws ≤ planRows)
+  -- so whatever rows a draft has, they can be applied
+  pub draft-writes : (ws : List Write) → draft h x ≡ some ws → AllWrites h ws
   draft-writes ws e = subst (Owed h) e draft-owed

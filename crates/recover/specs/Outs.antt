@@ -23,6 +23,7 @@ use Rattle.recover.specs.declared.Answer.{Answer}
 use Rattle.recover.specs.declared.draft.Draft.the-variants.{Unfit, Rows}
 use Rattle.recover.specs.Recover.{draft, ifConsistent, pendingRows}
 use Rattle.recover.specs.Job.{Recovered, answerOf, notRecoverable, outcomeOf, refused, done, byRows, byJournal}
+use Rattle.recover.specs.Bounds.{draft-rows}
 use Rattle.recover.specs.Drafts.{Drafted}
 use Rattle.recover.specs.Fit.{draft-writes}
 use Rattle.recover.specs.Outcome.{appliedFrom, stored-length, rows-formed, rows-applied}
@@ -85,8 +86,11 @@ unfit-none h x p q f = ap (ifConsistent h x) (go (draft h x) f)
 -- settled: the rows of the draft, by their outcome
 module _ (plan scratch x : List ℕ) (h : Shape) (whole : length scratch ≡ length x) (long : planBytes ≤ length plan) (read : Read x h) where
   module _ (ws : List Write) (is : draft h x ≡ some ws) (base : List ℕ) (blank : base ≡ replicate planBytes 0) (d : List ℕ) (n : ℕ) (f : Filled h base 0 ws d n) where
-    abbrev owed : AllWrites h ws × (length ws ≤ planRows)
+    abbrev owed : AllWrites h ws
     owed = draft-writes h x (read .laid) ws is
+
+    abbrev few : length ws ≤ planRows
+    few = draft-rows h x ws is
 
     exact : length base ≡ planBytes
     exact = ap (λ (xs : List ℕ). length xs) blank ∙ length-replicate {A = ℕ} planBytes 0
@@ -94,14 +98,14 @@ module _ (plan scratch x : List ℕ) (h : Shape) (whole : length scratch ≡ len
     outcome-is : appliedFrom (put scratch 0 x) d 0 n ≡ storeAll h x ws
     outcome-is =
         let e : n ≡ length ws = omega (arith, f .next) in
-        rw (put-whole scratch x whole, e, f .plan) (rows-applied h base (omega (arith, exact)) ws (owed .1) (owed .0) x read)
+        rw (put-whole scratch x whole, e, f .plan) (rows-applied h base (omega (arith, exact)) ws few owed x read)
 
     copied : put plan 0 d ≡ rowsPut (cleared plan) 0 (rowsFrom h ws)
     unfolding cleared
     copied =
         let m : length (rowsFrom h ws) ≡ length ws = length-map ws _ in
         ap (λ (xs : List ℕ). put plan 0 xs) (f .plan)
-        ∙ sym (rows-copied plan long (rowsFrom h ws) base 0 exact (omega (arith, owed .1)) (rows-formed h x read ws (owed .0)))
+        ∙ sym (rows-copied plan long (rowsFrom h ws) base 0 exact (omega (arith, few)) (rows-formed h x read ws owed))
         ∙ ap (λ (xs : List ℕ). rowsPut (put plan 0 xs) 0 (rowsFrom h ws)) blank
 
     module _ (y : List ℕ) (outcome : y ≡ appliedFrom (put scratch 0 x) d 0 n) where
