@@ -97,6 +97,10 @@ module _ (h : Shape) (s₀ : List ℕ) (p : Plan (images h s₀)) (recover : Lis
         let r = rw zero-add at (q .1) in
         (q .0, r .0, r .1)
 
+    -- the deciding job does what the deciding row says
+    pub decide-does : Does h (𝓙 .decide) (𝓒 .decide)
+    decide-does = parts .1
+
     -- what waits at first is all rows of the plan, as many as its bytes say
     pub first-waiting : plan 𝓙 ≡ jobsIn (planOf h buffer (rowsIn h s₀ p))
     first-waiting =

@@ -26,11 +26,12 @@ use Rattle.refusals.specs.declared.case.Answer.the-variants.{Planned}
 use Rattle.refusals.specs.Case.{exists}
 use Rattle.refusals.specs.Steps.{Rule, refuse, decide, steps}
 use Rattle.refusals.specs.Passed.{Passes, passes, Passed, planned-passed}
+use Rattle.plan.specs.Form.{planBytes}
 use Rattle.rename.specs.Plan.{moveOf}
 use Rattle.rename.specs.Order.{walks, caseOf, early, late, order}
 use Rattle.rename.specs.Job.{answer, move, called}
 use Rattle.outcome.specs.Called.{Called, move-text}
-use Rattle.demands.specs.Begun.{read, clear, bodies, old-facts, new-facts}
+use Rattle.demands.specs.Begun.{long, read, clear, bodies, old-facts, new-facts}
 use Rattle.demands.specs.Allowed.{newName, Granted, granted}
 
 -- where no test of a list holds, the part behind decides
@@ -122,6 +123,10 @@ module _ (s plan : List ℕ) (q : Request) (old new : List ℕ) (planned : answe
         where
           used : c .replaced ≢ absent → v .nameLength (c .new) ≢ 0
           used n z = n (grant .replaced ∙ rw (eq-eqb (v .nameLength (c .new)) 0 z))
+
+  -- The buffer holds a plan.
+  pub planned-long : planBytes ≤ length plan
+  planned-long = long s plan q old new begun
 
   -- All that the outcome of the rename rests on.
   pub planned-called : q .now < span 8 → Called h s (move s plan q old new) (called s plan q old new)

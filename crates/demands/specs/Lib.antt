@@ -6,3 +6,5 @@ pub mod Demand2
 pub mod Line
 pub mod Table
 pub mod Bench
+pub mod Crashes
+pub mod Retold

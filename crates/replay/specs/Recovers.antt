@@ -32,7 +32,8 @@ use Rattle.crash.specs.Image.{Fits, recordOf, record-is, images, puts-store}
 use Rattle.results.specs.declared.Move.{Move}
 use Rattle.results.specs.Results.{holderAfter, results, clearRow}
 use Rattle.rename.specs.Plan.{journalFor, newEntry}
-use Rattle.recover.specs.Recover.{moveFrom, belowOrAbsent, moveGood, decided, intoGood, moveIn, journalFits, ifConsistent, finishing, undoing, pendingRows, recover}
+use Rattle.recover.specs.Recover.{belowOrAbsent, renameFits, moveFrom, decided, intoGood, undoing, finishing, moveDraft, renameDraft, kindDraft, draft, ifConsistent, pendingRows, recover}
+use Rattle.recover.specs.Fit.{move-undone, move-finished}
 use Rattle.outcome.specs.Outcome.{renamePlan, finished}
 use Rattle.outcome.specs.Called.{Called, before-good, in-image, replaced-not-moved, replaced-not-from, replaced-not-into, entry-names}
 use Rattle.outcome.specs.Rows.{results-fit, well-formed}
@@ -111,12 +112,10 @@ module _ {h : Shape} {s : List ℕ} {m : Move} {called : List ℕ} (c : Called h
     read-journal : journalOf (journalAt h x) ≡ journalFor m
     read-journal = ap journalOf journal-is ∙ journal-of-bytes (journalFor m) in-range
 
-    read-move : moveIn h x ≡ moveTo (viewOf h x .parent (m .new))
-    read-move = ap (moveFrom (viewOf h x)) read-journal
-
-    move-good : (i : ℕ) → moveGood (viewOf h x) (moveTo i) ≡ true
-    unfolding moveGood viewOf
-    move-good i =
+    -- so it fits
+    fits : renameFits h x (journalFor m) ≡ true
+    unfolding renameFits
+    fits =
         let good = before-good c in
         let ok = c .allowed in
         rw (
@@ -133,19 +132,16 @@ module _ {h : Shape} {s : List ℕ} {m : Move} {called : List ℕ} (c : Called h
           directory (m .from) (from-directory good ok) (from-written c),
         )
 
-    fits : journalFits h x ≡ true
-    unfolding journalFits
-    fits =
+    drafted : draft h x ≡ moveDraft h x (moveFrom (viewOf h x) (journalFor m))
+    unfolding draft renameDraft
+    drafted =
         let formed : journalFormed (journalAt h x) ≡ true = ap journalFormed journal-is ∙ journal-formed (journalFor m) in
-        let kind : eqb (journalOf (journalAt h x) .kind) 0 ≡ true = ap (λ (j : Journal). eqb (j .kind) 0) read-journal in
-        let good : moveGood (viewOf h x) (moveIn h x) ≡ true = ap (moveGood (viewOf h x)) read-move ∙ move-good (viewOf h x .parent (m .new)) in
-        rw (formed, kind, good)
+        rw formed (ap (λ (j : Journal). kindDraft h x (j .kind) j) read-journal ∙ rw fits)
 
-    -- so what recovery does hangs on the new slot
-    by-slot : recover h x
-        ≡ cond (decided (viewOf h x) (moveIn h x)) (cond (intoGood (viewOf h x) (moveIn h x)) (ifConsistent h x (finishing h x)) none) (ifConsistent h x (undoing h x))
+    -- and what recovery does hangs on the new slot
+    by-slot : recover h x ≡ ifConsistent h x (moveDraft h x (moveTo (viewOf h x .parent (m .new))))
     unfolding recover pendingRows
-    by-slot = rw (not-clear, fits)
+    by-slot = rw not-clear (ap (ifConsistent h x) drafted)
 
     -- while the slot is as before
     module _ (same : entryAt h x (m .new) ≡ entryAt h s (m .new)) where
@@ -155,19 +151,14 @@ module _ {h : Shape} {s : List ℕ} {m : Move} {called : List ℕ} (c : Called h
           c .allowed .other (in-image c .new, eqb-false _ _ (not-true (eqb (v .nameLength (m .new)) 0) (and-left (entryUsed v (m .new)) _ d)))
           (eqb-true _ _ (and-right (entryUsed v (m .new)) (eqb (v .target (m .new)) (m .moved)) d))))
 
-      taken-back : recover h x ≡ ifConsistent h x (undoing h x)
-      taken-back =
-          let d : decided (viewOf h x) (moveIn h x) ≡ false = ap (decided (viewOf h x)) read-move ∙ undecided (viewOf h x .parent (m .new)) in
-          by-slot ∙ rw d
+      taken-back : recover h x ≡ ifConsistent h x (some (undoing h x))
+      taken-back = by-slot ∙ ap (ifConsistent h x) (move-undone h x _ (undecided (viewOf h x .parent (m .new))))
 
     -- once it holds the new entry
     module _ (same : entryAt h x (m .new) ≡ newEntry h s m called) where
       into-is : viewOf h x .parent (m .new) ≡ m .into
       unfolding viewOf
       into-is = rw same (entry-names c .parent)
-
-      move-is : moveIn h x ≡ m
-      move-is = read-move ∙ ap moveTo into-is
 
       is-decided : decided (viewOf h x) m ≡ true
       unfolding decided viewOf
@@ -183,14 +174,13 @@ module _ {h : Shape} {s : List ℕ} {m : Move} {called : List ℕ} (c : Called h
           )
 
       -- its rows are the rename's own, behind the deciding one
-      finishing-is : finishing h x ≡ behindOf (images h s) plan
-      finishing-is = ap (λ (n : Move). results h x n ++ clearRow h ∷ []) move-is ∙ ap (λ (ws : List Write). ws ++ clearRow h ∷ []) (mixed-results c mixed)
+      finishing-is : finishing h x m ≡ behindOf (images h s) plan
+      finishing-is = ap (λ (ws : List Write). ws ++ clearRow h ∷ []) (mixed-results c mixed)
 
-      finished-off : recover h x ≡ ifConsistent h x (behindOf (images h s) plan)
+      finished-off : recover h x ≡ ifConsistent h x (some (behindOf (images h s) plan))
       finished-off =
-          let d : decided (viewOf h x) (moveIn h x) ≡ true = ap (decided (viewOf h x)) move-is ∙ is-decided in
-          let g : intoGood (viewOf h x) (moveIn h x) ≡ true = ap (intoGood (viewOf h x)) move-is ∙ into-good in
-          by-slot ∙ rw (d, g) (ap (ifConsistent h x) finishing-is)
+          by-slot ∙ ap (λ (i : ℕ). ifConsistent h x (moveDraft h x (moveTo i))) into-is
+          ∙ ap (ifConsistent h x) (move-finished h x m is-decided into-good ∙ ap some finishing-is)
 
   -- ---- on the way
 
@@ -204,7 +194,7 @@ module _ {h : Shape} {s : List ℕ} {m : Move} {called : List ℕ} (c : Called h
 
   -- rows whose outcome is consistent are answered
   answered : (x : List ℕ) (ws : List Write) → All (Fits h) ws → (y : List ℕ) → consistent y ≡ true → putAll (images h s) x ws ≡ y
-      → ifConsistent h x ws ≡ some ws
+      → ifConsistent h x (some ws) ≡ some ws
   answered x ws f y g e =
       let k : consistent (storeAll h x ws) ≡ true = ap consistent (sym (puts-store h s x ws f) ∙ e) ∙ g in
       rw k
@@ -231,11 +221,11 @@ module _ {h : Shape} {s : List ℕ} {m : Move} {called : List ℕ} (c : Called h
     leads = reached plan (recover h) 𝓦 true (behindOf (images h s) plan) (λ k a. a) tt i (behind-all plan (recover h) 𝓦) ∙ finished-after c
 
     -- On every image on the way recovery's rows are the rename's own, byte for byte,
-    pub recover-rows : finishing h x ≡ results h s m ++ clearRow h ∷ []
+    pub recover-rows : finishing h x m ≡ results h s m ++ clearRow h ∷ []
     recover-rows = finishing-is (way-mixed true i) j new-there
 
     -- and stored they give the finished image.
-    pub recover-stored : storeAll h x (finishing h x) ≡ t
+    pub recover-stored : storeAll h x (finishing h x m) ≡ t
     recover-stored = ap (storeAll h x) recover-rows ∙ sym (puts-store h s x (behindOf (images h s) plan) behind-fits) ∙ leads
 
     on : recover h x ≡ some (behindOf (images h s) plan)

@@ -28,14 +28,16 @@ use Rattle.crash.specs.Rows.{jobsIn, planOf}
 use Rattle.crash.specs.Buffers.{Buffers, enough, enough-is, too-short}
 use Rattle.crash.specs.Recovery.{RecoveryJob, Fills, Answers}
 use Rattle.crash.specs.Operation.{rowsIn, planned, stateAfter}
+use Rattle.crash.specs.Owed.{decide-does}
 use Rattle.crash.specs.Safe.{planned-first, planned-owed, planned-safe, planned-zero, planned-recovers, planned-refuses, planned-decided, planned-undecided}
 use Rattle.edits.specs.Kinds.{EntryUsed}
 use Rattle.results.specs.declared.Move.{Move}
 use Rattle.results.specs.Results.{results, clearRow}
 use Rattle.results.specs.Rows.{results-le}
-use Rattle.rename.specs.Plan.{newEntry, planned as plannedBytes}
-use Rattle.recover.specs.Recover.{intoGood, moveIn, journalFits, ifConsistent, finishing, undoing, pendingRows, recover, decided as isDecided}
+use Rattle.rename.specs.Plan.{entryGroup, newEntry, planned as plannedBytes}
+use Rattle.recover.specs.Recover.{recover}
 use Rattle.recover.specs.Job.{Recovered, tooShort, recovered, recovered-short, recovered-done}
+use Rattle.recover.specs.Bounds.{recover-few}
 use Rattle.outcome.specs.Outcome.{renamePlan, finished, rename-planned}
 use Rattle.outcome.specs.Called.{Called, in-image, entry-names}
 use Rattle.outcome.specs.Rows.{well-formed}
@@ -49,36 +51,6 @@ use Rattle.replay.specs.Recovers.{recovers}
 abbrev pub recoveryJob : RecoveryJob
 recoveryJob = record { number = λ b x. recovered (b .plan) (b .scratch) x .number; plan = λ b x. recovered (b .plan) (b .scratch) x .plan }
 
--- at most nine rows
-abbrev Few : Option (List Write) → Type 0
-Few none = Unit {0}
-Few (some ws) = length ws ≤ planRows
-
-few-cond : (b : Bool) (p q : Option (List Write)) → Few p → Few q → Few (cond b p q)
-few-cond true p q f g = f
-few-cond false p q f g = g
-
-module _ (h : Shape) (x : List ℕ) where
-  checked-few : (ws : List Write) → length ws ≤ planRows → Few (ifConsistent h x ws)
-  checked-few ws l = few-cond (consistent (storeAll h x ws)) (some ws) none l tt
-
-  finishing-few : length (finishing h x) ≤ planRows
-  finishing-few = omega (arith, length-append (results h x (moveIn h x)) (clearRow h ∷ []), results-le h x (moveIn h x))
-
-  pending-few : Few (pendingRows h x)
-  unfolding pendingRows
-  pending-few =
-      few-cond (journalFits h x) _ none
-      (few-cond (isDecided (viewOf h x) (moveIn h x)) _ (ifConsistent h x (undoing h x))
-      (few-cond (intoGood (viewOf h x) (moveIn h x)) (ifConsistent h x (finishing h x)) none (checked-few (finishing h x) finishing-few) tt)
-      (checked-few (undoing h x) (omega arith))) tt
-
-  recover-few : (ws : List Write) → recover h x ≡ some ws → length ws ≤ planRows
-  unfolding recover
-  recover-few ws e =
-      subst Few e (few-cond (journalClear h x) (cond (consistent x) (some []) none) (pendingRows h x)
-      (few-cond (consistent x) (some []) none (omega arith) tt) pending-few)
-
 -- it does what the rows by record say, and refuses buffers that are too short
 pub recovery-answers : (h : Shape) (s : List ℕ) → Answers h s (recover h) recoveryJob
 unfolding planOf
@@ -87,7 +59,7 @@ recovery-answers h s = record { fills = fills; refuses = refuses }
     fills : (b : Buffers) (x : List ℕ) → Ok h s x → T (enough b x) → (ws : List Write) → recover h x ≡ some ws → Fills h recoveryJob b x ws
     fills b x o t ws e =
         let (long, room) = enough-is b x t in
-        let d = recovered-done (b .plan) (b .scratch) x long room (o .read .good) h ws (o .read .shape) e in
+        let d = recovered-done (b .plan) (b .scratch) x long room h ws (o .read) e in
         record { success = ap (λ (r : Recovered). r .number) d; filled = ap (λ (r : Recovered). r .plan) d; room = recover-few h x ws e }
 
     refuses : (b : Buffers) (x : List ℕ) → Ok h s x → T (not (enough b x)) → recoveryJob .number b x ≢ 0
@@ -137,6 +109,10 @@ module _ {h : Shape} {s : List ℕ} {m : Move} {called : List ℕ} (c : Called h
   -- at first all rows of the plan's bytes wait
   pub rename-first : plan 𝓙 ≡ jobsIn (plannedBytes h s m called buffer)
   rename-first = planned-first h s p 𝓦 buffer long few (recover h) ρ recoveryJob 𝓐 ∙ ap jobsIn (rename-planned h s m called buffer)
+
+  -- the deciding one is the new entry's
+  pub rename-group : jobs h s .group (𝓙 .decide) ≡ entryGroup
+  rename-group = ap (λ (w : Write). w .group) (decide-does h s p (recover h) buffer recoveryJob 𝓦 long few .row)
 
   pub rename-owed : Obligations 𝓙
   rename-owed = planned-owed h s p 𝓦 buffer long few (recover h) ρ recoveryJob 𝓐
