@@ -19,6 +19,9 @@ use Rattle.names.specs.Name.{nameGood}
 use Rattle.consistency.specs.Facts.{Bodies}
 use Rattle.encode.specs.Journal.{absent}
 use Rattle.paths.specs.declared.request.Request.{Request}
+use Rattle.component.specs.declared.state.Final.the-variants.{MayBeMissing}
+use Rattle.component.specs.Step.{existing}
+use Rattle.walk.specs.Ends.{Existing, Known}
 use Rattle.edits.specs.Kinds.{EntryUsed}
 use Rattle.edits.specs.Bodies.{bodies-consistent, bodies-formed}
 use Rattle.refusals.specs.declared.case.Case.{Case}
@@ -127,6 +130,10 @@ module _ (s plan : List ℕ) (q : Request) (old new : List ℕ) (planned : answe
   -- The buffer holds a plan.
   pub planned-long : planBytes ≤ length plan
   planned-long = long s plan q old new begun
+
+  -- Where new's walk found an entry, it is there.
+  pub planned-new : (d n t : ℕ) (slash : Bool) → walks s plan q old new .new .found ≡ existing d n t slash → Existing v d n t slash
+  planned-new d n t slash e = subst (Known v MayBeMissing) e (new-facts s plan q old new begun .known)
 
   -- All that the outcome of the rename rests on.
   pub planned-called : q .now < span 8 → Called h s (move s plan q old new) (called s plan q old new)

@@ -8,3 +8,4 @@ pub mod Table
 pub mod Bench
 pub mod Crashes
 pub mod Retold
+pub mod Demand3

@@ -63,7 +63,7 @@ module _ (h : Shape) (s : List ℕ) (m : Move) (called buffer : List ℕ) where
   same-answered x zero plan = refl
   same-answered x (suc n) plan = refl
 
-  same-step : (x : State) (e : Event) → stateOf (step x e) ≡ theory.step 𝓒 (stateOf x) (eventOf e)
+  pub same-step : (x : State) (e : Event) → stateOf (step x e) ≡ theory.step 𝓒 (stateOf x) (eventOf e)
   same-step x (apply i) = same-place x (pick i (x .waiting))
   same-step x (refused plan n) = same-tried (eqb (applyNumber (x .image) plan n) 0) x plan n
   same-step x (crash plan scratch) = same-answered x (recovered plan scratch (x .image) .number) (recovered plan scratch (x .image) .plan)
