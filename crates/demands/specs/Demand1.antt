@@ -2,6 +2,7 @@
 use mathlib.Core.Path.{_≡_, refl, sym, ap, _∙_, subst}
 use mathlib.Core.Bool.{Bool, true, false, _&&_, _||_, cond}
 use mathlib.Core.List.{List, [], _∷_, _++_}
+use mathlib.Core.Option.{Option, none, some}
 use Prim.Native.Nat.{ℕ}
 use native.Mathlib.Decide.{ℕ-discrete}
 use lib.Dec.{eqb, ltb}
@@ -13,15 +14,18 @@ use Rattle.component.specs.Ways.{componentNumber}
 use Rattle.walk.specs.Walk.{haltNumber}
 use Rattle.walk.specs.Ends.{walkNumber}
 use Rattle.consistency.specs.Others.{journalClear}
-use Rattle.consistency.specs.Consistent.{bodiesGood, unsound, pending, recordsNumber, checkNumber}
+use Rattle.consistency.specs.Consistent.{bodiesGood, consistent, unsound, pending, recordsNumber, checkNumber}
 use Rattle.plan.specs.Form.{planBytes}
 use Rattle.plan.specs.Fit.{applicable}
+use Rattle.plan.specs.Write.{Write}
 use Rattle.apply.specs.Apply.{shortPlan, badLayout, badRow, applyNumber}
 use Rattle.refusals.specs.declared.case.Answer.the-variants.{Refused, Planned}
 use Rattle.refusals.specs.Steps.{numberOf, decide}
 use Rattle.refusals.specs.Decide.{decide-number, decide-refused, decide-passed}
 use Rattle.rename.specs.Order.{walks, early, late, order}
 use Rattle.rename.specs.Job.{answer, renamed}
+use Rattle.recover.specs.Recover.{pendingRows}
+use Rattle.recover.specs.Job.{tooShort, refused, done, byRows, recovered}
 use Rattle.demands.specs.Begun.{old-facts, new-facts}
 
 -- a number of a list
@@ -39,6 +43,9 @@ landNumbers = 0 ∷ 201 ∷ 205 ∷ 207 ∷ []
 -- success, the errors of the POSIX page as Linux numbers them, and our own
 abbrev pub renameNumbers : List ℕ
 renameNumbers = 0 ∷ 1 ∷ 2 ∷ 9 ∷ 13 ∷ 16 ∷ 18 ∷ 20 ∷ 21 ∷ 22 ∷ 28 ∷ 30 ∷ 31 ∷ 36 ∷ 39 ∷ 40 ∷ 201 ∷ 202 ∷ 203 ∷ 205 ∷ []
+
+abbrev pub repairNumbers : List ℕ
+repairNumbers = 0 ∷ 201 ∷ 204 ∷ 205 ∷ []
 
 pub check-listed : (s : List ℕ) → among checkNumbers (checkNumber s) ≡ true
 unfolding checkNumber recordsNumber
@@ -59,6 +66,23 @@ land-listed image plan row = go (ltb (length plan) planBytes) (layoutGood image)
     go false true true = refl
     go false true false = refl
     go false false c = refl
+
+pub repair-listed : (plan scratch image : List ℕ) → among repairNumbers (recovered plan scratch image .number) ≡ true
+unfolding recovered
+repair-listed plan scratch image =
+    let h = shapeOf image in
+    go (ltb (length plan) planBytes || ltb (length scratch) (length image)) (layoutGood image) (journalClear h image) (consistent image) (pendingRows h image)
+  where
+    go : (a b c d : Bool) (o : Option (List Write))
+        → among repairNumbers (cond a (refused plan scratch image tooShort) (cond b
+        (cond c (cond d (done plan scratch image (shapeOf image) []) (refused plan scratch image unsound)) (byRows plan scratch image (shapeOf image) o))
+        (refused plan scratch image unsound)) .number) ≡ true
+    go true b c d o = refl
+    go false false c d o = refl
+    go false true true true o = refl
+    go false true true false o = refl
+    go false true false d none = refl
+    go false true false d (some ws) = refl
 
 -- a walk's number is one of rename's
 split : {A : Type 0} (a b : Bool) → (a ≡ true → A) → (b ≡ true → A) → (a || b) ≡ true → A
@@ -89,9 +113,9 @@ module _ (s plan : List ℕ) (q : Request) (old new : List ℕ) where
   rename-listed = go (ℕ-discrete (numberOf (decide (early s plan q old new))) 0)
     where
       go : Dec (numberOf (decide (early s plan q old new)) ≡ 0) → among renameNumbers (numberOf (decide (early s plan q old new ++ late s plan q old new))) ≡ true
-      go (yes none) =
-          rw (decide-passed (late s plan q old new) (early s plan q old new) refl none)
-          (late-listed (decide-passed [] (early s plan q old new) refl none))
-      go (no some) =
-          rw (decide-refused (late s plan q old new) (early s plan q old new) some)
+      go (yes z) =
+          rw (decide-passed (late s plan q old new) (early s plan q old new) refl z)
+          (late-listed (decide-passed [] (early s plan q old new) refl z))
+      go (no n) =
+          rw (decide-refused (late s plan q old new) (early s plan q old new) n)
           (decide-number (among renameNumbers) (early s plan q old new) refl refl)

@@ -9,3 +9,4 @@ pub mod Bench
 pub mod Crashes
 pub mod Retold
 pub mod Demand3
+pub mod Crashed

@@ -1,0 +1,90 @@
+-- A rename of the bench tree that crashes, and crashes again while it is recovered: `/a/f` to `/b/g`, computed to its end. Assumes nothing.
+use mathlib.Core.Path.{_≡_, refl}
+use mathlib.Core.Bool.{Bool, true, false}
+use mathlib.Core.List.{List, [], _∷_, _++_, map}
+use Prim.Native.Nat.{ℕ}
+use lib.ListN.{replicate}
+use Rattle.seq.specs.Search.{any, all, first, count}
+use Rattle.seq.specs.Bytes.{part, put, zeros, noZero, sameBytes}
+use Rattle.seq.specs.Number.{numberAt, bytesOf}
+use Rattle.layout.specs.Contents.{nameIs, rowIs, shapeOf, rowGood, rowsGood, layoutGood}
+use Rattle.layout.specs.Record.{recordAt, store}
+use Rattle.layout.specs.View.{viewOf}
+use Rattle.layout.specs.Bench.{bench}
+use Rattle.names.specs.Name.{nameBytes, isDots, nameGood, clash, hasDuplicate}
+use Rattle.tree.specs.Tree.{entriesOf, childDirectories, leads, reaches}
+use Rattle.tree.specs.Inode.{leafGood, fileGood, directoryGood, textShared, symlinkGood, inodeGood}
+use Rattle.consistency.specs.Entry.{entryFormed, entryLinked, entryGood}
+use Rattle.consistency.specs.Others.{textLinked, textGood, openGood, handleGood, journalClear}
+use Rattle.consistency.specs.Consistent.{bodiesGood, consistent, recordsNumber, checkNumber}
+use Rattle.encode.specs.Entry.{entryBytes}
+use Rattle.encode.specs.Journal.{journalOf, journalFormed, journalHead, journalBytes}
+use Rattle.paths.specs.Permission.{allows}
+use Rattle.paths.specs.Path as path
+use Rattle.paths.specs.Lookup.{isNamed, lookup}
+use Rattle.paths.specs.Request.{requestGood}
+use Rattle.component.specs.Step.{step}
+use Rattle.walk.specs.Walk.{walkFrom, walk}
+use Rattle.walk.specs.Both.{walksOf}
+use Rattle.plan.specs.Form.{rowAt, headerOf, rowPut, rowsPut, cleared, noRow, rowCount}
+use Rattle.plan.specs.Fit.{coversSection, covers, rowFits, applicable}
+use Rattle.apply.specs.Apply.{applyNumber, appliedImage}
+use Rattle.results.specs.Results.{entriesAfter, childrenAfter, linksAfter, movedBytes, holderBytes, replacedBytes, results}
+use Rattle.refusals.specs.Case.{stickyDenied, hasEntries, isOpened}
+use Rattle.rename.specs.Plan.{moveOf, renameRows, planned}
+use Rattle.rename.specs.Order.{freeSlot, order}
+use Rattle.rename.specs.Job.{renamed, planAfter}
+use Rattle.recover.specs.Recover.{renameFits, decided, intoGood, moveDraft, renameDraft, draft, pendingRows}
+use Rattle.recover.specs.Job.{recovered}
+use Rattle.outcome.specs.Outcome.{finished}
+use Rattle.demands.specs.Line.{dirty}
+use Rattle.demands.specs.Table.{owner, /a/f, /b/g}
+use Rattle.demands.specs.Crashes.{Event, apply, refused, crash, State, groupOf, entryApplied}
+use Rattle.demands.specs.Demand2.{finishedImage}
+use Rattle.demands.specs.Demand3.{after}
+
+-- a crash, with buffers of these lengths filled with a byte
+abbrev crashed : ℕ → ℕ → ℕ → Event
+crashed plan scratch byte = crash (replicate plan byte) (replicate scratch byte)
+
+-- the journal record is set; a number past the rows is refused, and so is recovery, for its plan and for its scratch: nothing waits
+abbrev pub early : List Event
+early = apply 0 ∷ refused dirty 9 ∷ crashed 647 624 9 ∷ crashed 648 623 9 ∷ []
+
+-- recovery with buffers that just suffice takes the rename back
+abbrev pub back : List Event
+back = early ++ crashed 648 624 9 ∷ apply 0 ∷ []
+
+-- the journal record and the new entry, then the row that clears the journal record, whose turn has not come, then the moved inode: five of six rows are lost
+abbrev pub late : List Event
+late = apply 0 ∷ apply 0 ∷ apply 5 ∷ apply 1 ∷ crashed 700 625 9 ∷ []
+
+-- recovery has written the new parent and cleared the old entry when power fails again
+abbrev pub again : List Event
+again = late ++ apply 3 ∷ apply 0 ∷ crashed 650 624 3 ∷ []
+
+-- the second recovery in an order of its own
+abbrev pub through : List Event
+through = again ++ apply 4 ∷ apply 2 ∷ apply 0 ∷ apply 0 ∷ apply 0 ∷ apply 0 ∷ []
+
+abbrev at : List Event → State
+at es = after bench dirty owner /a/f /b/g es
+
+-- whether a recovery is done, whether the new entry was applied, and the groups of the rows that wait
+abbrev pub seen : List Event → Bool × Bool × List ℕ
+seen es = (at es .done, entryApplied (at es), map groupOf (at es .waiting))
+
+pub seen-so : map seen (early ∷ back ∷ late ∷ again ∷ through ∷ [])
+    ≡ (false, false, [])
+    ∷ (true, false, [])
+    ∷ (false, true, 3 ∷ 3 ∷ 3 ∷ 3 ∷ 3 ∷ 4 ∷ [])
+    ∷ (false, true, 3 ∷ 3 ∷ 3 ∷ 3 ∷ 3 ∷ 4 ∷ [])
+    ∷ (true, true, [])
+    ∷ []
+unfolding bench any all first count part put store zeros noZero sameBytes numberAt bytesOf nameIs rowIs shapeOf rowGood rowsGood layoutGood recordAt viewOf nameBytes isDots nameGood clash hasDuplicate entriesOf childDirectories leads reaches leafGood fileGood directoryGood textShared symlinkGood inodeGood entryFormed entryLinked entryGood textLinked textGood openGood handleGood journalClear bodiesGood consistent recordsNumber checkNumber allows path.slashes path.nameBytes isNamed lookup requestGood step walkFrom walk walksOf entryBytes journalOf journalFormed journalHead journalBytes rowAt headerOf rowPut rowsPut cleared noRow rowCount coversSection covers rowFits applicable applyNumber appliedImage movedBytes holderBytes replacedBytes entriesAfter childrenAfter linksAfter results stickyDenied hasEntries isOpened moveOf renameRows planned freeSlot order renamed planAfter renameFits decided intoGood moveDraft renameDraft draft pendingRows recovered finished
+seen-so = refl
+
+-- the image before, and the finished one
+pub ended-so : at back .image ∷ at through .image ∷ [] ≡ bench ∷ finishedImage bench dirty owner /a/f /b/g ∷ []
+unfolding bench any all first count part put store zeros noZero sameBytes numberAt bytesOf nameIs rowIs shapeOf rowGood rowsGood layoutGood recordAt viewOf nameBytes isDots nameGood clash hasDuplicate entriesOf childDirectories leads reaches leafGood fileGood directoryGood textShared symlinkGood inodeGood entryFormed entryLinked entryGood textLinked textGood openGood handleGood journalClear bodiesGood consistent recordsNumber checkNumber allows path.slashes path.nameBytes isNamed lookup requestGood step walkFrom walk walksOf entryBytes journalOf journalFormed journalHead journalBytes rowAt headerOf rowPut rowsPut cleared noRow rowCount coversSection covers rowFits applicable applyNumber appliedImage movedBytes holderBytes replacedBytes entriesAfter childrenAfter linksAfter results stickyDenied hasEntries isOpened moveOf renameRows planned freeSlot order renamed planAfter renameFits decided intoGood moveDraft renameDraft draft pendingRows recovered finished
+ended-so = refl
