@@ -18,6 +18,7 @@ pub mod plan;
 pub mod random;
 pub mod rename;
 pub mod renames;
+pub mod repair;
 pub mod request;
 pub mod samples;
 pub mod variants;
