@@ -71,3 +71,6 @@ fn with_journal(image: &Image, mut redo: Redo) -> Option<Redo> {
     redo.clear(redo::JOURNAL_LAST, JOURNAL, 0);
     Some(redo)
 }
+
+#[cfg(test)]
+mod tests;
