@@ -1,4 +1,4 @@
-//! Every crash of a rename: all the states that landings and cuts can lead to, and what must hold in each of them.
+//! Every crash of a rename: all the states that landings and crashes can lead to, and what must hold in each of them.
 
 mod story;
 
@@ -43,7 +43,7 @@ pub struct Explored {
     pub states: usize,
 }
 
-/// Whose rows have waited since the last cut, or the first day.
+/// Whose rows have waited since the last crash, or from the start.
 #[derive(Clone, Copy, PartialEq, Eq, Hash)]
 enum Waited {
     Rename,
@@ -98,7 +98,7 @@ struct Explorer<'a> {
     left: VecDeque<State>,
 }
 
-/// Goes through every state; gives the breach that the fewest landings and cuts lead to.
+/// Goes through every state; gives the breach that the fewest landings and crashes lead to.
 pub fn explore(story: &Story, repair: Repair) -> Result<Explored, Breach> {
     let mut explorer = Explorer {
         story,
@@ -113,7 +113,7 @@ pub fn explore(story: &Story, repair: Repair) -> Result<Explored, Breach> {
     explorer.start()?;
     while let Some(state) = explorer.left.pop_front() {
         explorer.holds_at_rest(state)?;
-        explorer.cut(state)?;
+        explorer.crash(state)?;
         for row in explorer.next_rows(state) {
             explorer.land(state, row)?;
         }
@@ -163,7 +163,7 @@ impl Explorer<'_> {
     }
 
     /// All that waits is lost. Repair is called with buffers that are long enough, or with too short ones.
-    fn cut(&mut self, state: State) -> Result<(), Breach> {
+    fn crash(&mut self, state: State) -> Result<(), Breach> {
         self.enter(State { plan: 0, waiting: 0, waited: Waited::Nobody, ..state });
         let (plan, rows, scratch) = match self.repaired.get(&state.image) {
             Some(&known) => known,

@@ -21,6 +21,7 @@ pub mod random;
 pub mod rename;
 pub mod renames;
 pub mod repair;
+pub mod repairs;
 pub mod request;
 pub mod samples;
 pub mod variants;
