@@ -77,7 +77,7 @@ fn decrementing(image: &[u8], plan: &mut [u8], scratch: &mut [u8]) -> Answer {
     let (answer, finishes) = right(image, plan, scratch);
     if finishes {
         let view = Image::read(image).expect("the layout is right");
-        put_u16(plan, OLD_PARENT_LINKS, view.inode(old_parent(image)).map_or(0, Inode::links) - 1);
+        put_u16(plan, OLD_PARENT_LINKS, view.inode(old_parent(image)).map_or(0, Inode::links).saturating_sub(1));
     }
     answer
 }
