@@ -1,4 +1,4 @@
-//! A small consistent tree for crashes: in one directory something of every kind to move, in both of every kind to replace.
+//! A small consistent tree for crashes: in one directory something of every kind to move, in two to replace.
 
 use crate::builder::{Entry, Handle, Inode, Tree};
 use crate::layout::{DIRECTORY, FILE, SYMLINK};

@@ -1,4 +1,4 @@
-//! Repair cases: images as crashes leave them, and others with a journal record, most with the number and the rows told.
+//! Repair cases: images as crashes leave them, and others with a journal record; most have number and rows told.
 
 pub mod buffers;
 pub mod crafted;

@@ -241,7 +241,7 @@ static int repair_case(struct input *cases, struct input *answers, unsigned long
     differences += !same("the rows of mp_repair", count, mp_rows(result), read_answer(answers, ' '));
     differences += !same("the rest of the result of mp_repair", count, result >> 16, 0);
     differences += !same("the plan's checksum after mp_repair", count, checksum(plan), read_answer(answers, ' '));
-    differences += !same("the scratch's checksum after mp_repair", count, checksum(scratch), read_answer(answers, '\n'));
+    differences += !same("the scratch's checksum after it", count, checksum(scratch), read_answer(answers, '\n'));
     free(scratch.bytes);
     free(plan.bytes);
     free(image.bytes);

@@ -1,4 +1,4 @@
-//! Times the repair of the proved library's archive against the model's: a rename taken back, and one carried to its end.
+//! Times the repair of the proved library's archive against the model's: renames taken back, and carried to their end.
 
 use mirepillar_reference::bench_tree::bench_tree;
 use mirepillar_reference::builder::Tree;
@@ -116,7 +116,8 @@ fn all() -> Result<(), String> {
 }
 
 fn main() -> ExitCode {
-    println!("Optimised builds in one process, warm and dirty buffers, {BATCHES} alternating batches, median of the batches.");
+    println!("Optimised builds in one process, warm and dirty buffers,");
+    println!("{BATCHES} alternating batches, median of the batches.");
     println!("{:<26}{:>6}{:>9}{:>13}{:>11}{:>8}", "image", "bytes", "repairs", "library, us", "model, us", "ratio");
     match all() {
         Ok(()) => ExitCode::SUCCESS,

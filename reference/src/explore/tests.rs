@@ -1,3 +1,5 @@
+//! Every rename of small trees, and some of large ones, survives every crash.
+
 mod wrong;
 
 use super::*;

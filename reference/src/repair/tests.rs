@@ -1,3 +1,5 @@
+//! Repair on the bench tree: told answers, all journal records in range, damaged images and any bytes.
+
 use super::*;
 use crate::bench_tree::bench_tree;
 use crate::chance;

@@ -110,7 +110,7 @@ pub fn by_chance(count: usize, random: &mut Random) -> RepairCases {
 }
 
 fn changed(subject: &Subject, turn: usize, random: &mut Random) -> Vec<u8> {
-    let mut image = if turn % 3 == 0 { subject.bytes.clone() } else { chance::flip(subject, random) };
+    let mut image = if turn.is_multiple_of(3) { subject.bytes.clone() } else { chance::flip(subject, random) };
     if turn % 3 != 1 {
         let at = journal_at(&subject.bytes) + *random.pick(&[2, 4, 6, 8, 10, 12]) + random.below(16) / 15;
         image[at] = random.below(26) as u8;
