@@ -5,6 +5,7 @@ use native.Mathlib.Omega.{arith}
 use Rattle.paths.specs.declared.request.Request.{Request}
 use Rattle.rename.specs.declared.Renamed.{Renamed}
 use Rattle.rename.specs.Bounds.{Small}
+use Rattle.recover.specs.Job.{Recovered}
 
 abbrev pub requestOf : ℕ → ℕ → ℕ → ℕ → ℕ → ℕ → Request
 requestOf user group current old new time = record {
@@ -17,6 +18,10 @@ requestOf user group current old new time = record {
 -- bits 0 to 7 the number, 8 to 15 the rows, 16 to 31 old's count, 32 to 47 new's
 unfoldable pub packed : Renamed → ℕ
 packed r = r .number + 256 * r .rows + 65536 * r .old + 4294967296 * r .new
+
+-- an answer of recovery has no walks
+abbrev pub withoutWalks : Recovered → Renamed
+withoutWalks r = record { number = r .number; rows = r .rows; old = 0; new = 0 }
 
 -- The parts as the header's accessors take them out; nothing stands above them.
 pub record Parts (n : ℕ) (r : Renamed) : Type 0 where

@@ -8,7 +8,8 @@ ghost use Rattle.consistency.specs.Consistent.{checkNumber};
 ghost use Rattle.apply.specs.Apply.{applyNumber, appliedImage};
 ghost use Rattle.rename.specs.Job.{renamed, planAfter};
 ghost use Rattle.rename.specs.Bounds.{Small};
-ghost use Rattle.mirepillar.specs.Result.{requestOf, packed};
+ghost use Rattle.recover.specs.Job.{recovered};
+ghost use Rattle.mirepillar.specs.Result.{requestOf, packed, withoutWalks};
 
 // The job check. The number is the whole result.
 #[no_mangle]
@@ -19,7 +20,7 @@ pub extern "C" fn mp_check(image: &[u8]) -> u64
     number as u64
 }
 
-// The result of a rename: each part in bits of its own.
+// The result of a plan: each part in bits of its own.
 fn pack(r: Renamed) -> u64
     requires { ⌜ Small r ⌝ }
     ensures { λ n. ⌜ n ≡ packed r ⌝ }
@@ -63,4 +64,19 @@ pub extern "C" fn mp_land(image: &mut [u8], plan: &[u8], row: u64) -> u64
     ensures { λ r. ⌜ (r ≡ applyNumber (now (image .entry)) (now (plan .entry)) row) × (now (image .exit) ≡ appliedImage (now (image .entry)) (now (plan .entry)) row) ⌝ }
 {
     apply::land(image, plan, row) as u64
+}
+
+// The job repair. Its result has no counts.
+#[no_mangle]
+pub extern "C" fn mp_repair(image: &[u8], plan: &mut [u8], scratch: &mut [u8]) -> u64
+    ensures { λ r. ⌜ (r ≡ packed (withoutWalks (recovered (now (plan .entry)) (now (scratch .entry)) (now (image .entry))))) × (now (plan .exit) ≡ recovered (now (plan .entry)) (now (scratch .entry)) (now (image .entry)) .plan) × (now (scratch .exit) ≡ recovered (now (plan .entry)) (now (scratch .entry)) (now (image .entry)) .scratch) ⌝ }
+{
+    let a = recover::recover(image, plan, scratch);
+    let r = Renamed {
+        number: a.number,
+        rows: a.rows,
+        old: 0,
+        new: 0,
+    };
+    pack(r)
 }

@@ -10,7 +10,7 @@ use Rattle.layout.specs.Place.{Key, place}
 use Rattle.layout.specs.Record.{store}
 use Rattle.plan.specs.Form.{Row, rowOf, rowPut, rowsPut}
 use Rattle.plan.specs.Many.{rows-join}
-use Rattle.plan.specs.Fit.{rowFor}
+use Rattle.plan.specs.Fit.{Writes, rowFor}
 
 -- Its ordering group, the record that it replaces, and the record's new bytes.
 pub record Write : Type 0 where
@@ -37,6 +37,15 @@ other-section j k n e = n (ap (λ (x : Key). x .section) e)
 
 pub other-index : (j k : Key) → j .index ≢ k .index → j ≢ k
 other-index j k n e = n (ap (λ (x : Key). x .index) e)
+
+-- each is one that an operation may write (rule 74)
+abbrev pub AllWrites : Shape → List Write → Type 0
+AllWrites h [] = Unit {0}
+AllWrites h (w ∷ ws) = Writes h (w .group) (w .key) (w .body) × AllWrites h ws
+
+pub writes-join : (h : Shape) (us ws : List Write) → AllWrites h us → AllWrites h ws → AllWrites h (us ++ ws)
+writes-join h [] ws a b = b
+writes-join h (u ∷ us) ws a b = (a .0, writes-join h us ws (a .1) b)
 
 -- the image with each write's bytes in place of its record, one after another
 abbrev pub storeAll : Shape → List ℕ → List Write → List ℕ
@@ -70,13 +79,13 @@ module _ (h : Shape) where
   unfolding rowsPut
   filled-one w e = record { plan = e; next = refl }
 
-  writes-join : (us ws : List Write) (plan : List ℕ) (i : ℕ)
+  rows-behind : (us ws : List Write) (plan : List ℕ) (i : ℕ)
       → rowsPut plan i (rowsFrom (us ++ ws)) ≡ rowsPut (rowsPut plan i (rowsFrom us)) (i + length us) (rowsFrom ws)
-  writes-join us ws plan i =
+  rows-behind us ws plan i =
       ap (λ (rs : List Row). rowsPut plan i rs) (map-append rowFrom us ws) ∙ rows-join (rowsFrom us) (rowsFrom ws) plan i
       ∙ ap (λ (n : ℕ). rowsPut (rowsPut plan i (rowsFrom us)) (i + n) (rowsFrom ws)) (length-map us rowFrom)
 
   pub filled-join : {p q r : List ℕ} {i j k : ℕ} {us ws : List Write} → Filled p i us q j → Filled q j ws r k → Filled p i (us ++ ws) r k
   filled-join {p} {q} {r} {i} {j} {k} {us} {ws} a b =
       let e : r ≡ rowsPut (rowsPut p i (rowsFrom us)) (i + length us) (rowsFrom ws) = b .plan ∙ rw (a .plan, a .next) in
-      record { plan = e ∙ sym (writes-join us ws p i); next = omega (arith, a .next, b .next, length-append us ws) }
+      record { plan = e ∙ sym (rows-behind us ws p i); next = omega (arith, a .next, b .next, length-append us ws) }

@@ -23,7 +23,7 @@ use Rattle.plan.specs.Form.{headerOf, rowPut, rowsPut, cleared, noRow, rowCount
 use Rattle.plan.specs.Write.{Write, entryKey, journalKey, storeAll}
 use Rattle.results.specs.declared.Move.{Move}
 use Rattle.results.specs.Results.{entriesAfter, childrenAfter, linksAfter, movedBytes, holderBytes, replacedBytes, holderRow, results}
-use Rattle.recover.specs.Recover.{moveGood, decided, intoGood, journalFits, pendingRows}
+use Rattle.recover.specs.Recover.{renameFits, decided, intoGood, moveDraft, renameDraft, draft, pendingRows}
 use Rattle.recover.specs.Job.{Recovered, recovered}
 
 abbrev h : Shape
@@ -59,10 +59,11 @@ buffer = replicate 648 0
 abbrev asked : List ℕ → Recovered
 asked x = recovered buffer (replicate 625 7) x
 
+-- the number, the rows as answered, and those that the plan's bytes have
 abbrev told : Recovered → List ℕ
-told r = r .number ∷ rowCount (r .plan) ∷ []
+told r = r .number ∷ r .rows ∷ rowCount (r .plan) ∷ []
 
--- number and rows: nothing to do; taken back; finished; the same once more. Refused: another mark, another operation, the root moved, the
+-- nothing to do; taken back; finished; the same once more. Refused: another mark, another operation, the root moved, the
 -- old slot out of range, the replaced inode moved, an outcome with the root on another file system; and with no journal record, such an image
 abbrev inputs : List (List ℕ)
 inputs =
@@ -70,16 +71,16 @@ inputs =
     ∷ set bench 41 1 ∷ []
 
 pub bench-recovered : map (λ x. told (asked x)) inputs ≡
-    (0 ∷ 0 ∷ []) ∷ (0 ∷ 1 ∷ []) ∷ (0 ∷ 6 ∷ []) ∷ (0 ∷ 6 ∷ [])
-    ∷ (204 ∷ 0 ∷ []) ∷ (204 ∷ 0 ∷ []) ∷ (204 ∷ 0 ∷ []) ∷ (204 ∷ 0 ∷ []) ∷ (204 ∷ 0 ∷ []) ∷ (204 ∷ 0 ∷ []) ∷ (201 ∷ 0 ∷ [])
+    (0 ∷ 0 ∷ 0 ∷ []) ∷ (0 ∷ 1 ∷ 1 ∷ []) ∷ (0 ∷ 6 ∷ 6 ∷ []) ∷ (0 ∷ 6 ∷ 6 ∷ [])
+    ∷ (204 ∷ 0 ∷ 0 ∷ []) ∷ (204 ∷ 0 ∷ 0 ∷ []) ∷ (204 ∷ 0 ∷ 0 ∷ []) ∷ (204 ∷ 0 ∷ 0 ∷ []) ∷ (204 ∷ 0 ∷ 0 ∷ []) ∷ (204 ∷ 0 ∷ 0 ∷ []) ∷ (201 ∷ 0 ∷ 0 ∷ [])
     ∷ []
-unfolding bench any all first count part put store zeros sameBytes numberAt bytesOf nameIs rowIs shapeOf rowGood rowsGood layoutGood recordAt viewOf nameBytes isDots nameGood clash hasDuplicate entriesOf childDirectories leads leafGood fileGood directoryGood textShared symlinkGood inodeGood entryFormed entryLinked entryGood noZero textLinked textGood openGood handleGood journalClear bodiesGood consistent movedBytes holderBytes replacedBytes entriesAfter childrenAfter linksAfter results journalOf journalFormed journalHead journalBytes moveGood decided intoGood journalFits pendingRows recovered headerOf rowPut rowsPut cleared noRow rowCount
+unfolding bench any all first count part put store zeros sameBytes numberAt bytesOf nameIs rowIs shapeOf rowGood rowsGood layoutGood recordAt viewOf nameBytes isDots nameGood clash hasDuplicate entriesOf childDirectories leads leafGood fileGood directoryGood textShared symlinkGood inodeGood entryFormed entryLinked entryGood noZero textLinked textGood openGood handleGood journalClear bodiesGood consistent movedBytes holderBytes replacedBytes entriesAfter childrenAfter linksAfter results journalOf journalFormed journalHead journalBytes renameFits decided intoGood moveDraft renameDraft draft pendingRows recovered headerOf rowPut rowsPut cleared noRow rowCount
 bench-recovered = refl
 
 -- the outcome in scratch, zeros where the image cannot be recovered, and the byte past the image as it was
 pub bench-scratch : map (λ x. asked x .scratch) (bench ∷ begun ∷ going ∷ set going 592 2 ∷ []) ≡
     map (λ x. x ++ 7 ∷ []) (bench ∷ bench ∷ storeAll h bench (entryRow ∷ results h bench m) ∷ replicate 624 0 ∷ [])
-unfolding bench any all first count part put store zeros sameBytes numberAt bytesOf nameIs rowIs shapeOf rowGood rowsGood layoutGood recordAt viewOf nameBytes isDots nameGood clash hasDuplicate entriesOf childDirectories leads leafGood fileGood directoryGood textShared symlinkGood inodeGood entryFormed entryLinked entryGood noZero textLinked textGood openGood handleGood journalClear bodiesGood consistent movedBytes holderBytes replacedBytes entriesAfter childrenAfter linksAfter results journalOf journalFormed journalHead journalBytes moveGood decided intoGood journalFits pendingRows recovered headerOf rowPut rowsPut cleared noRow rowCount
+unfolding bench any all first count part put store zeros sameBytes numberAt bytesOf nameIs rowIs shapeOf rowGood rowsGood layoutGood recordAt viewOf nameBytes isDots nameGood clash hasDuplicate entriesOf childDirectories leads leafGood fileGood directoryGood textShared symlinkGood inodeGood entryFormed entryLinked entryGood noZero textLinked textGood openGood handleGood journalClear bodiesGood consistent movedBytes holderBytes replacedBytes entriesAfter childrenAfter linksAfter results journalOf journalFormed journalHead journalBytes renameFits decided intoGood moveDraft renameDraft draft pendingRows recovered headerOf rowPut rowsPut cleared noRow rowCount
 bench-scratch = refl
 
 -- buffers that are too short

@@ -1,8 +1,9 @@
--- Recovery of an image (the papers' word is repair): when its journal record fits, and the rows that finish the rename or take it back. Assumes nothing.
+-- Recovery of an image (the papers' word is repair): when its journal record fits, and the rows that finish the rename or take it back (rules
+-- 109 to 115). Assumes nothing.
 use mathlib.Core.Bool.{Bool, _&&_, not, cond}
 use mathlib.Core.List.{List, [], _∷_, _++_}
 use mathlib.Core.Option.{Option, none, some}
-use Prim.Native.Nat.{ℕ}
+use Prim.Native.Nat.{ℕ, zero, suc}
 use lib.Dec.{eqb, ltb}
 use Rattle.seq.specs.Truth.{implies}
 use Rattle.layout.specs.declared.Shape.{Shape}
@@ -15,7 +16,29 @@ use Rattle.plan.specs.Write.{Write, storeAll}
 use Rattle.results.specs.declared.Move.{Move}
 use Rattle.results.specs.Results.{present, results, clearRow}
 
--- recovery: the move that a journal record names; the new parent is the one of the entry in the new slot
+-- ---- a pending rename
+
+-- a number below n, or none
+abbrev pub belowOrAbsent : ℕ → ℕ → Bool
+belowOrAbsent i n = implies (present i) (ltb i n)
+
+-- rule 111: the numbers are in range; that of the old parent is asked for by rule 112
+abbrev pub inRange : Shape → Journal → Bool
+inRange h j =
+    ltb (j .old) (h .entries) && ltb (j .new) (h .entries) && ltb (j .moved) (h .inodes) && belowOrAbsent (j .replaced) (h .inodes)
+    && belowOrAbsent (j .text) (h .texts)
+
+-- rule 112: the slots differ, the moved inode is not the root, and it, the old parent and the replaced inode are different
+abbrev pub different : Journal → Bool
+different j =
+    not (eqb (j .old) (j .new)) && not (eqb (j .moved) 0) && not (eqb (j .moved) (j .parent)) && not (eqb (j .replaced) (j .moved))
+    && not (eqb (j .replaced) (j .parent))
+
+-- rules 111 and 112: the record of a rename fits the image
+unfoldable pub renameFits : Shape → List ℕ → Journal → Bool
+renameFits h x j = inRange h j && different j && isDirectory (viewOf h x) (j .parent)
+
+-- the move that the record names; the new parent is the one of the entry in the new slot
 abbrev pub moveFrom : View → Journal → Move
 moveFrom v j = record {
   old = j .old;
@@ -28,52 +51,51 @@ moveFrom v j = record {
   now = j .time;
 }
 
--- a number below n, or none
-abbrev pub belowOrAbsent : ℕ → ℕ → Bool
-belowOrAbsent i n = implies (present i) (ltb i n)
-
--- recovery, fit: numbers in range, different slots, the moved inode not the root, neither it nor the old parent replaced, the old parent another
--- directory
-unfoldable pub moveGood : View → Move → Bool
-moveGood v m =
-    ltb (m .old) (v .entries) && ltb (m .new) (v .entries) && ltb (m .moved) (v .inodes) && belowOrAbsent (m .replaced) (v .inodes)
-    && belowOrAbsent (m .text) (v .texts) && not (eqb (m .old) (m .new)) && not (eqb (m .moved) 0) && not (eqb (m .moved) (m .from))
-    && not (eqb (m .replaced) (m .moved)) && not (eqb (m .replaced) (m .from)) && isDirectory v (m .from)
-
--- recovery: the new entry has been applied, so its slot is in use and targets the moved inode
+-- rule 113: the new entry has been applied, so its slot is in use and targets the moved inode
 unfoldable pub decided : View → Move → Bool
 decided v m = entryUsed v (m .new) && eqb (v .target (m .new)) (m .moved)
 
--- recovery: the new parent is a directory, and neither moved nor replaced
+-- rule 114: the new parent is a directory, and neither moved nor replaced
 unfoldable pub intoGood : View → Move → Bool
 intoGood v m = isDirectory v (m .into) && not (eqb (m .into) (m .moved)) && not (eqb (m .into) (m .replaced))
 
 module _ (h : Shape) (x : List ℕ) where
-  abbrev pub moveIn : Move
-  moveIn = moveFrom (viewOf h x) (journalOf (journalAt h x))
-
-  -- recovery, fit: the record is formed (rule 12), its operation is a rename, and its move is good
-  unfoldable pub journalFits : Bool
-  journalFits = journalFormed (journalAt h x) && eqb (journalOf (journalAt h x) .kind) 0 && moveGood (viewOf h x) moveIn
-
-  -- recovery: rows are answered only if their outcome is consistent
-  abbrev pub ifConsistent : List Write → Option (List Write)
-  ifConsistent ws = cond (consistent (storeAll h x ws)) (some ws) none
-
-  -- recovery: the rows that finish the rename are the results, made afresh, and the one that clears the journal record
-  abbrev pub finishing : List Write
-  finishing = results h x moveIn ++ clearRow h ∷ []
-
-  -- recovery: that one alone takes it back
+  -- rule 113: clearing the journal record takes the rename back
   abbrev pub undoing : List Write
   undoing = clearRow h ∷ []
 
-  -- recovery: what a journal record that is set leads to
-  unfoldable pub pendingRows : Option (List Write)
-  pendingRows =
-      cond journalFits (cond (decided (viewOf h x) moveIn) (cond (intoGood (viewOf h x) moveIn) (ifConsistent finishing) none) (ifConsistent undoing))
-      none
+  -- rule 114: the results, made afresh, and then the cleared journal record finish it
+  abbrev pub finishing : Move → List Write
+  finishing m = results h x m ++ clearRow h ∷ []
 
-  -- recovery: a clear one leaves nothing to do on a consistent image
+  -- rules 113 and 114: the rows of a move whose record fits
+  unfoldable pub moveDraft : Move → Option (List Write)
+  moveDraft m = cond (decided (viewOf h x) m) (cond (intoGood (viewOf h x) m) (some (finishing m)) none) (some undoing)
+
+  -- and of a pending rename
+  unfoldable pub renameDraft : Journal → Option (List Write)
+  renameDraft j = cond (renameFits h x j) (moveDraft (moveFrom (viewOf h x) j)) none
+
+  -- ---- any pending operation
+
+  -- rule 110: the rows by the kind of the operation; a rename is of kind 0, and there is no other
+  abbrev pub kindDraft : ℕ → Journal → Option (List Write)
+  kindDraft zero j = renameDraft j
+  kindDraft (suc k) j = none
+
+  -- rule 110: a record that is not formed fits no operation
+  unfoldable pub draft : Option (List Write)
+  draft = cond (journalFormed (journalAt h x)) (kindDraft (journalOf (journalAt h x) .kind) (journalOf (journalAt h x))) none
+
+  -- rule 115: rows are answered only if their outcome is consistent
+  abbrev pub ifConsistent : Option (List Write) → Option (List Write)
+  ifConsistent none = none
+  ifConsistent (some ws) = cond (consistent (storeAll h x ws)) (some ws) none
+
+  -- what a journal record that is set leads to
+  unfoldable pub pendingRows : Option (List Write)
+  pendingRows = ifConsistent draft
+
+  -- rule 109: a clear one leaves nothing to do on a consistent image
   unfoldable pub recover : Option (List Write)
   recover = cond (journalClear h x) (cond (consistent x) (some []) none) pendingRows

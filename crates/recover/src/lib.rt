@@ -1,1 +1,105 @@
-// Recovery after a crash: what the journal record says, and the rows that finish or take back what was interrupted.
+// The job that recovers an image after a crash (the papers' repair): a plan that finishes or takes back what was interrupted.
+use draft::Draft;
+use layout::Shape;
+use layout::contents::Contents;
+ghost use mathlib.Core.Path.{_≡_};
+ghost use mathlib.Core.Bool.{false};
+ghost use Prim.Native.Nat.{_≤_};
+ghost use lib.ListN.{length};
+ghost use Rattle.layout.specs.Contents.{Read};
+ghost use Rattle.consistency.specs.Others.{journalClear};
+ghost use Rattle.plan.specs.Form.{planBytes};
+ghost use Rattle.recover.specs.Recover.{pendingRows};
+ghost use Rattle.recover.specs.Job.{byRows, byJournal, recovered};
+ghost use Rattle.recover.specs.Outs.{refusedBy, Ready, Answers};
+
+pub mod draft;
+pub mod outcome;
+pub mod renames;
+
+// The bytes of a plan.
+const PLAN_BYTES: usize = 648;
+
+// How the job is answered: its number, and how many rows the plan has.
+pub struct Answer {
+    pub number: u8,
+    pub rows: usize,
+}
+
+fn refused(number: u8) -> Answer
+    ensures { λ r. ⌜ r ≡ refusedBy number ⌝ }
+{
+    Answer { number, rows: 0 }
+}
+
+// The rows of a draft, which are answered only if their outcome is consistent. Scratch is as long as the image.
+fn settle(
+    s: &[u8],
+    h: Shape,
+    rows: usize,
+    draft: &[u8],
+    plan: &mut [u8],
+    scratch: &mut [u8],
+) -> Answer
+    requires { ⌜ Ready (now s) h rows (now draft) × (planBytes ≤ length (now plan)) × (length (now scratch) ≡ length (now s)) ⌝ }
+    ensures { λ r. ⌜ Answers (byRows (now (plan .entry)) (now (scratch .entry)) (now (s .entry)) h (pendingRows h (now (s .entry)))) r (now (plan .exit)) (now (scratch .exit)) ⌝ }
+{
+    layout::bytes::copy(scratch, 0, s);
+    outcome::apply(scratch, draft, rows);
+    if consistency::check(scratch) != 0 {
+        encode::record::clear(scratch);
+        return refused(204);
+    }
+    layout::bytes::copy(plan, 0, draft);
+    Answer { number: 0, rows }
+}
+
+// A journal record that is set. Scratch is as long as the image.
+fn pending(s: &[u8], h: Shape, plan: &mut [u8], scratch: &mut [u8]) -> Answer
+    requires { ⌜ Read (now s) h × (planBytes ≤ length (now plan)) × (length (now scratch) ≡ length (now s)) ⌝ }
+    ensures { λ r. ⌜ Answers (byRows (now (plan .entry)) (now (scratch .entry)) (now (s .entry)) h (pendingRows h (now (s .entry)))) r (now (plan .exit)) (now (scratch .exit)) ⌝ }
+{
+    let mut draft = [0u8; 648];
+    let found = draft::make(&mut draft, s, h);
+    match found {
+        Draft::Unfit => {
+            encode::record::clear(scratch);
+            refused(204)
+        }
+        Draft::Rows(rows) => settle(s, h, rows, &draft, plan, scratch),
+    }
+}
+
+// An image of a good layout: its journal record decides.
+fn by_journal(s: &[u8], h: Shape, plan: &mut [u8], scratch: &mut [u8]) -> Answer
+    requires { ⌜ Read (now s) h × (planBytes ≤ length (now plan)) × (length (now s) ≤ length (now scratch)) ⌝ }
+    ensures { λ r. ⌜ Answers (byJournal (now (plan .entry)) (now (scratch .entry)) (now (s .entry)) h) r (now (plan .exit)) (now (scratch .exit)) ⌝ }
+{
+    if !consistency::journal_clear(s, h) {
+        let n = s.len();
+        return pending(s, h, plan, &mut scratch[..n]);
+    }
+    if !consistency::bodies_good(s, h) {
+        return refused(201);
+    }
+    plan::clear(plan);
+    layout::bytes::copy(scratch, 0, s);
+    Answer { number: 0, rows: 0 }
+}
+
+// The job repair. The image is only read. At 0 the plan has the rows and scratch their outcome.
+pub fn recover(s: &[u8], plan: &mut [u8], scratch: &mut [u8]) -> Answer
+    ensures { λ r. ⌜ Answers (recovered (now (plan .entry)) (now (scratch .entry)) (now (s .entry))) r (now (plan .exit)) (now (scratch .exit)) ⌝ }
+{
+    if plan.len() < PLAN_BYTES {
+        return refused(205);
+    }
+    if scratch.len() < s.len() {
+        return refused(205);
+    }
+    let found = layout::contents::read(s);
+    match found {
+        Contents::Bad => refused(201),
+        Contents::Good(h) => by_journal(s, h, plan, scratch),
+    }
+}

@@ -8,16 +8,14 @@ ghost use Prim.Native.Nat.{_+_, _<_, _≤_};
 ghost use lib.ListN.{length};
 ghost use Rattle.layout.specs.Contents.{Laid};
 ghost use Rattle.encode.specs.Journal.{journalBytes};
-ghost use Rattle.plan.specs.Form.{planRows, planBytes, rowPut};
+ghost use Rattle.plan.specs.Form.{planBytes, rowPut};
 ghost use Rattle.plan.specs.Write.{rowFrom};
-ghost use Rattle.results.specs.Results.{InImage, clearRow};
+ghost use Rattle.results.specs.Results.{InImage};
 ghost use Rattle.rename.specs.Plan.{journalFor, newEntry, journalRow, entryRow, planned, renameRows};
 
 const JOURNAL_GROUP: u8 = 1;
 
 const ENTRY_GROUP: u8 = 2;
-
-const CLEAR_GROUP: u8 = 4;
 
 // The journal record of the move; a rename is of kind 0.
 fn journal(m: Move) -> [u8; 32]
@@ -77,15 +75,6 @@ fn put_entry(plan: &mut [u8], s: &[u8], h: Shape, m: Move, called: &[u8])
     put_made(plan, &mut bytes[..width], s, h, m, called);
 }
 
-// The row that clears the journal record, in the place behind all others.
-fn put_clear(plan: &mut [u8], at: usize, s: &[u8], h: Shape)
-    requires { ⌜ (planBytes ≤ length (now plan)) × (at < planRows) × Laid h (now s) ⌝ }
-    ensures { λ _. ⌜ now (plan .exit) ≡ rowPut (now (plan .entry)) at (rowFrom h (clearRow h)) ⌝ }
-{
-    let r = [0u8; 32];
-    plan::put_row(plan, at, CLEAR_GROUP, layout::place::journal(h), &r);
-}
-
 // Fills the plan with the rows of the move, and answers how many they are.
 pub fn put(plan: &mut [u8], s: &[u8], h: Shape, m: Move, called: &[u8]) -> usize
     requires { ⌜ (planBytes ≤ length (now plan)) × Laid h (now s) × InImage h m × (8 + length (now called) ≤ h .width) ⌝ }
@@ -95,6 +84,6 @@ pub fn put(plan: &mut [u8], s: &[u8], h: Shape, m: Move, called: &[u8]) -> usize
     put_journal(plan, s, h, m, called);
     put_entry(plan, s, h, m, called);
     let at = results::rows::put(plan, 2, s, h, m);
-    put_clear(plan, at, s, h);
+    results::rows::put_clear(plan, at, s, h);
     at + 1
 }

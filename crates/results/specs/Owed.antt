@@ -1,19 +1,21 @@
 -- What an operation owes for each of its rows, for the rows of the results and the one that clears the journal record (rule 74). Assumes nothing.
 use mathlib.Core.Path.{_≡_, refl, _∙_}
 use mathlib.Core.Logic.{_≢_}
-use mathlib.Core.List.{List}
+use mathlib.Core.Bool.{Bool, true, false, not}
+use mathlib.Core.List.{List, _∷_, _++_}
 use Prim.Native.Nat.{ℕ, _<_}
-use lib.Dec.{lit<, lit≤}
+use lib.Dec.{eqb, lit<, lit≤}
 use lib.ListN.{length, length-replicate}
+use borrow.Author.Tests.{eqb-false, not-true}
 use Rattle.layout.specs.declared.Shape.{Shape}
 use Rattle.layout.specs.Contents.{Laid}
 use Rattle.layout.specs.Record.{record-length}
 use Rattle.layout.specs.View.{inodeAt}
 use Rattle.encode.specs.Journal.{absent}
 use Rattle.plan.specs.Fit.{Writes}
-use Rattle.plan.specs.Write.{inodeKey, entryKey, textKey, journalKey}
+use Rattle.plan.specs.Write.{Write, AllWrites, inodeKey, entryKey, textKey, journalKey, writes-join}
 use Rattle.results.specs.declared.Move.{Move}
-use Rattle.results.specs.Results.{InImage, resultGroup, clearGroup, freeRecord, movedAfter, holderAfter, replacedAfter}
+use Rattle.results.specs.Results.{InImage, present, resultGroup, clearGroup, freeRecord, movedAfter, holderAfter, replacedAfter, when, holderRow, replacedRow, textRow, intoRows, replacedRows, textRows, results}
 use Rattle.results.specs.Again.{moved-length, holder-length, replaced-length}
 
 -- an inode with bytes of its length
@@ -25,6 +27,10 @@ inode-writes h i body l whole = record {
   allowed = refl;
   whole = whole;
 }
+
+when-writes : (h : Shape) (b : Bool) (w : Write) → (b ≡ true → Writes h (w .group) (w .key) (w .body)) → AllWrites h (when b w)
+when-writes h true w f = (f refl, tt)
+when-writes h false w f = tt
 
 module _ (h : Shape) (s : List ℕ) (m : Move) (laid : Laid h s) (range : InImage h m) where
   long : (i : ℕ) → i < h .inodes → length (inodeAt h s i) ≡ 32
@@ -57,6 +63,23 @@ module _ (h : Shape) (s : List ℕ) (m : Move) (laid : Laid h s) (range : InImag
     allowed = refl;
     whole = refl;
   }
+
+  -- all rows of the results
+  pub results-write : AllWrites h (results h s m)
+  unfolding results
+  results-write =
+      let into = when-writes h (not (eqb (m .into) (m .from))) (holderRow h s m (m .into)) (λ _. holder-writes (m .into) (range .into)) in
+      let replaced = when-writes h (present (m .replaced)) (replacedRow h s m) (λ e. replaced-writes (eqb-false _ _ (not-true _ e))) in
+      let text = when-writes h (present (m .text)) (textRow h s m) (λ e. text-writes (eqb-false _ _ (not-true _ e))) in (
+        old-writes,
+        (
+          moved-writes,
+          (
+            holder-writes (m .from) (range .from),
+            writes-join h (intoRows h s m ++ replacedRows h s m) (textRows h s m) (writes-join h (intoRows h s m) (replacedRows h s m) into replaced) text,
+          ),
+        ),
+      )
 
 pub clear-writes : (h : Shape) → Writes h clearGroup journalKey (freeRecord h 4)
 clear-writes h = record {

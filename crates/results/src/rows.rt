@@ -7,10 +7,13 @@ ghost use lib.ListN.{length};
 ghost use Rattle.layout.specs.Contents.{Laid};
 ghost use Rattle.plan.specs.Form.{planRows, planBytes, rowPut};
 ghost use Rattle.plan.specs.Write.{rowFrom, Filled};
-ghost use Rattle.results.specs.Results.{InImage, movedRow, holderRow, alwaysRows, intoRows, replacedRows, results};
+ghost use Rattle.results.specs.Results.{InImage, movedRow, holderRow, alwaysRows, intoRows, replacedRows, results, clearRow};
 
 // Their ordering group.
 const GROUP: u8 = 3;
+
+// And that of the row behind them, which clears the journal record.
+const CLEAR_GROUP: u8 = 4;
 
 // The number that names no replaced inode and no text.
 const ABSENT: usize = 65535;
@@ -81,4 +84,13 @@ pub fn put(plan: &mut [u8], first: usize, s: &[u8], h: Shape, m: Move) -> usize
     }
     plan::put_clearing(plan, c, GROUP, layout::place::text(h, m.text), 64);
     c + 1
+}
+
+// The row that clears the journal record, in the place behind all others.
+pub fn put_clear(plan: &mut [u8], at: usize, s: &[u8], h: Shape)
+    requires { ⌜ (planBytes ≤ length (now plan)) × (at < planRows) × Laid h (now s) ⌝ }
+    ensures { λ _. ⌜ now (plan .exit) ≡ rowPut (now (plan .entry)) at (rowFrom h (clearRow h)) ⌝ }
+{
+    let r = [0u8; 32];
+    plan::put_row(plan, at, CLEAR_GROUP, layout::place::journal(h), &r);
 }

@@ -1,10 +1,10 @@
--- `rename::rows::put_clear` meets its contract. Assumes nothing.
+-- `results::rows::put_clear` meets its contract. Assumes nothing.
 use mathlib.Core.Path.{refl}
 use Rattle.plan.specs.Write.{row-put}
 use Rattle.results.specs.Results.{clearRow}
 use borrow.Author.Needs.{needs}
-use Rattle.rename.proofs.rows.put_clear.Statement.{statement}
-use Rattle.rename.proofs.rows.put_clear.Tie as tie
+use Rattle.results.proofs.rows.put_clear.Statement.{statement}
+use Rattle.results.proofs.rows.put_clear.Tie as tie
 
 journal-requires : tie.Need-journal-requires
 journal-requires c κs = search needs
