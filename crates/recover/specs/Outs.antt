@@ -22,8 +22,8 @@ use Rattle.plan.specs.Write.{Write, AllWrites, Filled, storeAll, rowsFrom}
 use Rattle.recover.specs.declared.Answer.{Answer}
 use Rattle.recover.specs.declared.draft.Draft.the-variants.{Unfit, Rows}
 use Rattle.recover.specs.Recover.{draft, ifConsistent, pendingRows}
-use Rattle.recover.specs.Job.{Recovered, answerOf, notRecoverable, outcomeOf, refused, done, byRows, byJournal}
-use Rattle.recover.specs.Bounds.{draft-rows}
+use Rattle.recover.specs.Job.{Recovered, answerOf, notRecoverable, outcomeOf, refused, done, byRows, byJournal, recovered}
+use Rattle.recover.specs.Bounds.{draft-rows, recovered-few}
 use Rattle.recover.specs.Drafts.{Drafted}
 use Rattle.recover.specs.Fit.{draft-writes}
 use Rattle.recover.specs.Outcome.{appliedFrom, stored-length, rows-formed, rows-applied}
@@ -40,6 +40,10 @@ pub record Answers (o : Recovered) (r : Answer) (plan scratch : List ℕ) : Type
 
 pub answers-as : {o p : Recovered} {r t : Answer} {plan scratch : List ℕ} → Answers o r plan scratch → t ≡ r → o ≡ p → Answers p t plan scratch
 answers-as {o} {p} {r} {t} {plan} {scratch} a e f = subst (λ (q : Recovered). Answers q t plan scratch) f (record { is = e ∙ a .is; plan-is = a .plan-is; scratch-is = a .scratch-is })
+
+-- the rows fit a plan
+pub answers-few : (plan scratch x : List ℕ) {r : Answer} {q z : List ℕ} → Answers (recovered plan scratch x) r q z → r .rows ≤ planRows
+answers-few plan scratch x a = subst (λ (r : Answer). r .rows ≤ planRows) (sym (a .is)) (recovered-few plan scratch x)
 
 -- a refusal leaves both buffers as they were
 pub answers-refused : (plan scratch x : List ℕ) (n : ℕ) {o : Recovered} → o ≡ refused plan scratch x n → Answers o (refusedBy n) plan scratch
