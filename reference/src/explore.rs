@@ -60,6 +60,8 @@ struct State {
     waiting: u16,
     waited: Waited,
     new_name_landed: bool,
+    /// Every row of some repair has landed.
+    done: bool,
 }
 
 /// Byte strings by number, so that a state is small.
@@ -126,11 +128,13 @@ impl Explorer<'_> {
         let image = self.image(self.story.before.clone())?;
         let plan = self.buffers.number(self.story.plan.clone()).0;
         let waiting = all_of(self.story.rows);
-        self.enter(State { image, plan, waiting, waited: Waited::Rename, new_name_landed: false });
+        let waited = Waited::Rename;
+        self.enter(State { image, plan, waiting, waited, new_name_landed: false, done: false });
         Ok(())
     }
 
-    fn enter(&mut self, state: State) {
+    fn enter(&mut self, mut state: State) {
+        state.done |= state.waiting == 0 && state.waited == Waited::Repair;
         if self.seen.insert(state) {
             self.left.push_back(state);
         }
@@ -147,18 +151,25 @@ impl Explorer<'_> {
         Ok(number)
     }
 
-    /// Where nothing waits any more, the image has to be one of two.
+    /// The image before, or the finished one.
+    fn outcome(&self, state: State) -> &[u8] {
+        match state.new_name_landed {
+            true => &self.story.finished,
+            false => &self.story.before,
+        }
+    }
+
+    /// Once the rename is whole, or some repair is, the image has to be the right one of two, and to stay so.
     fn holds_at_rest(&self, state: State) -> Result<(), Breach> {
-        let Story { before, finished, .. } = self.story;
-        let (expected, breach) = match (state.waited, state.new_name_landed) {
-            (Waited::Rename, _) => (finished, Breach::RenameUnfinished),
-            (Waited::Repair, true) => (finished, Breach::RepairUnfinished),
-            (Waited::Repair, false) => (before, Breach::NotTakenBack),
-            (Waited::Nobody, _) => return Ok(()),
+        let breach = match state {
+            State { done: true, new_name_landed: true, .. } => Breach::RepairUnfinished,
+            State { done: true, new_name_landed: false, .. } => Breach::NotTakenBack,
+            State { waiting: 0, waited: Waited::Rename, .. } => Breach::RenameUnfinished,
+            _ => return Ok(()),
         };
-        match state.waiting == 0 && self.images.all[state.image] != *expected {
-            true => Err(breach),
-            false => Ok(()),
+        match self.images.all[state.image] == self.outcome(state) {
+            true => Ok(()),
+            false => Err(breach),
         }
     }
 
@@ -169,9 +180,7 @@ impl Explorer<'_> {
             Some(&known) => known,
             None => self.repair(state.image)?,
         };
-        let Story { before, finished, .. } = self.story;
-        let outcome = if state.new_name_landed { finished } else { before };
-        if self.buffers.all[scratch] != *outcome {
+        if self.buffers.all[scratch] != self.outcome(state) {
             return Err(Breach::Scratch);
         }
         self.enter(State { plan, waiting: all_of(rows), waited: Waited::Repair, ..state });

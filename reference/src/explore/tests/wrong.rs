@@ -130,11 +130,27 @@ fn clearing_the_journal_early(image: &[u8], plan: &mut [u8], scratch: &mut [u8])
     answer
 }
 
+/// Where there is nothing to do, writes a journal record that fits and clears it again: only what must stay is broken.
+fn restless(image: &[u8], plan: &mut [u8], scratch: &mut [u8]) -> Answer {
+    let answer = repair(image, plan, scratch);
+    if answer != (Answer { number: REPAIRED, rows: 0 }) {
+        return answer;
+    }
+    for (number, group) in [(0, 3), (1, 4)] {
+        let body = body_position(number);
+        let row = Row { group, second: 0, len: 32, offset: journal_at(image) as u16, body: body as u16 };
+        plan[number * ROW_LEN..(number + 1) * ROW_LEN].copy_from_slice(&row.encode());
+    }
+    plan[72..86].copy_from_slice(&[1, 0, 0, 0, 1, 0, 3, 0, 255, 255, 0, 0, 255, 255]);
+    Answer { number: REPAIRED, rows: 2 }
+}
+
 #[test]
 fn wrong_repairs_are_reported() {
     let text_freed = story(&court(), "/p/f", "/q/y");
-    let cases: [(&str, Story, Repair, Breach); 8] = [
+    let cases: [(&str, Story, Repair, Breach); 9] = [
         ("idle", onto_a_file(), idle, Breach::NotTakenBack),
+        ("restless", onto_a_file(), restless, Breach::NotTakenBack),
         ("ever refusing", onto_a_file(), ever_refusing, Breach::RepairRefused(NOT_REPAIRABLE)),
         ("short buffers", onto_a_file(), taking_short_buffers, Breach::ShortBuffer),
         ("decrementing", of_a_directory(), decrementing, Breach::RepairUnfinished),
