@@ -84,20 +84,33 @@ static void write_at(const char *name, int file, const uint8_t *bytes, size_t le
     }
 }
 
-/* Writes the records of one group, and comes back when the disk has them. The rows are ones that mp_land took. */
+/* Writes the record of a row, which is one that mp_land took. */
+static void write_row(const char *name, int file, const uint8_t *plan, size_t row)
+{
+    const uint8_t *header = plan + HEADER_BYTES * row;
+    const uint8_t *body = plan + two_bytes(header + 6);
+    write_at(name, file, body, two_bytes(header + 2), (off_t)two_bytes(header + 4));
+}
+
+/* Comes back when the disk has all that was written. */
+static void sync_file(const char *name, int file)
+{
+    if (fdatasync(file) != 0)
+        fail(UNFINISHED, name, strerror(errno));
+}
+
+/* Writes the records of one group, and comes back when the disk has them. */
 static void write_group(const char *name, int file, const uint8_t *plan, size_t rows, uint8_t group)
 {
     int written = 0;
     for (size_t row = 0; row < rows; row++) {
-        const uint8_t *header = plan + HEADER_BYTES * row;
-        if (header[0] != group)
+        if (plan[HEADER_BYTES * row] != group)
             continue;
-        const uint8_t *body = plan + two_bytes(header + 6);
-        write_at(name, file, body, two_bytes(header + 2), (off_t)two_bytes(header + 4));
+        write_row(name, file, plan, row);
         written = 1;
     }
-    if (written && fdatasync(file) != 0)
-        fail(UNFINISHED, name, strerror(errno));
+    if (written)
+        sync_file(name, file);
 }
 
 /* Writes the records of a plan to the image file, one group after the other, and closes it. */

@@ -90,6 +90,26 @@ uint64_t mp_rename(const uint8_t *image, size_t image_len,
  */
 uint64_t mp_land(uint8_t *image, size_t image_len, const uint8_t *plan, size_t plan_len, uint64_t row);
 
+/*
+ * Plans a repair after a crash. The image is only read: landing the plan's rows is what repairs. A
+ * rename whose new entry has landed is carried to its end, and any other is taken back. The scratch
+ * is for the outcome, the image as it will be once every row has landed. The result has a number and
+ * the rows:
+ *
+ *     0  the first 648 bytes of the plan's buffer are the plan, and as many bytes of the scratch as
+ *        the image has are the outcome, which is consistent; what is behind them is as it was. A
+ *        consistent image gives a plan of no rows, since there is nothing to do;
+ *   205  the plan's buffer has fewer than 648 bytes, or the scratch fewer than the image;
+ *   201  the layout of the image is bad, or its journal record is clear and another record is at fault;
+ *   204  the journal record is not one that a rename writes on such an image, or the outcome would
+ *        not be consistent: as many bytes of the scratch as the image has are zero.
+ *
+ * The first of these that applies is given. After any but 0 the plan's buffer is as it was, and there
+ * are no rows; after 205 and 201 so is the scratch.
+ */
+uint64_t mp_repair(const uint8_t *image, size_t image_len, uint8_t *plan, size_t plan_len,
+                   uint8_t *scratch, size_t scratch_len);
+
 #ifdef __cplusplus
 }
 #endif

@@ -3,6 +3,7 @@
 pub mod check;
 pub mod land;
 pub mod rename;
+pub mod repair;
 pub mod walk;
 
 use crate::vectors::Writer;
@@ -25,6 +26,8 @@ pub const PARTS: &[Part] = &[
     Part { name: "walk", make: walk::all },
     // an image, a buffer, a request: number, rows, both counts and the buffer after
     Part { name: "rename", make: rename::all },
+    // an image, a plan buffer, a scratch buffer: number, rows and both buffers after
+    Part { name: "repair", make: repair::all },
 ];
 
 /// The cases of one class, by the numbers that answer them.

@@ -12,12 +12,14 @@ pub const LONGEST_CASE: usize = 131_072;
 pub const MOST_EDITS: usize = 12;
 pub const LONGEST_PLAN: usize = 1024;
 pub const LONGEST_PATH: usize = 600;
+pub const LONGEST_SCRATCH: usize = 131_072;
 
 const BASE: u8 = 1;
 const CHECK: u8 = 2;
 const WALK: u8 = 3;
 const LAND: u8 = 4;
 const RENAME: u8 = 5;
+const REPAIR: u8 = 6;
 
 type Edit = (u32, u8);
 
@@ -28,6 +30,7 @@ pub enum Case {
     Walk(Walking),
     Land(Landing),
     Rename(Renaming),
+    Repair(Repairing),
 }
 
 #[derive(Clone, Debug, PartialEq, Eq)]
@@ -51,6 +54,13 @@ pub struct Renaming {
     pub now: u64,
 }
 
+#[derive(Clone, Debug, PartialEq, Eq)]
+pub struct Repairing {
+    pub image: Vec<u8>,
+    pub plan: Buffer,
+    pub scratch: Scratch,
+}
+
 /// A plan buffer before the call.
 #[derive(Clone, Copy, Debug, PartialEq, Eq)]
 pub struct Buffer {
@@ -60,6 +70,19 @@ pub struct Buffer {
 
 impl Buffer {
     /// No two neighbours are alike, so that bytes that stay, go or move are seen.
+    pub fn bytes(self) -> Vec<u8> {
+        (0..self.len).map(|at| self.fill ^ at as u8).collect()
+    }
+}
+
+/// A scratch buffer before the call, which may be as long as any image.
+#[derive(Clone, Copy, Debug, PartialEq, Eq)]
+pub struct Scratch {
+    pub len: u32,
+    pub fill: u8,
+}
+
+impl Scratch {
     pub fn bytes(self) -> Vec<u8> {
         (0..self.len).map(|at| self.fill ^ at as u8).collect()
     }
@@ -119,6 +142,17 @@ impl Writer {
         self.caller(request);
         self.data.extend(now.to_le_bytes());
         self.paths(request);
+    }
+
+    pub fn repair(&mut self, home: &[u8], repairing: &Repairing) {
+        let Repairing { image, plan, scratch } = repairing;
+        assert!(usize::from(plan.len) <= LONGEST_PLAN, "a plan of {} bytes", plan.len);
+        assert!(scratch.len as usize <= LONGEST_SCRATCH, "a scratch of {} bytes", scratch.len);
+        self.image(REPAIR, home, image);
+        self.data.extend(plan.len.to_le_bytes());
+        self.data.push(plan.fill);
+        self.data.extend(scratch.len.to_le_bytes());
+        self.data.push(scratch.fill);
     }
 
     fn caller(&mut self, request: &Request) {
@@ -276,9 +310,27 @@ mod tests {
     }
 
     #[test]
+    fn repairs_are_read_as_they_were_written() {
+        let home: Vec<u8> = (0..100).collect();
+        let repairing = |image: &[u8], len: u16, scratch: u32| {
+            let (plan, scratch) = (Buffer { len, fill: 3 }, Scratch { len: scratch, fill: 250 });
+            Repairing { image: image.to_vec(), plan, scratch }
+        };
+        let mut writer = Writer::default();
+        let repairings = [repairing(&home, 0, 131_072), repairing(&home[..50], 1024, 0), repairing(&[], 648, 65_536)];
+        for repairing in &repairings {
+            writer.repair(&home, repairing);
+        }
+        let cases: Vec<Case> = repairings.into_iter().map(Case::Repair).collect();
+        assert_eq!(read(&writer.data).expect("the format is kept"), cases);
+        assert_eq!(read(&writer.data[..writer.data.len() - 1]), None);
+    }
+
+    #[test]
     fn a_buffer_shows_its_places() {
         assert_eq!(Buffer { len: 3, fill: 255 }.bytes(), [255, 254, 253]);
         assert_eq!(Buffer { len: 258, fill: 6 }.bytes()[256..], [6, 7]);
+        assert_eq!(Scratch { len: 258, fill: 6 }.bytes(), Buffer { len: 258, fill: 6 }.bytes());
     }
 
     #[test]

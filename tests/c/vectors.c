@@ -10,8 +10,9 @@
 #include <stdlib.h>
 #include <string.h>
 
-enum { TAG_BASE = 1, TAG_CHECK = 2, TAG_WALK = 3, TAG_LAND = 4, TAG_RENAME = 5 };
+enum { TAG_BASE = 1, TAG_CHECK = 2, TAG_WALK = 3, TAG_LAND = 4, TAG_RENAME = 5, TAG_REPAIR = 6 };
 enum { LONGEST_BASE = 53448, LONGEST_CASE = 131072, MOST_EDITS = 12, LONGEST_PLAN = 1024, LONGEST_PATH = 600 };
+enum { LONGEST_SCRATCH = 131072 };
 enum { MOST_TOLD = 10 };
 
 /* A file's bytes, and the part of them that is not yet read. */
@@ -121,14 +122,14 @@ static struct buffer read_plan(struct input *input)
     return plan;
 }
 
-/* The plan buffer of a rename, with other bytes than a plan has. */
-static struct buffer read_plan_buffer(struct input *input)
+/* A buffer to be written, with other bytes than a job leaves; its length is a number of so many bytes. */
+static struct buffer read_buffer(struct input *input, unsigned len_bytes, size_t longest)
 {
-    struct buffer plan = block(take_up_to(input, 2, LONGEST_PLAN), NULL, 0);
+    struct buffer buffer = block(take_up_to(input, len_bytes, longest), NULL, 0);
     uint8_t fill = *take(input, 1);
-    for (size_t i = 0; i < plan.len; i++)
-        plan.bytes[i] = fill ^ (uint8_t)i;
-    return plan;
+    for (size_t i = 0; i < buffer.len; i++)
+        buffer.bytes[i] = fill ^ (uint8_t)i;
+    return buffer;
 }
 
 /* Reads a request, and gives what mp_rename answers to it. */
@@ -211,7 +212,7 @@ static int land_case(struct input *cases, struct input *answers, unsigned long c
 static int rename_case(struct input *cases, struct input *answers, unsigned long count)
 {
     struct buffer image = read_image(cases);
-    struct buffer plan = read_plan_buffer(cases);
+    struct buffer plan = read_buffer(cases, 2, LONGEST_PLAN);
     uint64_t before = checksum(image);
     uint64_t result = ask_rename(cases, image, plan);
     if (checksum(image) != before)
@@ -222,6 +223,26 @@ static int rename_case(struct input *cases, struct input *answers, unsigned long
     differences += !same("the steps of new", count, mp_new_steps(result), read_answer(answers, ' '));
     differences += !same("the rest of the result of mp_rename", count, result >> 48, 0);
     differences += !same("the buffer's checksum after mp_rename", count, checksum(plan), read_answer(answers, '\n'));
+    free(plan.bytes);
+    free(image.bytes);
+    return differences == 0;
+}
+
+static int repair_case(struct input *cases, struct input *answers, unsigned long count)
+{
+    struct buffer image = read_image(cases);
+    struct buffer plan = read_buffer(cases, 2, LONGEST_PLAN);
+    struct buffer scratch = read_buffer(cases, 4, LONGEST_SCRATCH);
+    uint64_t before = checksum(image);
+    uint64_t result = mp_repair(image.bytes, image.len, plan.bytes, plan.len, scratch.bytes, scratch.len);
+    if (checksum(image) != before)
+        fail("mp_repair", "an image was changed");
+    int differences = !same("the number of mp_repair", count, mp_number(result), read_answer(answers, ' '));
+    differences += !same("the rows of mp_repair", count, mp_rows(result), read_answer(answers, ' '));
+    differences += !same("the rest of the result of mp_repair", count, result >> 16, 0);
+    differences += !same("the plan's checksum after mp_repair", count, checksum(plan), read_answer(answers, ' '));
+    differences += !same("the scratch's checksum after it", count, checksum(scratch), read_answer(answers, '\n'));
+    free(scratch.bytes);
     free(plan.bytes);
     free(image.bytes);
     return differences == 0;
@@ -262,6 +283,9 @@ static unsigned long run(const char *path, struct input *answers)
             break;
         case TAG_RENAME:
             differences += !rename_case(&cases, answers, ++count);
+            break;
+        case TAG_REPAIR:
+            differences += !repair_case(&cases, answers, ++count);
             break;
         default:
             fail(path, "an item has an unknown tag");

@@ -1,13 +1,17 @@
 // Prints the library's answers to the stored cases. docs/VECTORS.md has the form of the files.
+use case::Job;
 use libc::STDERR_FILENO;
 use reader::Tag;
 
+mod buffer;
+mod case;
 mod check;
 mod image;
 mod land;
 mod plan;
 mod reader;
 mod renames;
+mod repairs;
 mod request;
 mod walks;
 
@@ -24,29 +28,41 @@ const LAND_CASE: u8 = 4;
 
 const RENAME_CASE: u8 = 5;
 
+const REPAIR_CASE: u8 = 6;
+
 // Reads the rest of an item, and answers it where it is a case.
-fn item(fd: i32, tag: u8, base: &mut [u8], image: &mut [u8], plan: &mut [u8]) -> bool {
+fn item(
+    fd: i32,
+    tag: u8,
+    base: &mut [u8],
+    image: &mut [u8],
+    plan: &mut [u8],
+    scratch: &mut [u8],
+) -> bool {
     if tag == BASE {
         return image::read_base(fd, base);
     }
     if tag == CHECK_CASE {
-        return check::case(fd, base, image);
+        return case::case(fd, Job::Check, base, image, plan, scratch);
     }
     if tag == WALK_CASE {
         return walks::case(fd, base, image, plan);
     }
     if tag == LAND_CASE {
-        return land::case(fd, base, image, plan);
+        return case::case(fd, Job::Land, base, image, plan, scratch);
     }
     if tag == RENAME_CASE {
-        return renames::case(fd, base, image, plan);
+        return case::case(fd, Job::Rename, base, image, plan, scratch);
+    }
+    if tag == REPAIR_CASE {
+        return case::case(fd, Job::Repair, base, image, plan, scratch);
     }
     reader::complain(b"an item has an unknown tag");
     false
 }
 
 // Answers the cases of a file; false where something is wrong with it.
-fn all(fd: i32, base: &mut [u8], image: &mut [u8], plan: &mut [u8]) -> bool {
+fn all(fd: i32, base: &mut [u8], image: &mut [u8], plan: &mut [u8], scratch: &mut [u8]) -> bool {
     let mut left: usize = TOO_MANY;
     while 0 < left {
         let found = reader::next(fd);
@@ -54,7 +70,7 @@ fn all(fd: i32, base: &mut [u8], image: &mut [u8], plan: &mut [u8]) -> bool {
             Tag::End => return true,
             Tag::Failed => return false,
             Tag::Item(tag) => {
-                if !item(fd, tag, base, image, plan) {
+                if !item(fd, tag, base, image, plan, scratch) {
                     return false;
                 }
             }
@@ -76,7 +92,8 @@ fn run(path: &[u8]) {
     let mut base = image::base_buffer();
     let mut image = image::buffer();
     let mut plan = plan::buffer();
-    if !all(fd, &mut base, &mut image, &mut plan) {
+    let mut scratch = image::buffer();
+    if !all(fd, &mut base, &mut image, &mut plan, &mut scratch) {
         io::write_all(STDERR_FILENO, b"vectors: stopped in the file ");
         io::write_all(STDERR_FILENO, path);
         io::write_all(STDERR_FILENO, b"\n");
@@ -89,4 +106,5 @@ fn main() {
     run(b"land");
     run(b"walk");
     run(b"rename");
+    run(b"repair");
 }

@@ -1,7 +1,8 @@
 //! Reads a file of test vectors back, strictly.
 
-use super::{Buffer, Case, Landing, Renaming, Walking, BASE, CHECK, LAND, RENAME, WALK};
-use super::{LONGEST_BASE, LONGEST_CASE, LONGEST_PATH, LONGEST_PLAN, MOST_EDITS};
+use super::{Buffer, Case, Landing, Renaming, Repairing, Scratch, Walking};
+use super::{BASE, CHECK, LAND, RENAME, REPAIR, WALK};
+use super::{LONGEST_BASE, LONGEST_CASE, LONGEST_PATH, LONGEST_PLAN, LONGEST_SCRATCH, MOST_EDITS};
 use crate::permission::Credentials;
 use crate::request::{Operand, Request};
 
@@ -20,6 +21,7 @@ pub fn read(data: &[u8]) -> Option<Vec<Case>> {
             WALK => cases.push(Case::Walk(reader.walking(&base)?)),
             LAND => cases.push(Case::Land(reader.landing(&base)?)),
             RENAME => cases.push(Case::Rename(reader.renaming(&base)?)),
+            REPAIR => cases.push(Case::Repair(reader.repairing(&base)?)),
             _ => return None,
         }
     }
@@ -84,11 +86,23 @@ impl<'a> Reader<'a> {
 
     fn renaming(&mut self, base: &[u8]) -> Option<Renaming> {
         let image = self.image(base)?;
-        let buffer = Buffer { len: self.u16()?, fill: self.u8()? };
+        let buffer = self.buffer()?;
         let request = self.caller()?;
         let now = self.u64()?;
         let request = self.paths(request)?;
-        (usize::from(buffer.len) <= LONGEST_PLAN).then_some(Renaming { image, buffer, request, now })
+        Some(Renaming { image, buffer, request, now })
+    }
+
+    fn repairing(&mut self, base: &[u8]) -> Option<Repairing> {
+        let image = self.image(base)?;
+        let plan = self.buffer()?;
+        let scratch = Scratch { len: self.u32_up_to(LONGEST_SCRATCH)? as u32, fill: self.u8()? };
+        Some(Repairing { image, plan, scratch })
+    }
+
+    fn buffer(&mut self) -> Option<Buffer> {
+        let buffer = Buffer { len: self.u16()?, fill: self.u8()? };
+        (usize::from(buffer.len) <= LONGEST_PLAN).then_some(buffer)
     }
 
     /// A request whose paths are still to be read.

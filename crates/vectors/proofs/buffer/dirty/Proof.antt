@@ -1,25 +1,25 @@
--- `vectors::renames::dirty` meets its contract. Assumes nothing.
+-- `vectors::buffer::dirty` meets its contract. Assumes nothing.
 use mathlib.Core.Path.{_≡_}
 use Prim.Native.Nat.{_-_}
 use lib.ListN.{length}
 use borrow.Author.Needs.{needs}
-use Rattle.vectors.proofs.renames.dirty.Statement.{statement}
-use Rattle.vectors.proofs.renames.dirty.Tie as tie
+use Rattle.vectors.proofs.buffer.dirty.Statement.{statement}
+use Rattle.vectors.proofs.buffer.dirty.Tie as tie
 
 abbrev Inv-loop : tie.InvT-loop
-Inv-loop plan₀ fill i₀ plan i = length plan ≡ length plan₀
+Inv-loop buf₀ fill i₀ buf i = length buf ≡ length buf₀
 
 abbrev μ-loop : tie.MeasureT-loop
-μ-loop plan₀ fill i₀ plan i = length plan₀ - i
+μ-loop buf₀ fill i₀ buf i = length buf₀ - i
 
 loop-holds : tie.Need-loop-holds Inv-loop μ-loop
 loop-holds c = search needs
 
-cast-plan : tie.Need-cast-plan Inv-loop μ-loop
-cast-plan c = search needs
+cast-buf : tie.Need-cast-buf Inv-loop μ-loop
+cast-buf c = search needs
 
-slice-write-plan : tie.Need-slice-write-plan Inv-loop μ-loop
-slice-write-plan c = search needs
+slice-write-buf : tie.Need-slice-write-buf Inv-loop μ-loop
+slice-write-buf c = search needs
 
 add-i : tie.Need-add-i Inv-loop μ-loop
 add-i c = search needs
@@ -43,8 +43,8 @@ dirty-spec =
     Inv-loop
     μ-loop
     loop-holds
-    cast-plan
-    slice-write-plan
+    cast-buf
+    slice-write-buf
     add-i
     loop-less
     loop-again
