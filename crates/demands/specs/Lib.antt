@@ -9,4 +9,3 @@ pub mod Bench
 pub mod Crashes
 pub mod Retold
 pub mod Demand3
-pub mod Crashed
