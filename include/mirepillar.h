@@ -101,8 +101,8 @@ uint64_t mp_land(uint8_t *image, size_t image_len, const uint8_t *plan, size_t p
  *        consistent image gives a plan of no rows, since there is nothing to do;
  *   205  the plan's buffer has fewer than 648 bytes, or the scratch fewer than the image;
  *   201  the layout of the image is bad, or its journal record is clear and another record is at fault;
- *   204  the journal record is not one that a rename writes on such an image, or the outcome would
- *        not be consistent: as many bytes of the scratch as the image has are zero.
+ *   204  the journal record does not fit the image (its mark, its zeros, its kind or its numbers), or
+ *        the outcome would not be consistent: as many bytes of the scratch as the image has are zero.
  *
  * The first of these that applies is given. After any but 0 the plan's buffer is as it was, and there
  * are no rows; after 205 and 201 so is the scratch.

@@ -1,6 +1,6 @@
 -- Demand 1: every job, given any bytes, answers with a number of the table, and with one that the table has for it (rules 47, 75 to 82). Assumes nothing.
-use mathlib.Core.Path.{_≡_, refl, sym, ap, _∙_, subst}
-use mathlib.Core.Bool.{Bool, true, false, _&&_, _||_, cond}
+use mathlib.Core.Path.{_≡_, refl}
+use mathlib.Core.Bool.{Bool, true, false, _||_, cond}
 use mathlib.Core.List.{List, [], _∷_, _++_}
 use mathlib.Core.Option.{Option, none, some}
 use Prim.Native.Nat.{ℕ}
@@ -19,11 +19,11 @@ use Rattle.plan.specs.Form.{planBytes}
 use Rattle.plan.specs.Fit.{applicable}
 use Rattle.plan.specs.Write.{Write}
 use Rattle.apply.specs.Apply.{shortPlan, badLayout, badRow, applyNumber}
-use Rattle.refusals.specs.declared.case.Answer.the-variants.{Refused, Planned}
+use Rattle.refusals.specs.declared.case.Answer.the-variants.{Planned}
 use Rattle.refusals.specs.Steps.{numberOf, decide}
 use Rattle.refusals.specs.Decide.{decide-number, decide-refused, decide-passed}
-use Rattle.rename.specs.Order.{walks, early, late, order}
-use Rattle.rename.specs.Job.{answer, renamed}
+use Rattle.rename.specs.Order.{early, late, order}
+use Rattle.rename.specs.Job.{renamed}
 use Rattle.recover.specs.Recover.{pendingRows}
 use Rattle.recover.specs.Job.{tooShort, refused, done, byRows, recovered}
 use Rattle.demands.specs.Begun.{old-facts, new-facts}

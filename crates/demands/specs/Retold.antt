@@ -1,10 +1,10 @@
 -- The events of a rename are those of the crash theorem, told in the jobs' own definitions. Assumes nothing.
-use mathlib.Core.Path.{_≡_, refl, sym, ap, _∙_}
+use mathlib.Core.Path.{_≡_, refl, ap, _∙_}
 use mathlib.Core.Bool.{Bool, true, false, _||_}
 use mathlib.Core.List.{List, [], _∷_, map}
 use mathlib.Core.Option.{Option, none, some}
 use Prim.Native.Nat.{ℕ, zero, suc}
-use lib.Dec.{T, eqb}
+use lib.Dec.{eqb}
 use Rattle.layout.specs.declared.Shape.{Shape}
 use Rattle.plan.specs.Form.{rowAt}
 use Rattle.apply.specs.Apply.{applyNumber}

@@ -1,6 +1,6 @@
 -- What C hands over and gets back: the parts of a request, and the job's answer as one number, each part in bits of its own. Assumes nothing.
 use mathlib.Core.Path.{_≡_}
-use Prim.Native.Nat.{ℕ, _+_, _*_, _/_, _%_, _≤_, _<_}
+use Prim.Native.Nat.{ℕ, _+_, _*_, _/_, _%_, _<_}
 use native.Mathlib.Omega.{arith}
 use Rattle.paths.specs.declared.request.Request.{Request}
 use Rattle.rename.specs.declared.Renamed.{Renamed}

@@ -2,7 +2,7 @@
 use mathlib.Core.Path.{_≡_, refl, sym, ap}
 use mathlib.Core.Logic.{_≢_}
 use mathlib.Core.Bool.{Bool, true, false, not}
-use mathlib.Core.List.{List, _∷_, _++_, append-assoc}
+use mathlib.Core.List.{List, [], _∷_, _++_, append-assoc}
 use Prim.Native.Nat.{ℕ, _+_, _≤_, _<_}
 use native.Mathlib.Omega.{arith}
 use lib.Dec.{eqb, lit<, lit≤}
@@ -14,7 +14,7 @@ use Rattle.layout.specs.Record.{record-length}
 use Rattle.layout.specs.View.{viewOf, inodeAt}
 use Rattle.encode.specs.Journal.{absent, journal-length}
 use Rattle.edits.specs.Finished.{slots-differ, moved-not-from, moved-not-into}
-use Rattle.plan.specs.Write.{Write, inodeKey, entryKey, textKey, other-section, other-index}
+use Rattle.plan.specs.Write.{Write, AllWrites, inodeKey, entryKey, textKey, other-section, other-index}
 use Rattle.journal.specs.Pick.{All, all-join}
 use Rattle.journal.specs.Store.{Distinct, Spares}
 use Rattle.journal.specs.Plan.{WellFormed}
@@ -22,10 +22,15 @@ use Rattle.crash.specs.Image.{Fits, first-ok, images}
 use Rattle.results.specs.declared.Move.{Move}
 use Rattle.results.specs.Results.{present, clearGroup, when, linksAfter, oldRow, movedRow, holderRow, replacedRow, textRow, intoRows, replacedRows, textRows, results}
 use Rattle.results.specs.Links.{links-le}
-use Rattle.results.specs.Owed.{old-writes, moved-writes, holder-writes, replaced-writes, text-writes, clear-writes}
+use Rattle.results.specs.Owed.{results-write, clear-writes}
 use Rattle.rename.specs.Plan.{entryGroup, journalFor, journalRow, entryRow}
 use Rattle.outcome.specs.Outcome.{renamePlan}
 use Rattle.outcome.specs.Called.{Called, before-good, in-image, replaced-not-moved, replaced-not-from, replaced-not-into, entry-names, journal-zeros}
+
+-- rows that an operation may write fit
+writes-fit : (h : Shape) (ws : List Write) → AllWrites h ws → All (Fits h) ws
+writes-fit h [] a = tt
+writes-fit h (w ∷ ws) a = (record { writes = a .0 }, writes-fit h ws (a .1))
 
 -- ---- what holds of each result
 
@@ -110,12 +115,7 @@ module _ {h : Shape} {s : List ℕ} {m : Move} {called : List ℕ} (c : Called h
   links-small i = omega (arith, links-le (viewOf h s) m i, c .read .laid .entries-most)
 
   pub results-fit : All (Fits h) (results h s m)
-  results-fit =
-      let laid = c .read .laid in
-      let range = in-image c in
-      results-all h s m (Fits h) (λ n. record { writes = replaced-writes h s m laid range n }) (λ n. record { writes = text-writes h s m laid range n })
-      (λ _. record { writes = holder-writes h s m laid range (m .into) (range .into) }) (record { writes = old-writes h s m laid range })
-      (record { writes = moved-writes h s m laid range }) (record { writes = holder-writes h s m laid range (m .from) (range .from) })
+  results-fit = writes-fit h (results h s m) (results-write h s m (c .read .laid) (in-image c))
 
   entry-fits : Fits h (entryRow h s m called)
   entry-fits = record {

@@ -1,6 +1,6 @@
 -- The job that recovers an image, as definitions: its number, its rows, and its plan and scratch buffers afterwards, for any bytes (rules 108, 109, 115 to 117).
 -- Assumes nothing.
-use mathlib.Core.Path.{_≡_, sym, ap, _∙_}
+use mathlib.Core.Path.{_≡_, ap, _∙_}
 use mathlib.Core.Logic.{_⊎_, ⊎-elim}
 use mathlib.Core.Bool.{Bool, true, false, _||_, cond, or-true}
 use mathlib.Core.List.{List, []}

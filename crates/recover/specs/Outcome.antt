@@ -8,7 +8,7 @@ use lib.ListN.{length, getD, length-map}
 use Rattle.seq.specs.Bytes.{put-length}
 use Rattle.layout.specs.declared.Shape.{Shape}
 use Rattle.layout.specs.Place.{Key, place, imageBytes}
-use Rattle.layout.specs.Contents.{Laid, Read, shapeOf, good-laid}
+use Rattle.layout.specs.Contents.{Laid, Read, good-laid}
 use Rattle.layout.specs.Record.{store}
 use Rattle.layout.specs.Commute.{store-shape, store-layout}
 use Rattle.plan.specs.Form.{Row, planRows, planBytes, rowsPut}

@@ -11,7 +11,7 @@ ghost use Rattle.layout.specs.View.{viewOf};
 ghost use Rattle.plan.specs.Form.{planBytes};
 ghost use Rattle.plan.specs.Write.{Filled};
 ghost use Rattle.results.specs.Results.{InImage};
-ghost use Rattle.recover.specs.Recover.{belowOrAbsent, inRange, different, renameFits, moveFrom, decided, intoGood, undoing, finishing, renameDraft};
+ghost use Rattle.recover.specs.Recover.{belowOrAbsent, inRange, different, renameFits, moveFrom, decided, intoGood, finishing, renameDraft};
 ghost use Rattle.recover.specs.Drafts.{Drafted};
 
 // The number that names no replaced inode and no text.

@@ -1,20 +1,19 @@
 -- The crash theorem for a rename, on bytes: its plan applied row by row, crashes anywhere, recovery's plans applied in turn. Assumes nothing.
-use mathlib.Core.Path.{_≡_, refl, sym, ap, _∙_, subst}
+use mathlib.Core.Path.{_≡_, refl, sym, ap, _∙_}
 use mathlib.Core.Logic.{_≢_, _⊎_, inl, inr}
-use mathlib.Core.Bool.{Bool, true, false, not, cond}
-use mathlib.Core.List.{List, [], _∷_}
-use mathlib.Core.Option.{Option, none, some}
+use mathlib.Core.Bool.{Bool, true, false, not}
+use mathlib.Core.List.{List}
+use mathlib.Core.Option.{some}
 use Prim.Native.Nat.{ℕ, _≤_, _<_}
 use native.Mathlib.Omega.{arith}
 use lib.Dec.{T, lit<}
-use lib.ListN.{length, length-append}
+use lib.ListN.{length}
 use Rattle.layout.specs.declared.Shape.{Shape}
 use Rattle.layout.specs.Fields.{entryParent, entryTarget, entryName}
 use Rattle.layout.specs.View.{viewOf, entryAt}
-use Rattle.consistency.specs.Others.{journalClear}
 use Rattle.consistency.specs.Consistent.{consistent}
 use Rattle.plan.specs.Form.{planRows, planBytes}
-use Rattle.plan.specs.Write.{Write, entryKey, other-section, storeAll}
+use Rattle.plan.specs.Write.{Write, entryKey, other-section}
 use Rattle.apply.specs.Apply.{applyNumber}
 use Rattle.journal.specs.Pick.{All}
 use Rattle.journal.specs.Change.{Change, plan, goal}
@@ -32,8 +31,6 @@ use Rattle.crash.specs.Owed.{decide-does}
 use Rattle.crash.specs.Safe.{planned-first, planned-owed, planned-safe, planned-zero, planned-recovers, planned-refuses, planned-decided, planned-undecided}
 use Rattle.edits.specs.Kinds.{EntryUsed}
 use Rattle.results.specs.declared.Move.{Move}
-use Rattle.results.specs.Results.{results, clearRow}
-use Rattle.results.specs.Rows.{results-le}
 use Rattle.rename.specs.Plan.{entryGroup, newEntry, planned as plannedBytes}
 use Rattle.recover.specs.Recover.{recover}
 use Rattle.recover.specs.Job.{Recovered, tooShort, recovered, recovered-short, recovered-done}
