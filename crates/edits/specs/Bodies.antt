@@ -13,7 +13,7 @@ use Rattle.seq.specs.Search.{any-not, any-false, any-hit, any-at}
 use Rattle.seq.specs.Climb.{up}
 use Rattle.layout.specs.declared.Shape.{Shape}
 use Rattle.layout.specs.View.{View, viewOf, isSymlink}
-use Rattle.tree.specs.Tree.{leads-root}
+use Rattle.tree.specs.Tree.{reaches-goal}
 use Rattle.tree.specs.Inode.{linkLimit, hasText, textShared}
 use Rattle.tree.specs.InodeFacts.{Leaf, File, Directory, Symlink, Inode}
 use Rattle.consistency.specs.Others.{textLinked}
@@ -119,8 +119,8 @@ module _ {h : Shape} {s : List ℕ} (f : Bodies h s) where
   leads i d = go (ℕ-discrete i 0)
     where
       go : Dec (i ≡ 0) → (k : ℕ) × (up (v .field) k i ≡ 0)
-      go (yes e) = leads-way v 0 i (leads-root v 0 i e)
-      go (no n) = leads-way v (v .inodes) i (directory i d .leads-up n)
+      go (yes e) = leads-way v 0 0 i (reaches-goal v 0 0 i e)
+      go (no n) = leads-way v 0 (v .inodes) i (directory i d .leads-up n)
 
   own : (i k : ℕ) → IsSymlink v i → IsSymlink v k → v .field i ≡ v .field k → i ≡ k
   unfolding textShared
@@ -188,7 +188,7 @@ module _ {h : Shape} {s : List ℕ} (form : Formed h s) (good : ConsistentView (
         counted = good .counted .children i d;
         own-parent = λ e. rw e (good .placed .top);
         one-entry = good .placed .one-entry i d;
-        leads-up = λ _. let (k, e) = good .leads i d in way-leads w (parent-directory w (good .placed)) i k d e;
+        leads-up = λ _. let (k, e) = good .leads i d in way-leads w (parent-directory w (good .placed)) 0 i k d e;
       }
 
   is-symlink : (i : ℕ) → IsSymlink w i → Symlink w i

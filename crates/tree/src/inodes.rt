@@ -49,7 +49,7 @@ fn directory_placed(s: &[u8], h: Shape, i: usize) -> bool
     if crate::entries_of(s, h, i) != 1 {
         return false;
     }
-    crate::leads_to_root(s, h, i)
+    crate::is_above(s, h, 0, i)
 }
 
 fn directory_good(s: &[u8], h: Shape, i: usize) -> bool

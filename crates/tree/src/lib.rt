@@ -4,7 +4,7 @@ ghost use mathlib.Core.Path.{_≡_};
 ghost use Prim.Native.Nat.{_≤_, _<_};
 ghost use Rattle.layout.specs.Contents.{Laid};
 ghost use Rattle.layout.specs.View.{viewOf};
-ghost use Rattle.tree.specs.Tree.{targets, entriesOf, holdsDirectory, childDirectories, leads, reaches};
+ghost use Rattle.tree.specs.Tree.{targets, entriesOf, holdsDirectory, childDirectories, reaches};
 
 pub mod inodes;
 
@@ -69,29 +69,8 @@ pub fn child_directories(s: &[u8], h: Shape, i: usize) -> usize
     found
 }
 
-// Whether the fields lead from inode i to the root. More steps than there are inodes would go round in a circle.
-pub fn leads_to_root(s: &[u8], h: Shape, i: usize) -> bool
-    requires { ⌜ Laid h (now s) × (i < h .inodes) ⌝ }
-    ensures { λ r. ⌜ r ≡ leads (viewOf h (now (s .entry))) (h .inodes) i ⌝ }
-{
-    let n = h.inodes;
-    let mut at = i;
-    let mut left = n;
-    while 0 < left {
-        if at == 0 {
-            return true;
-        }
-        let r = layout::records::inode(s, h, at);
-        at = layout::inode::field(r);
-        if n <= at {
-            return false;
-        }
-        left -= 1;
-    }
-    at == 0
-}
-
-// Whether inode i is the goal, or the goal is above it. The root is its own parent, so the search stays there until its steps are used up.
+// Whether inode i is the goal, or the goal is above it. More steps than there are inodes would go round in a circle, or stay at the root, which is its own
+// parent.
 pub fn is_above(s: &[u8], h: Shape, goal: usize, i: usize) -> bool
     requires { ⌜ Laid h (now s) × (i < h .inodes) ⌝ }
     ensures { λ r. ⌜ r ≡ reaches (viewOf h (now (s .entry))) goal (h .inodes) i ⌝ }

@@ -25,8 +25,8 @@ returns-2 : tie.Need-returns-2
 unfolding viewOf
 returns-2 c = simp (ne-eqb _ _ (c .before .before .if1 .left), ne-eqb _ _ (λ e. c .if2 .taken (c .before .entries-of .ensures ∙ e)))
 
-leads-to-root-requires : tie.Need-leads-to-root-requires
-leads-to-root-requires c κs = search needs
+is-above-requires : tie.Need-is-above-requires
+is-above-requires c κs = search needs
 
 returns-3 : tie.Need-returns-3
 unfolding viewOf
@@ -34,7 +34,7 @@ returns-3 c =
     simp (
       ne-eqb _ _ (c .before .before .before .if1 .left),
       eq-eqb _ _ (sym (c .before .before .entries-of .ensures) ∙ c .before .if2 .left),
-      c .leads-to-root .ensures,
+      c .is-above .ensures,
     )
 
 pub directory-placed-spec : {M : Type 1} → statement M
@@ -46,5 +46,5 @@ directory-placed-spec =
     returns
     entries-of-requires
     returns-2
-    leads-to-root-requires
+    is-above-requires
     returns-3)
