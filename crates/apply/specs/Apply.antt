@@ -1,4 +1,4 @@
--- The number that applying a row answers, and the image after it (rules 75 to 82). Assumes nothing.
+-- The number that applying a row answers, and the image after it (rules 94 to 101). Assumes nothing.
 use mathlib.Core.Path.{_≡_, refl}
 use mathlib.Core.Bool.{Bool, true, false, cond}
 use mathlib.Core.List.{List}
@@ -22,20 +22,20 @@ badLayout = 201
 abbrev pub badRow : ℕ
 badRow = 207
 
--- rule 78: the number where the plan is long enough and the layout good
+-- rule 97: the number where the plan is long enough and the layout good
 abbrev pub rowNumber : Shape → List ℕ → ℕ → ℕ
 rowNumber h plan i = cond (applicable h plan i) 0 badRow
 
--- rules 75 to 78: the first refusal that applies, in this order (applying is the papers' landing)
+-- rules 94 to 97: the first refusal that applies, in this order (applying is the papers' landing)
 unfoldable pub applyNumber : List ℕ → List ℕ → ℕ → ℕ
 applyNumber image plan i =
     cond (ltb (length plan) planBytes) shortPlan (cond (layoutGood image) (rowNumber (shapeOf image) plan i) badLayout)
 
--- rule 82: the row's body in its place; every other byte is as before
+-- rule 101: the row's body in its place; every other byte is as before
 abbrev pub applied : List ℕ → Row → List ℕ
 applied image r = put image (r .offset) (r .body)
 
--- rules 75 and 82: the whole image after the job, as it was where the job refuses
+-- rules 94 and 101: the whole image after the job, as it was where the job refuses
 unfoldable pub appliedImage : List ℕ → List ℕ → ℕ → List ℕ
 appliedImage image plan i = cond (eqb (applyNumber image plan i) 0) (applied image (rowAt plan i)) image
 

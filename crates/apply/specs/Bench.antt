@@ -1,4 +1,4 @@
--- The job on the smallest image, by computation: each refusal in its order, and a row that is applied (rules 75 to 82). Assumes nothing.
+-- The job on the smallest image, by computation: each refusal in its order, and a row that is applied (rules 94 to 101). Assumes nothing.
 use mathlib.Core.Path.{_≡_, refl}
 use mathlib.Core.Bool.{Bool, true, _&&_}
 use mathlib.Core.List.{List, [], _∷_, _++_}

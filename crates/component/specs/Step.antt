@@ -1,4 +1,4 @@
--- One component of a path: what is asked of it, in the order of the rules, and where it leads (rules 57 to 67). Assumes nothing.
+-- One component of a path: what is asked of it, in the order of the rules, and where it leads (rules 50 to 60). Assumes nothing.
 use mathlib.Core.Bool.{Bool, false, _&&_, _||_, not, cond}
 use mathlib.Core.List.{List, _++_}
 use Prim.Native.Nat.{ℕ, _+_, _*_, _/_}
@@ -12,11 +12,11 @@ use Rattle.paths.specs.Lookup.{lookup}
 use Rattle.component.specs.declared.state.Final.{Final}
 use Rattle.component.specs.declared.state.Final.the-variants.{MustExist, MayBeMissing}
 
--- rule 63: how many symlinks one path may lead through
+-- rule 56: how many symlinks one path may lead through
 abbrev pub linkLimit : ℕ
 linkLimit = 8
 
--- rules 54 and 64: how long a path may be, as supplied and with a symlink's text in it
+-- rules 47 and 57: how long a path may be, as supplied and with a symlink's text in it
 abbrev pub pathLimit : ℕ
 pathLimit = 255
 
@@ -24,12 +24,12 @@ pathLimit = 255
 abbrev pub pathComponents : ℕ
 pathComponents = (pathLimit + 1) / 2
 
--- rule 68: what a walk is bounded by: so many components in each of the paths that it may go through
+-- rule 61: what a walk is bounded by: so many components in each of the paths that it may go through
 abbrev pub stepLimit : ℕ
 stepLimit = pathComponents * (linkLimit + 1)
 
 -- Where a walk stands: the rest of the path that is still unread, the directory it is read from, the symlinks followed, the component
--- checks begun, and whether the next component's search permission is waived (rule 58).
+-- checks begun, and whether the next component's search permission is waived (rule 51).
 pub record Position : Type 0 where
   pub rest : List ℕ
   pub directory : ℕ
@@ -65,23 +65,23 @@ names w found = ends (record { number = 0; steps = w .steps + 1; found = found }
 abbrev pub move : Position → List ℕ → ℕ → Step
 move w rest d = goes (record { rest = rest; directory = d; links = w .links; steps = w .steps + 1; waived = false })
 
--- rule 62: a symlink's text and the unread rest take the path's place, read from the directory that holds the symlink, or from the root
+-- rule 55: a symlink's text and the unread rest take the path's place, read from the directory that holds the symlink, or from the root
 abbrev pub splice : Position → List ℕ → List ℕ → Step
 splice w text rest =
     goes (record { rest = text ++ rest; directory = cond (absolute text) 0 (w .directory); links = w .links + 1; steps = w .steps + 1; waived = false })
 
--- rules 63 and 64: one symlink too many, and then a joined path that is too long
+-- rules 56 and 57: one symlink too many, and then a joined path that is too long
 abbrev pub follow : Position → List ℕ → List ℕ → Step
 follow w text rest =
     cond (leb linkLimit (w .links)) (refuse 40 w)
     (cond (ltb pathLimit (length text + length rest)) (refuse 36 w) (splice w text rest))
 
--- rule 66: the final name is missing
+-- rule 59: the final name is missing
 abbrev pub lack : Final → Position → List ℕ → List ℕ → Step
 lack MustExist w name rest = refuse 2 w
 lack MayBeMissing w name rest = names w (missing (w .directory) name (not (empty rest)))
 
--- rule 61: a name that is missing ahead of others
+-- rule 54: a name that is missing ahead of others
 abbrev pub miss : Final → Position → List ℕ → List ℕ → Step
 miss last w name rest = cond (not (bare rest)) (refuse 2 w) (lack last w name rest)
 
@@ -90,7 +90,7 @@ module _ (v : View) where
   abbrev pub enter : Position → List ℕ → ℕ → Step
   enter w rest i = cond (isSymlink v i) (follow w (v .text (v .field i)) rest) (move w rest i)
 
-  -- rules 65 and 67: the final name exists; a slash behind it asks for a directory, and a symlink is not followed
+  -- rules 58 and 60: the final name exists; a slash behind it asks for a directory, and a symlink is not followed
   abbrev pub arrive : Position → List ℕ → ℕ → Step
   arrive w rest j =
       cond (not (empty rest) && not (isDirectory v (v .target j))) (refuse 20 w)
@@ -105,24 +105,24 @@ module _ (v : View) where
   seek last w name rest =
       cond (ltb (lookup v (w .directory) name) (v .entries)) (hit w rest (lookup v (w .directory) name)) (miss last w name rest)
 
-  -- rule 60: a final dot or dot-dot is refused; else the one stays and the other goes up
+  -- rule 53: a final dot or dot-dot is refused; else the one stays and the other goes up
   abbrev pub dots : Position → List ℕ → List ℕ → Step
   dots w name rest =
       cond (bare rest) (refuse 22 w) (move w rest (cond (isDot name) (w .directory) (v .field (w .directory))))
 
-  -- rule 59: a component that is longer than any name
+  -- rule 52: a component that is longer than any name
   abbrev pub read : Final → Position → List ℕ → List ℕ → Step
   read last w name rest =
       cond (ltb (v .room) (length name)) (refuse 36 w)
       (cond (isDot name || isDotDot name) (dots w name rest) (seek last w name rest))
 
 module _ (v : View) (who : Credentials) (last : Final) where
-  -- rule 58: search permission on the directory, asked of every component that it is not waived for
+  -- rule 51: search permission on the directory, asked of every component that it is not waived for
   abbrev pub inside : Position → Step
   inside w =
       cond (not (w .waived || allows v who (w .directory) searchBit)) (refuse 13 w)
       (read v last w (component (w .rest)) (behind (w .rest)))
 
-  -- rule 57: a component is read in a directory
+  -- rule 50: a component is read in a directory
   unfoldable pub step : Position → Step
   step w = cond (not (isDirectory v (w .directory))) (refuse 20 w) (inside w)

@@ -1,4 +1,4 @@
--- A consistent directory entry: rules 17 to 19, 28 to 32, 35 and 41. Assumes nothing.
+-- A consistent directory entry: rules 10, 16, 21 to 26, 29 and 35. Assumes nothing.
 use mathlib.Core.Path.{_≡_, refl}
 use mathlib.Core.Bool.{Bool, true, false, _&&_, not, cond}
 use mathlib.Core.List.{List}
@@ -14,15 +14,15 @@ use Rattle.layout.specs.Contents.{Laid}
 use Rattle.layout.specs.View.{View, viewOf, nameRoom, entryAt, isDirectory, isUsed}
 use Rattle.names.specs.Name.{nameGood, Named}
 
--- rule 17: a free entry is all zero
+-- rule 16: a free entry is all zero
 abbrev pub entryFree : Shape → List ℕ → ℕ → Bool
 entryFree h s j = zeros (entryAt h s j) 0 (h .width)
 
--- rule 18: a name fits its room
+-- rule 24: a name fits its room
 abbrev pub nameFits : Shape → List ℕ → ℕ → Bool
 nameFits h s j = leb (viewOf h s .nameLength j) (nameRoom h)
 
--- rule 19: the three bytes behind the length, and the rest of the room, are zero
+-- rule 10: the three bytes behind the length, and the rest of the room, are zero
 abbrev pub lengthPadded : Shape → List ℕ → ℕ → Bool
 lengthPadded h s j = zeros (entryAt h s j) 5 3
 
@@ -32,23 +32,23 @@ namePadded h s j = zeros (entryAt h s j) (8 + viewOf h s .nameLength j) (nameRoo
 unfoldable pub entryFormed : Shape → List ℕ → ℕ → Bool
 entryFormed h s j = nameFits h s j && lengthPadded h s j && namePadded h s j
 
--- rule 29: the parent is a directory
+-- rule 22: the parent is a directory
 abbrev pub parentGood : View → ℕ → Bool
 parentGood v j = isDirectory v (v .parent j)
 
--- rule 30: the target is an inode in use
+-- rule 23: the target is an inode in use
 abbrev pub targetGood : View → ℕ → Bool
 targetGood v j = isUsed v (v .target j)
 
--- rule 28: and it is not the root
+-- rule 21: and it is not the root
 abbrev pub belowRoot : View → ℕ → Bool
 belowRoot v j = not (eqb (v .target j) 0)
 
--- rule 35: a directory's field is the parent of its entry
+-- rule 29: a directory's field is the parent of its entry
 abbrev pub fieldIsParent : View → ℕ → ℕ → Bool
 fieldIsParent v target parent = eqb (v .field target) parent
 
--- rule 41: anything else is on its directory's file system
+-- rule 35: anything else is on its directory's file system
 abbrev pub sameSystem : View → ℕ → ℕ → Bool
 sameSystem v target parent = eqb (v .system target) (v .system parent)
 

@@ -11,7 +11,7 @@ use Rattle.seq.specs.Truth.{to-T, of-T, and-left, and-right, and-both}
 use Rattle.plan.specs.Form.{planBytes}
 
 pub record Buffers : Type 0 where
-  -- takes the plan; what lies past the plan stays (rule 69)
+  -- takes the plan; what lies past the plan stays (rule 79)
   pub plan : List ℕ
   -- takes the image as it will be
   pub scratch : List ℕ

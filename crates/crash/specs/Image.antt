@@ -87,7 +87,7 @@ first-ok h s₀ r = record { read = r; contents = refl }
 pub record Fits (h : Shape) (w : Write) : Type 0 where
   pub writes : Writes h (w .group) (w .key) (w .body)
 
--- rules 79 and 81: an image of shape h can take the row, by the test that apply makes
+-- rules 98 and 100: an image of shape h can take the row, by the test that apply makes
 unfoldable pub accepted : Shape → Write → Bool
 accepted h w = rowFits h (rowFrom h w)
 

@@ -26,7 +26,7 @@ abbrev pub jobsFrom : List ℕ → ℕ → ℕ → List Job
 jobsFrom plan i zero = []
 jobsFrom plan i (suc n) = record { plan = plan; number = i } ∷ jobsFrom plan (i + 1) n
 
--- all rows of a plan, as many as its bytes say (rule 73)
+-- all rows of a plan, as many as its bytes say (rule 83)
 abbrev pub jobsIn : List ℕ → List Job
 jobsIn plan = jobsFrom plan 0 (rowCount plan)
 

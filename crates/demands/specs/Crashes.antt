@@ -1,4 +1,4 @@
--- What can befall a rename once it is planned, in the definitions that the jobs' contracts cite (the papers' cuts; rules 118 to 122). A reader has to believe this
+-- What can befall a rename once it is planned, in the definitions that the jobs' contracts cite (the papers' cuts; rules 112 to 116). A reader has to believe this
 -- file. Assumes nothing.
 use mathlib.Core.Bool.{Bool, true, false, _||_}
 use mathlib.Core.List.{List, [], _∷_}
@@ -15,11 +15,11 @@ use Rattle.recover.specs.Job.{recovered}
 
 -- What can happen.
 pub data Event : Type 0 where
-  -- rule 119: the job land is given the waiting row at a place, counted from 0; out of turn, or past the end, it is not
+  -- rule 113: the job land is given the waiting row at a place, counted from 0; out of turn, or past the end, it is not
   apply : ℕ → Event
-  -- rule 120: the job land is given any plan and any number, and refuses; what it would take is no event, since nobody else writes the image
+  -- rule 114: the job land is given any plan and any number, and refuses; what it would take is no event, since nobody else writes the image
   refused : List ℕ → ℕ → Event
-  -- rule 121: power fails (the papers' cut), and the job repair is given the image as it stands, a plan buffer and a scratch buffer
+  -- rule 115: power fails (the papers' cut), and the job repair is given the image as it stands, a plan buffer and a scratch buffer
   crash : List ℕ → List ℕ → Event
 
 -- Whose rows wait.
@@ -55,7 +55,7 @@ ended rename done waiting = done
 ended recovery done waiting = done || null waiting
 ended nobody done waiting = done
 
--- rule 119: the row r is applied, if its turn has come, and the rest waits
+-- rule 113: the row r is applied, if its turn has come, and the rest waits
 abbrev pub taken : Bool → State → Job → List Job → State
 taken true x r rest = record {
   image = appliedImage (x .image) (r .plan) (r .number);
@@ -71,12 +71,12 @@ abbrev pub atPlace : (x : State) → Option (Picked (x .waiting)) → State
 atPlace x none = x
 atPlace x (some p) = taken (lowest groupOf (groupOf (p .0)) (p .1)) x (p .0) (p .1)
 
--- rule 120: where land would take the row there is no event
+-- rule 114: where land would take the row there is no event
 abbrev pub tried : Bool → State → List ℕ → ℕ → State
 tried true x plan n = x
 tried false x plan n = record { image = appliedImage (x .image) plan n; waiting = x .waiting; whose = x .whose; applied = x .applied; done = x .done }
 
--- rule 121: what waited is lost; at 0 the rows of recovery's plan wait, and else nothing
+-- rule 115: what waited is lost; at 0 the rows of recovery's plan wait, and else nothing
 abbrev pub answered : State → ℕ → List ℕ → State
 answered x zero plan =
     record { image = x .image; waiting = jobsIn plan; whose = recovery; applied = x .applied; done = x .done || null (jobsIn plan) }
@@ -93,11 +93,11 @@ abbrev pub run : State → List Event → State
 run x [] = x
 run x (e ∷ es) = run (step x e) es
 
--- rule 118: at first the rows of the rename's plan wait, on the image that it was planned on
+-- rule 112: at first the rows of the rename's plan wait, on the image that it was planned on
 abbrev pub first : List ℕ → List ℕ → State
 first s plan = record { image = s; waiting = jobsIn plan; whose = rename; applied = []; done = false }
 
--- rule 122: the new entry has been applied if the rename's row of group 2 has
+-- rule 116: the new entry has been applied if the rename's row of group 2 has
 abbrev pub entryGroup : ℕ
 entryGroup = 2
 

@@ -1,4 +1,4 @@
--- Demand 1: every job, given any bytes, answers with a number of the table, and with one that the table has for it (rules 47, 75 to 82). Assumes nothing.
+-- Demand 1: every job, given any bytes, answers with a number of the table, and with one that the table has for it (rules 62 and 94 to 101). Assumes nothing.
 use mathlib.Core.Path.{_≡_, refl}
 use mathlib.Core.Bool.{Bool, true, false, _||_, cond}
 use mathlib.Core.List.{List, [], _∷_, _++_}

@@ -67,15 +67,15 @@ module _ {v w : View} {slots : List ℕ} {Gone Made Reparented : ℕ → Type 0}
           (same-is _ (l .target) target-kept)
           (λ d. c .field _ (d .0) target-kept (not-made _ (l .target .1)) (λ r. c .reparented _ r j off used refl))
 
-    -- rules 28 to 30, 35 and 41: every entry is good if those that were written are
+    -- rules 21 to 23, 29 and 35: every entry is good if those that were written are
     pub entry-changed : ((j : ℕ) → On j slots → EntryUsed w j → EntryLinked w j) → (j : ℕ) → EntryUsed w j → EntryLinked w j
     entry-changed written j u = ⊎-elim (λ on. written j on u) (λ off. entry-kept j off (entry-was (c .edit) j off u)) (on-or-off j slots)
 
-    -- rule 37: the child directories of directory d
+    -- rule 31: the child directories of directory d
     pub children-changed : (d : ℕ) → childDirectories w d + bits (holdsDirectory v d) slots ≡ childDirectories v d + bits (holdsDirectory w d) slots
     children-changed = children-edited (c .edit) (λ j off u. same-is _ (good .placed .entry j u .target) (target-kept j off u) .kind)
 
-    -- rule 36: the old way up from a new parent meets no directory that got another parent
+    -- rule 30: the old way up from a new parent meets no directory that got another parent
     pub leads-changed : Placed w
         → ((i : ℕ) → IsDirectory w i → Made i ⊎ Reparented i → IsDirectory v (w .field i) × ((k : ℕ) → Reparented (up (v .field) k (w .field i)) → ⊥))
         → (i : ℕ) → IsDirectory w i → (k : ℕ) × (up (w .field) k i ≡ 0)
@@ -89,7 +89,7 @@ module _ {v w : View} {slots : List ℕ} {Gone Made Reparented : ℕ → Type 0}
         way-directory : (k i : ℕ) → IsDirectory v i → IsDirectory v (up (v .field) k i)
         way-directory = up-in (IsDirectory v) (v .inodes) (λ _ x. x .0) (v .field) (parent-directory v (good .placed))
 
-    -- rule 46: an open handle was open, on an inode that was not freed
+    -- rule 40: an open handle was open, on an inode that was not freed
     pub handles-changed : ((n : ℕ) → HandleOpen w n → HandleOpen v n × (w .opened n ≡ v .opened n) × (Gone (v .opened n) → ⊥))
         → (n : ℕ) → HandleOpen w n → IsUsed w (w .opened n)
     handles-changed kept n o =

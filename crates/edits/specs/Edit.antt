@@ -60,7 +60,7 @@ module _ {v w : View} {slots : List ℕ} (edit : Edit v w slots) where
   pub entry-is : (j : ℕ) → Off j slots → EntryUsed v j → EntryUsed w j
   entry-is j off (l, u) = (omega (arith, edit .size), λ z. u (sym (edit .entry j l off .nameLength) ∙ z))
 
-  -- rules 28 to 30, 35 and 41 for an entry that stayed, where its parent and its target stay too
+  -- rules 21 to 23, 29 and 35 for an entry that stayed, where its parent and its target stay too
   pub linked-kept : (j : ℕ) → j < v .entries → Off j slots → EntryLinked v j → SameInode v w (v .parent j) → SameInode v w (v .target j)
       → (IsDirectory v (v .target j) → w .field (v .target j) ≡ v .field (v .target j)) → EntryLinked w j
   linked-kept j b off l p t field =
@@ -87,7 +87,7 @@ module _ {v w : View} {slots : List ℕ} (edit : Edit v w slots) where
     system = λ m. rw (et, ep) (st .system ∙ system (λ h. m (rw et (kept target 2 (st .kind) h))) ∙ sym (sd .system));
   }
 
-  -- rule 33: names stay distinct if no name in a written slot is that of another entry
+  -- rule 27: names stay distinct if no name in a written slot is that of another entry
   pub distinct-edited : ((i j : ℕ) → EntryUsed v i → EntryUsed v j → v .parent i ≡ v .parent j → v .name i ≡ v .name j → i ≡ j)
       → ((c j : ℕ) → On c slots → EntryUsed w c → EntryUsed w j → c ≢ j → w .parent c ≡ w .parent j → w .name c ≡ w .name j → ⊥)
       → (i j : ℕ) → EntryUsed w i → EntryUsed w j → w .parent i ≡ w .parent j → w .name i ≡ w .name j → i ≡ j
@@ -102,7 +102,7 @@ module _ {v w : View} {slots : List ℕ} (edit : Edit v w slots) where
           let t = stayed j oj (uj .0) in
           before i j (entry-was i oi ui) (entry-was j oj uj) (sym (s .parent) ∙ ep ∙ t .parent) (sym (s .name) ∙ en ∙ t .name)
 
-  -- rules 34 and 38: the entries of inode i
+  -- rules 28 and 32: the entries of inode i
   pub entries-edited : (i : ℕ) → entriesOf w i + bits (targets v i) slots ≡ entriesOf v i + bits (targets w i) slots
   unfolding entriesOf
   entries-edited i = rw (edit .size .entries) (count-edited (targets v i) (targets w i) (v .entries) slots (edit .places) same)
@@ -110,7 +110,7 @@ module _ {v w : View} {slots : List ℕ} (edit : Edit v w slots) where
       same : (j : ℕ) → j < v .entries → Off j slots → targets w i j ≡ targets v i j
       same j l off = let s = edit .entry j l off in rw (s .nameLength, s .target)
 
-  -- rule 37: the child directories of directory d, where the target of every other entry keeps its type
+  -- rule 31: the child directories of directory d, where the target of every other entry keeps its type
   module _ (types : (j : ℕ) → Off j slots → EntryUsed v j → w .kind (v .target j) ≡ v .kind (v .target j)) where
     pub children-edited : (d : ℕ) → childDirectories w d + bits (holdsDirectory v d) slots ≡ childDirectories v d + bits (holdsDirectory w d) slots
     unfolding childDirectories

@@ -12,35 +12,35 @@ use Rattle.consistency.specs.Others.{textRoom}
 
 -- an entry in use
 pub record EntryForm (h : Shape) (s : List ℕ) (j : ℕ) : Type 0 where
-  -- rule 18
+  -- rule 24
   pub short : viewOf h s .nameLength j ≤ nameRoom h
-  -- rule 19
+  -- rule 10
   pub padded : zeros (entryAt h s j) 5 3 ≡ true
   pub filled : zeros (entryAt h s j) (8 + viewOf h s .nameLength j) (nameRoom h - viewOf h s .nameLength j) ≡ true
-  -- rules 31 and 32
+  -- rules 25 and 26
   pub name : nameGood (viewOf h s .name j) ≡ true
 
 pub record TextForm (h : Shape) (s : List ℕ) (t : ℕ) : Type 0 where
-  -- rule 20
+  -- rule 11
   pub short : viewOf h s .textLength t ≤ textRoom
-  -- rule 21
+  -- rules 12 and 17
   pub filled : zeros (textAt h s t) (1 + viewOf h s .textLength t) (textRoom - viewOf h s .textLength t) ≡ true
-  -- rule 44
+  -- rule 38
   pub bytes : noZero (viewOf h s .text t) ≡ true
 
 pub record HandleForm (h : Shape) (s : List ℕ) (n : ℕ) : Type 0 where
-  -- rule 22
+  -- rule 7
   pub state : viewOf h s .state n ≤ 2
-  -- rule 23
+  -- rule 13
   pub second : viewOf h s .state n ≢ 0 → zeros (handleAt h s n) 1 1 ≡ true
   pub rest : viewOf h s .state n ≢ 0 → zeros (handleAt h s n) 4 4 ≡ true
-  -- rule 24
+  -- rule 18
   pub closed : viewOf h s .state n ≡ 0 → zeros (handleAt h s n) 0 8 ≡ true
 
 pub record Formed (h : Shape) (s : List ℕ) : Type 0 where
-  -- rule 14
+  -- rule 15
   pub free-inode : (i : ℕ) → i < h .inodes → viewOf h s .kind i ≡ 0 → zeros (inodeAt h s i) 0 32 ≡ true
-  -- rule 17
+  -- rule 16
   pub free-entry : (j : ℕ) → j < h .entries → viewOf h s .nameLength j ≡ 0 → zeros (entryAt h s j) 0 (h .width) ≡ true
   pub entry : (j : ℕ) → j < h .entries → viewOf h s .nameLength j ≢ 0 → EntryForm h s j
   pub text : (t : ℕ) → t < h .texts → TextForm h s t

@@ -35,25 +35,25 @@ LeafCount v w slots i =
 
 -- What a call owes beside the change itself.
 pub record Settled (v w : View) (slots : List ℕ) (Gone Made Reparented : ℕ → Type 0) : Type 0 where
-  -- rules 28 to 30, 35 and 41: the entries written
+  -- rules 21 to 23, 29 and 35: the entries written
   pub written : (j : ℕ) → On j slots → EntryUsed w j → EntryLinked w j
-  -- rule 33: their names
+  -- rule 27: their names
   pub named : (c j : ℕ) → On c slots → EntryUsed w c → EntryUsed w j → c ≢ j → w .parent c ≡ w .parent j → w .name c ≡ w .name j → ⊥
-  -- rule 34
+  -- rule 28
   pub one-entry : (i : ℕ) → IsDirectory w i → i ≢ 0 → (entriesOf w i ≡ 1) ⊎ (IsDirectory v i × SameEntries v w slots i)
-  -- rule 36: the old way up from a new parent meets no directory that got another parent
+  -- rule 30: the old way up from a new parent meets no directory that got another parent
   pub clear : (i : ℕ) → IsDirectory w i → Made i ⊎ Reparented i → IsDirectory v (w .field i) × ((k : ℕ) → Reparented (up (v .field) k (w .field i)) → ⊥)
-  -- rules 37 and 40
+  -- rules 31 and 34
   pub directory-count : (d : ℕ) → IsDirectory w d → DirectoryCount v w slots d
-  -- rules 38 to 40
+  -- rules 32 to 34
   pub leaf-count : (i : ℕ) → IsLeaf w i → LeafCount v w slots i
-  -- rules 13, 15 and 26: the inodes made
+  -- rules 6, 8 and 19: the inodes made
   pub made-kind : (i : ℕ) → Made i → w .kind i ≤ 3
   pub made-plain : (i : ℕ) → Made i → w .kind i ≡ 1 → w .field i ≡ 0
   pub made-mode : (i : ℕ) → Made i → w .mode i < 4096
-  -- rules 42, 43 and 45
+  -- rules 36, 37 and 39
   pub texts : TextChange v w Gone Made
-  -- rule 46
+  -- rule 40
   pub handles : (n : ℕ) → HandleOpen w n → HandleOpen v n × (w .opened n ≡ v .opened n) × (Gone (v .opened n) → ⊥)
 
 module _ {v w : View} {slots : List ℕ} {Gone Made Reparented : ℕ → Type 0} (c : Change v w slots Gone Made Reparented) (good : ConsistentView v)

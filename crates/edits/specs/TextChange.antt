@@ -59,7 +59,7 @@ module _ {v w : View} (Gone : ℕ → Type 0) (replaced : ℕ) (single : (i : �
       after t u (yes f) = absurd (u .1 (ap (w .textLength) (sym (f .3)) ∙ freed (f .0) (f .1) (f .2)))
       after t u (no n) = let l : t < v .texts = omega (arith, size, u .0) in (l, λ z. u .1 (same-length t l n ∙ z))
 
--- Rules 42, 43 and 45 after a change.
+-- Rules 36, 37 and 39 after a change.
 module _ {v w : View} {slots : List ℕ} {Gone Made Reparented : ℕ → Type 0} (c : Change v w slots Gone Made Reparented) (good : ConsistentView v)
     (texts : TextChange v w Gone Made) where
   symlink-was : (i : ℕ) → IsSymlink w i → (Made i → ⊥) → IsSymlink v i

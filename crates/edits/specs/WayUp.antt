@@ -1,4 +1,4 @@
--- The way up from a directory, by the fields of inodes: the tests for it, and what they say as a number of steps (rule 36). Assumes nothing.
+-- The way up from a directory, by the fields of inodes: the tests for it, and what they say as a number of steps (rule 30). Assumes nothing.
 use mathlib.Core.Path.{_≡_}
 use mathlib.Core.Logic.{_≢_}
 use mathlib.Core.Bool.{true, false, or-true}

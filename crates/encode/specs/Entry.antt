@@ -1,4 +1,4 @@
--- A directory entry's bytes, made or with another target, and its fields read back from them, over any width (rule 9). Assumes nothing.
+-- A directory entry's bytes, made or with another target, and its fields read back from them, over any width (form E). Assumes nothing.
 use mathlib.Core.Path.{_≡_, refl, sym, ap, _∙_}
 use mathlib.Core.Logic.{inl, inr}
 use mathlib.Core.Bool.{true}
@@ -14,15 +14,15 @@ use Rattle.seq.specs.Bytes.{part, put, zeros, part-length, put-length, put-afte
 use Rattle.seq.specs.Number.{numberAt, bytesOf, bytesOf-length, number-put, number-put-other}
 use Rattle.layout.specs.Fields.{entryParent, entryTarget, entryNameLength, entryName}
 
--- rule 9: the eight bytes in front of a name
+-- form E: the eight bytes in front of a name
 abbrev pub entryHead : ℕ → ℕ → ℕ → List ℕ
 entryHead parent target n = bytesOf 2 parent ++ bytesOf 2 target ++ n ∷ 0 ∷ 0 ∷ 0 ∷ []
 
--- rule 9: an entry in a record of this width, with zeros behind the name
+-- form E: an entry in a record of this width, with zeros behind the name
 unfoldable pub entryBytes : ℕ → ℕ → ℕ → List ℕ → List ℕ
 entryBytes width parent target name = entryHead parent target (length name) ++ name ++ replicate (width - 8 - length name) 0
 
--- rule 9: an entry with another target
+-- form E: an entry with another target
 abbrev pub retargeted : ℕ → List ℕ → List ℕ
 retargeted target r = put r 2 (bytesOf 2 target)
 

@@ -1,4 +1,4 @@
--- An inode's bytes with one field replaced, and every field read back from them (rule 8). Assumes nothing.
+-- An inode's bytes with one field replaced, and every field read back from them (form D). Assumes nothing.
 use mathlib.Core.Path.{_≡_, refl, _∙_}
 use mathlib.Core.Logic.{_⊎_, inl, inr}
 use mathlib.Core.List.{List}
@@ -9,7 +9,7 @@ use Rattle.seq.specs.Bytes.{part, put, put-length, put-before, put-part-other}
 use Rattle.seq.specs.Number.{numberAt, span, bytesOf, bytesOf-length, number-put, number-put-other}
 use Rattle.layout.specs.Fields.{inodeKind, inodeSystem, inodeMode, inodeOwner, inodeGroup, inodeLinks, inodeField, inodeModified, inodeChanged}
 
--- rule 8: an inode with another link count, field, time of modification, time of change
+-- form D: an inode with another link count, field, time of modification, time of change
 abbrev pub withLinks : ℕ → List ℕ → List ℕ
 withLinks n r = put r 12 (bytesOf 2 n)
 

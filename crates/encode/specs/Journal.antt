@@ -1,4 +1,4 @@
--- The journal record as one value: its bytes, what is read from bytes, and that the two agree (rule 12). Assumes nothing.
+-- The journal record as one value: its bytes, what is read from bytes, and that the two agree (form H). Assumes nothing.
 use mathlib.Core.Path.{_≡_, refl}
 use mathlib.Core.Bool.{Bool, true, _&&_}
 use mathlib.Core.List.{List, _∷_, _++_, []}
@@ -12,11 +12,11 @@ use Rattle.seq.specs.Number.{numberAt, span, bytesOf, number-bytes}
 use Rattle.layout.specs.Fields.{journalMark, journalOldSlot, journalNewSlot, journalMoved, journalReplaced, journalOldParent, journalText, journalTime}
 use Rattle.encode.specs.declared.journal.Journal.{Journal}
 
--- rule 12: the number that names no replaced inode and no text
+-- form H: the number that names no replaced inode and no text
 abbrev pub absent : ℕ
 absent = 65535
 
--- rule 12: what a journal record says; its second byte is the operation's kind, 0 for a rename
+-- form H: what a journal record says; its second byte is the operation's kind, 0 for a rename
 unfoldable pub journalOf : List ℕ → Journal
 journalOf r = record {
   kind = getD r 1 0;
@@ -29,11 +29,11 @@ journalOf r = record {
   time = journalTime r;
 }
 
--- rule 12: marked as pending, with zeros behind the numbers and behind the time
+-- form H: marked as pending, with zeros behind the numbers and behind the time
 unfoldable pub journalFormed : List ℕ → Bool
 journalFormed r = eqb (journalMark r) 1 && zeros r 14 2 && zeros r 24 8
 
--- rule 12: the sixteen bytes in front of the time, and the whole record
+-- form H: the sixteen bytes in front of the time, and the whole record
 unfoldable pub journalHead : Journal → List ℕ
 journalHead j =
     1 ∷ j .kind ∷ bytesOf 2 (j .old) ++ bytesOf 2 (j .new) ++ bytesOf 2 (j .moved) ++ bytesOf 2 (j .replaced) ++ bytesOf 2 (j .parent)

@@ -1,4 +1,4 @@
--- Looking a name up in a directory (rule 52). Assumes nothing.
+-- Looking a name up in a directory (rule 45). Assumes nothing.
 use mathlib.Core.Path.{_≡_}
 use mathlib.Core.Bool.{Bool, true, false, _&&_}
 use mathlib.Core.List.{List}
@@ -15,7 +15,7 @@ use Rattle.layout.specs.View.{View, entryUsed}
 unfoldable pub isNamed : View → ℕ → List ℕ → ℕ → Bool
 isNamed v d name j = entryUsed v j && eqb (v .parent j) d && sameBytes (v .name j) name
 
--- rule 52: the slot of a name in a directory, or the number of slots where there is none
+-- rule 45: the slot of a name in a directory, or the number of slots where there is none
 unfoldable pub lookup : View → ℕ → List ℕ → ℕ
 lookup v d name = first (isNamed v d name) (v .entries)
 

@@ -1,4 +1,4 @@
--- A path and its components (rule 51). Assumes nothing.
+-- A path and its components (rule 44). Assumes nothing.
 use mathlib.Core.Bool.{Bool, not}
 use mathlib.Core.List.{List, [], _∷_}
 use Prim.Native.Nat.{ℕ}
@@ -22,7 +22,7 @@ nameBytes p = first (λ k. isSlash (getD p k 0)) (length p)
 abbrev pub skip : List ℕ → List ℕ
 skip p = drop (slashes p) p
 
--- rule 51: the first component, and what stands behind it, its slashes first
+-- rule 44: the first component, and what stands behind it, its slashes first
 abbrev pub component : List ℕ → List ℕ
 component p = take (nameBytes (skip p)) (skip p)
 

@@ -1,4 +1,4 @@
--- Permission: the class that a caller falls in, and its bits (rule 50). Assumes nothing.
+-- Permission: the class that a caller falls in, and its bits (rule 43). Assumes nothing.
 use mathlib.Core.Bool.{Bool, _||_, cond}
 use Prim.Native.Nat.{ℕ, _*_, _/_, _%_}
 use lib.Dec.{eqb}
@@ -20,6 +20,6 @@ inGroup who g = eqb (who .group) g
 abbrev pub weight : View → Credentials → ℕ → ℕ → ℕ
 weight v who i bit = cond (eqb (who .user) (v .owner i)) (64 * bit) (cond (inGroup who (v .group i)) (8 * bit) bit)
 
--- rule 50: user 0 passes; anyone else needs the bit in the class that applies
+-- rule 43: user 0 passes; anyone else needs the bit in the class that applies
 unfoldable pub allows : View → Credentials → ℕ → ℕ → Bool
 allows v who i bit = eqb (who .user) 0 || eqb (v .mode i / weight v who i bit % 2) 1

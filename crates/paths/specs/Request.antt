@@ -1,4 +1,4 @@
--- A request and its own check (rules 48 and 49). Assumes nothing.
+-- A request and its own check (rules 41 and 42). Assumes nothing.
 use mathlib.Core.Path.{_≡_}
 use mathlib.Core.Bool.{Bool, true, _&&_}
 use mathlib.Core.List.{List}
@@ -8,7 +8,7 @@ use Rattle.seq.specs.Bytes.{noZero}
 use Rattle.layout.specs.View.{View, isDirectory}
 use Rattle.paths.specs.declared.request.Request.{Request}
 
--- rule 49: the current directory is a directory, and no path holds a zero byte
+-- rule 42: the current directory is a directory, and no path holds a zero byte
 unfoldable pub requestGood : View → Request → List ℕ → List ℕ → Bool
 requestGood v q old new = isDirectory v (q .current) && noZero old && noZero new
 

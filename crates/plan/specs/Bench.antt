@@ -1,4 +1,4 @@
--- What a row may cover on the bench tree, by computation: its third plan's records, and ranges that are no such record (rule 81). Assumes nothing.
+-- What a row may cover on the bench tree, by computation: its third plan's records, and ranges that are no such record (rule 100). Assumes nothing.
 use mathlib.Core.Path.{_≡_, refl}
 use mathlib.Core.Bool.{Bool, true, _&&_, not}
 use Rattle.seq.specs.Search.{any}

@@ -1,4 +1,4 @@
--- A plan made apart and then copied over a buffer: it is the plan made in that buffer (rules 69 and 72). Assumes nothing.
+-- A plan made apart and then copied over a buffer: it is the plan made in that buffer (rules 79 and 82). Assumes nothing.
 use mathlib.Core.Path.{_≡_, refl, ap, _∙_}
 use mathlib.Core.List.{List, [], _∷_}
 use Prim.Native.Nat.{ℕ, _+_, _≤_, _<_}

@@ -1,4 +1,4 @@
--- Which rows an image can take: their ordering group, and the record that each replaces (rules 74, 78 to 81). Assumes nothing.
+-- Which rows an image can take: their ordering group, and the record that each replaces (rules 84 and 97 to 100). Assumes nothing.
 use mathlib.Core.Path.{_≡_, refl, _∙_}
 use mathlib.Core.Bool.{Bool, true, false, _&&_}
 use mathlib.Core.List.{List}
@@ -15,14 +15,14 @@ use Rattle.layout.specs.Place.{Key, Valid, recordBytes, records, place, imageBy
 use Rattle.plan.specs.Form.{Row, planRows, bodyBytes, planBytes, bodyAt, rowOf, rowGroup, rowBlank, rowLength, rowOffset, rowPosition, rowAt, rowPut}
 use Rattle.plan.specs.Rows.{Formed, Stands, row-stands}
 
--- rule 79: the ordering groups, counted from 1
+-- rule 98: the ordering groups, counted from 1
 abbrev pub lastGroup : ℕ
 lastGroup = 4
 
 abbrev pub groupGood : ℕ → Bool
 groupGood g = leb 1 g && leb g lastGroup
 
--- rule 81: the sections whose records a row may replace; an open handle is not among them
+-- rule 100: the sections whose records a row may replace; an open handle is not among them
 abbrev pub coverable : ℕ → Bool
 coverable zero = true
 coverable (suc zero) = true
@@ -38,15 +38,15 @@ coversRecord h at n k i = eqb at (place h k i) && eqb n (recordBytes h k)
 unfoldable pub coversSection : Shape → ℕ → ℕ → ℕ → Bool
 coversSection h at n k = coverable k && any (coversRecord h at n k) (records h k)
 
--- rule 81: they are exactly one record that a row may replace
+-- rule 100: they are exactly one record that a row may replace
 unfoldable pub covers : Shape → ℕ → ℕ → Bool
 covers h at n = any (coversSection h at n) 5
 
--- rules 79 and 81: an image of shape h can take row r
+-- rules 98 and 100: an image of shape h can take row r
 unfoldable pub rowFits : Shape → Row → Bool
 rowFits h r = groupGood (r .group) && covers h (r .offset) (r .bytes)
 
--- rules 78 to 81: the number is a row's, its header is in order, and the image can take it
+-- rules 97 to 100: the number is a row's, its header is in order, and the image can take it
 unfoldable pub applicable : Shape → List ℕ → ℕ → Bool
 applicable h plan i = ltb i planRows && eqb (rowBlank plan i) 0 && eqb (rowPosition plan i) (bodyAt i) && rowFits h (rowAt plan i)
 
@@ -132,7 +132,7 @@ applicable-fits h s plan i laid g =
 abbrev pub rowFor : Shape → ℕ → Key → List ℕ → Row
 rowFor h group k body = rowOf group (place h (k .section) (k .index)) body
 
--- What an operation owes for each of its rows (rule 74).
+-- What an operation owes for each of its rows (rule 84).
 pub record Writes (h : Shape) (group : ℕ) (k : Key) (body : List ℕ) : Type 0 where
   pub first : 1 ≤ group
   pub last : group ≤ lastGroup

@@ -1,4 +1,4 @@
--- The form of a plan (rules 69 to 73): nine rows, each a header and a body, in 648 bytes. Assumes nothing.
+-- The form of a plan (rules 79 to 83): nine rows, each a header and a body, in 648 bytes. Assumes nothing.
 use mathlib.Core.Bool.{Bool}
 use mathlib.Core.List.{List, [], _∷_, _++_}
 use Prim.Native.Nat.{ℕ, _+_, _*_}
@@ -7,7 +7,7 @@ use Rattle.seq.specs.Search.{first}
 use Rattle.seq.specs.Bytes.{part, put, zeros}
 use Rattle.seq.specs.Number.{numberAt, bytesOf}
 
--- rule 69: how many rows, and the bytes of a header and of a body
+-- rule 79: how many rows, and the bytes of a header and of a body
 abbrev pub planRows : ℕ
 planRows = 9
 
@@ -24,7 +24,7 @@ bodiesAt = headerBytes * planRows
 abbrev pub planBytes : ℕ
 planBytes = bodiesAt + bodyBytes * planRows
 
--- rule 70: where row i's header and body begin
+-- rule 80: where row i's header and body begin
 abbrev pub headerAt : ℕ → ℕ
 headerAt i = headerBytes * i
 
@@ -42,7 +42,7 @@ pub record Row : Type 0 where
 abbrev pub rowOf : ℕ → ℕ → List ℕ → Row
 rowOf group offset body = record { group = group; offset = offset; bytes = length body; body = body }
 
--- rule 71: the fields of header i
+-- rule 81: the fields of header i
 abbrev pub rowGroup : List ℕ → ℕ → ℕ
 rowGroup plan i = getD plan (headerAt i) 0
 
@@ -76,11 +76,11 @@ unfoldable pub rowsPut : List ℕ → ℕ → List Row → List ℕ
 rowsPut plan i [] = plan
 rowsPut plan i (r ∷ rs) = rowsPut (rowPut plan i r) (i + 1) rs
 
--- rule 72: a plan of no rows; bytes past the plan stay
+-- rule 82: a plan of no rows; bytes past the plan stay
 unfoldable pub cleared : List ℕ → List ℕ
 cleared plan = put plan 0 (replicate planBytes 0)
 
--- rule 73: a header of zeros is no row, and the rows end at the first such
+-- rule 83: a header of zeros is no row, and the rows end at the first such
 unfoldable pub noRow : List ℕ → ℕ → Bool
 noRow plan i = zeros plan (headerAt i) headerBytes
 

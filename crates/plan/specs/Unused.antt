@@ -1,4 +1,4 @@
--- The bytes of a plan that no row uses: rows leave them as they were, so in a plan that was cleared first they are zero (rule 72). Assumes nothing.
+-- The bytes of a plan that no row uses: rows leave them as they were, so in a plan that was cleared first they are zero (rule 82). Assumes nothing.
 use mathlib.Core.Path.{_≡_, refl, sym, _∙_}
 use mathlib.Core.Bool.{Bool, true, false, _&&_, _||_, false≢true}
 use mathlib.Core.List.{List, [], _∷_}
@@ -16,7 +16,7 @@ use Rattle.plan.specs.Many.{cleared-byte}
 abbrev pub inRange : ℕ → ℕ → ℕ → Bool
 inRange at n j = leb at j && ltb j (at + n)
 
--- rule 72: row r in place i uses byte j: it is in its header, or in its body as far as that goes
+-- rule 82: row r in place i uses byte j: it is in its header, or in its body as far as that goes
 unfoldable pub inRow : ℕ → Row → ℕ → Bool
 inRow i r j = inRange (headerAt i) headerBytes j || inRange (bodyAt i) (length (r .body)) j
 
@@ -52,6 +52,6 @@ rows-elsewhere (r ∷ rs) plan i j out =
     neither (inRow i r j) _ out (λ not-here not-behind.
     rows-elsewhere rs (rowPut plan i r) (i + 1) j not-behind ∙ row-elsewhere plan i r j not-here)
 
--- rule 72: what no row uses is zero
+-- rule 82: what no row uses is zero
 pub unused-zero : (rs : List Row) (plan : List ℕ) (j : ℕ) → planBytes ≤ length plan → j < planBytes → inRows 0 rs j ≡ false → getD (rowsPut (cleared plan) 0 rs) j 0 ≡ 0
 unused-zero rs plan j long below out = rows-elsewhere rs (cleared plan) 0 j out ∙ cleared-byte plan j long below

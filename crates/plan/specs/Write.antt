@@ -1,4 +1,4 @@
--- One write of an operation, said by its record, the image with it stored, the plan's row for it (rule 74), and a plan filled with such rows. Assumes nothing.
+-- One write of an operation, said by its record, the image with it stored, the plan's row for it (rule 84), and a plan filled with such rows. Assumes nothing.
 use mathlib.Core.Path.{_≡_, refl, sym, ap, ap₂, _∙_}
 use mathlib.Core.Logic.{_≢_}
 use mathlib.Core.List.{List, [], _∷_, _++_, map, map-append}
@@ -38,7 +38,7 @@ other-section j k n e = n (ap (λ (x : Key). x .section) e)
 pub other-index : (j k : Key) → j .index ≢ k .index → j ≢ k
 other-index j k n e = n (ap (λ (x : Key). x .index) e)
 
--- each is one that an operation may write (rule 74)
+-- each is one that an operation may write (rule 84)
 abbrev pub AllWrites : Shape → List Write → Type 0
 AllWrites h [] = Unit {0}
 AllWrites h (w ∷ ws) = Writes h (w .group) (w .key) (w .body) × AllWrites h ws

@@ -1,5 +1,5 @@
 -- A pending rename that fits and the draft of a recovery: the tests' last ways out, the numbers' ranges, one law for each way out of the draft, and
--- that its rows are such as an operation may write (rules 110 to 114). Assumes nothing.
+-- that its rows are such as an operation may write (rules 104 to 108). Assumes nothing.
 use mathlib.Core.Path.{_≡_, refl, _∙_, subst}
 use mathlib.Core.Bool.{Bool, true, false, _&&_, not}
 use mathlib.Core.List.{List, [], _∷_}

@@ -1,4 +1,4 @@
--- The job that recovers an image, as definitions: its number, its rows, and its plan and scratch buffers afterwards, for any bytes (rules 108, 109, 115 to 117).
+-- The job that recovers an image, as definitions: its number, its rows, and its plan and scratch buffers afterwards, for any bytes (rules 102, 103 and 109 to 111).
 -- Assumes nothing.
 use mathlib.Core.Path.{_≡_, ap, _∙_}
 use mathlib.Core.Logic.{_⊎_, ⊎-elim}
@@ -38,7 +38,7 @@ pub record Recovered : Type 0 where
 abbrev pub answerOf : Recovered → Answer
 answerOf r = record { number = r .number; rows = r .rows }
 
--- rules 115 and 116: what scratch shows over the image's length: the outcome, or zeros where there is none
+-- rules 109 and 110: what scratch shows over the image's length: the outcome, or zeros where there is none
 abbrev pub outcomeOf : Shape → List ℕ → Option (List Write) → List ℕ
 outcomeOf h x none = replicate (length x) 0
 outcomeOf h x (some ws) = storeAll h x ws
@@ -57,16 +57,16 @@ module _ (plan scratch x : List ℕ) where
     scratch = put scratch 0 (outcomeOf h x (some ws));
   }
 
-  -- rule 116: not recoverable leaves the plan as it was
+  -- rule 110: not recoverable leaves the plan as it was
   abbrev pub byRows : Shape → Option (List Write) → Recovered
   byRows h none = record { number = notRecoverable; rows = 0; plan = plan; scratch = put scratch 0 (outcomeOf h x none) }
   byRows h (some ws) = done h ws
 
-  -- rule 109: by the journal record
+  -- rule 103: by the journal record
   abbrev pub byJournal : Shape → Recovered
   byJournal h = cond (journalClear h x) (cond (consistent x) (done h []) (refused unsound)) (byRows h (pendingRows h x))
 
-  -- rule 108: the buffers, and then the layout
+  -- rule 102: the buffers, and then the layout
   unfoldable pub recovered : Recovered
   recovered =
       cond (ltb (length plan) planBytes || ltb (length scratch) (length x)) (refused tooShort)

@@ -1,5 +1,5 @@
 -- Recovery of an image (the papers' word is repair): when its journal record fits, and the rows that finish the rename or take it back (rules
--- 109 to 115). Assumes nothing.
+-- 103 to 109). Assumes nothing.
 use mathlib.Core.Bool.{Bool, _&&_, not, cond}
 use mathlib.Core.List.{List, [], _∷_, _++_}
 use mathlib.Core.Option.{Option, none, some}
@@ -22,19 +22,19 @@ use Rattle.results.specs.Results.{present, results, clearRow}
 abbrev pub belowOrAbsent : ℕ → ℕ → Bool
 belowOrAbsent i n = implies (present i) (ltb i n)
 
--- rule 111: the numbers are in range; that of the old parent is asked for by rule 112
+-- rule 105: the numbers are in range; that of the old parent is asked for by rule 106
 abbrev pub inRange : Shape → Journal → Bool
 inRange h j =
     ltb (j .old) (h .entries) && ltb (j .new) (h .entries) && ltb (j .moved) (h .inodes) && belowOrAbsent (j .replaced) (h .inodes)
     && belowOrAbsent (j .text) (h .texts)
 
--- rule 112: the slots differ, the moved inode is not the root, and it, the old parent and the replaced inode are different
+-- rule 106: the slots differ, the moved inode is not the root, and it, the old parent and the replaced inode are different
 abbrev pub different : Journal → Bool
 different j =
     not (eqb (j .old) (j .new)) && not (eqb (j .moved) 0) && not (eqb (j .moved) (j .parent)) && not (eqb (j .replaced) (j .moved))
     && not (eqb (j .replaced) (j .parent))
 
--- rules 111 and 112: the record of a rename fits the image
+-- rules 105 and 106: the record of a rename fits the image
 unfoldable pub renameFits : Shape → List ℕ → Journal → Bool
 renameFits h x j = inRange h j && different j && isDirectory (viewOf h x) (j .parent)
 
@@ -51,24 +51,24 @@ moveFrom v j = record {
   now = j .time;
 }
 
--- rule 113: the new entry has been applied, so its slot is in use and targets the moved inode
+-- rule 107: the new entry has been applied, so its slot is in use and targets the moved inode
 unfoldable pub decided : View → Move → Bool
 decided v m = entryUsed v (m .new) && eqb (v .target (m .new)) (m .moved)
 
--- rule 114: the new parent is a directory, and neither moved nor replaced
+-- rule 108: the new parent is a directory, and neither moved nor replaced
 unfoldable pub intoGood : View → Move → Bool
 intoGood v m = isDirectory v (m .into) && not (eqb (m .into) (m .moved)) && not (eqb (m .into) (m .replaced))
 
 module _ (h : Shape) (x : List ℕ) where
-  -- rule 113: clearing the journal record takes the rename back
+  -- rule 107: clearing the journal record takes the rename back
   abbrev pub undoing : List Write
   undoing = clearRow h ∷ []
 
-  -- rule 114: the results, made afresh, and then the cleared journal record finish it
+  -- rule 108: the results, made afresh, and then the cleared journal record finish it
   abbrev pub finishing : Move → List Write
   finishing m = results h x m ++ clearRow h ∷ []
 
-  -- rules 113 and 114: the rows of a move whose record fits
+  -- rules 107 and 108: the rows of a move whose record fits
   unfoldable pub moveDraft : Move → Option (List Write)
   moveDraft m = cond (decided (viewOf h x) m) (cond (intoGood (viewOf h x) m) (some (finishing m)) none) (some undoing)
 
@@ -78,16 +78,16 @@ module _ (h : Shape) (x : List ℕ) where
 
   -- ---- any pending operation
 
-  -- rule 110: the rows by the kind of the operation; a rename is of kind 0, and there is no other
+  -- rule 104: the rows by the kind of the operation; a rename is of kind 0, and there is no other
   abbrev pub kindDraft : ℕ → Journal → Option (List Write)
   kindDraft zero j = renameDraft j
   kindDraft (suc k) j = none
 
-  -- rule 110: a record that is not formed fits no operation
+  -- rule 104: a record that is not formed fits no operation
   unfoldable pub draft : Option (List Write)
   draft = cond (journalFormed (journalAt h x)) (kindDraft (journalOf (journalAt h x) .kind) (journalOf (journalAt h x))) none
 
-  -- rule 115: rows are answered only if their outcome is consistent
+  -- rule 109: rows are answered only if their outcome is consistent
   abbrev pub ifConsistent : Option (List Write) → Option (List Write)
   ifConsistent none = none
   ifConsistent (some ws) = cond (consistent (storeAll h x ws)) (some ws) none
@@ -96,6 +96,6 @@ module _ (h : Shape) (x : List ℕ) where
   unfoldable pub pendingRows : Option (List Write)
   pendingRows = ifConsistent draft
 
-  -- rule 109: a clear one leaves nothing to do on a consistent image
+  -- rule 103: a clear one leaves nothing to do on a consistent image
   unfoldable pub recover : Option (List Write)
   recover = cond (journalClear h x) (cond (consistent x) (some []) none) pendingRows

@@ -1,4 +1,4 @@
--- Steps 1 to 13 of the order of refusal (rules 85 to 97): a list of tests and answers, of which the first that holds decides. Assumes nothing.
+-- Steps 1 to 13 of the order of refusal (rules 65 to 77): a list of tests and answers, of which the first that holds decides. Assumes nothing.
 use mathlib.Core.Bool.{Bool, cond}
 use mathlib.Core.List.{List, [], _∷_, _++_}
 use Prim.Native.Nat.{ℕ}

@@ -1,4 +1,4 @@
--- The job rename as definitions: its number, its rows, both walk counts, and the whole plan buffer after it, for any bytes (rules 83 and 98). Assumes nothing.
+-- The job rename as definitions: its number, its rows, both walk counts, and the whole plan buffer after it, for any bytes (rules 63 and 78). Assumes nothing.
 use mathlib.Core.List.{List}
 use Prim.Native.Nat.{ℕ}
 use lib.ListN.{length}

@@ -1,4 +1,4 @@
--- The rows of a rename that is not refused: the journal record, the new entry, the results, the journal record cleared (rules 99 to 101). Assumes nothing.
+-- The rows of a rename that is not refused: the journal record, the new entry, the results, the journal record cleared (rules 85 to 87). Assumes nothing.
 use mathlib.Core.Bool.{_&&_, cond}
 use mathlib.Core.List.{List, [], _∷_, _++_}
 use Prim.Native.Nat.{ℕ}
@@ -42,7 +42,7 @@ freedText v c now =
 unfoldable pub moveOf : View → Case → ℕ → Move
 moveOf v c now = moveWith c now (freedText v c now)
 
--- rules 12 and 101: the journal record of a move; a rename is of kind 0
+-- form H and rule 87: the journal record of a move; a rename is of kind 0
 abbrev pub journalFor : Move → Journal
 journalFor m = record {
   kind = 0;
@@ -55,7 +55,7 @@ journalFor m = record {
   time = m .now;
 }
 
--- rule 100, the new entry: the one of the replaced inode with another target, or one that is made, under the name that was missing
+-- rule 86, the new entry: the one of the replaced inode with another target, or one that is made, under the name that was missing
 abbrev pub newEntry : Shape → List ℕ → Move → List ℕ → List ℕ
 newEntry h s m called =
     cond (eqb (m .replaced) absent) (entryBytes (h .width) (m .into) (m .moved) called) (retargeted (m .moved) (entryAt h s (m .new)))
@@ -69,7 +69,7 @@ module _ (h : Shape) (s : List ℕ) (m : Move) (called : List ℕ) where
   abbrev pub entryRow : Write
   entryRow = record { group = entryGroup; key = entryKey (m .new); body = newEntry h s m called }
 
-  -- rule 99: all rows of the plan, in their order
+  -- rule 85: all rows of the plan, in their order
   unfoldable pub renameRows : List Write
   renameRows = journalRow ∷ entryRow ∷ results h s m ++ clearRow h ∷ []
 

@@ -1,4 +1,4 @@
--- What an operation owes for each of its rows, for the rows of the results and the one that clears the journal record (rule 74). Assumes nothing.
+-- What an operation owes for each of its rows, for the rows of the results and the one that clears the journal record (rule 84). Assumes nothing.
 use mathlib.Core.Path.{_≡_, refl, _∙_}
 use mathlib.Core.Logic.{_≢_}
 use mathlib.Core.Bool.{Bool, true, false, not}

@@ -17,11 +17,11 @@ use Rattle.encode.specs.Journal.{absent}
 use Rattle.plan.specs.Write.{Write, inodeKey, entryKey, textKey, journalKey}
 use Rattle.results.specs.declared.Move.{Move}
 
--- rule 12: the number names a replaced inode, or a text
+-- form H: the number names a replaced inode, or a text
 abbrev pub present : ℕ → Bool
 present n = not (eqb n absent)
 
--- rule 99: the ordering groups of a rename's rows behind the deciding one
+-- rule 85: the ordering groups of a rename's rows behind the deciding one
 abbrev pub resultGroup : ℕ
 resultGroup = 3
 
@@ -49,7 +49,7 @@ module _ (v : View) (m : Move) where
   abbrev pub targetsAfter : ℕ → ℕ → Bool
   targetsAfter i j = edited m j (eqb (m .moved) i) (targets v i j)
 
-  -- rule 102: how many entries are left that target inode i
+  -- rule 88: how many entries are left that target inode i
   unfoldable pub entriesAfter : ℕ → ℕ
   entriesAfter i = count (targetsAfter i) (v .entries)
 
@@ -57,11 +57,11 @@ module _ (v : View) (m : Move) where
   abbrev pub holdsAfter : ℕ → ℕ → Bool
   holdsAfter d j = edited m j (eqb (m .into) d && isDirectory v (m .moved)) (holdsDirectory v d j)
 
-  -- rule 102: how many child directories directory d has then
+  -- rule 88: how many child directories directory d has then
   unfoldable pub childrenAfter : ℕ → ℕ
   childrenAfter d = count (holdsAfter d) (v .entries)
 
-  -- rule 102: the link count, as a consistent image has it (rules 37 and 38)
+  -- rule 88: the link count, as a consistent image has it (rules 31 and 32)
   unfoldable pub linksAfter : ℕ → ℕ
   linksAfter i = cond (isDirectory v i) (2 + childrenAfter i) (entriesAfter i)
 
@@ -71,7 +71,7 @@ module _ (v : View) (m : Move) where
 abbrev pub freeRecord : Shape → ℕ → List ℕ
 freeRecord h k = replicate (recordBytes h k) 0
 
--- rule 103: the moved inode gets its time of change, and a directory its new parent
+-- rule 89: the moved inode gets its time of change, and a directory its new parent
 abbrev pub reparented : Bool → ℕ → List ℕ → List ℕ
 reparented true into r = withField into r
 reparented false into r = r
@@ -79,11 +79,11 @@ reparented false into r = r
 unfoldable pub movedBytes : ℕ → ℕ → List ℕ → List ℕ
 movedBytes into time r = reparented (eqb (inodeKind r) 2) into (withChanged time r)
 
--- rule 104: the old and the new parent get their link count and both times
+-- rule 90: the old and the new parent get their link count and both times
 unfoldable pub holderBytes : ℕ → ℕ → List ℕ → List ℕ
 holderBytes links time r = withChanged time (withModified time (withLinks links r))
 
--- rule 105: the replaced inode gets its link count and its time of change; with no entry left it is free
+-- rule 91: the replaced inode gets its link count and its time of change; with no entry left it is free
 unfoldable pub replacedBytes : Shape → ℕ → ℕ → ℕ → List ℕ → List ℕ
 replacedBytes h left links time r = cond (eqb left 0) (freeRecord h 0) (withChanged time (withLinks links r))
 
@@ -125,11 +125,11 @@ module _ (h : Shape) (s : List ℕ) (m : Move) where
   abbrev pub textRow : Write
   textRow = resultRow (textKey (m .text)) (freeRecord h 2)
 
-  -- rule 99: always the old entry cleared, the moved inode and the old parent
+  -- rule 85: always the old entry cleared, the moved inode and the old parent
   abbrev pub alwaysRows : List Write
   alwaysRows = oldRow ∷ movedRow ∷ holderRow (m .from) ∷ []
 
-  -- rule 99: the new parent if it is another directory, the replaced inode if there is one, the text if one is freed
+  -- rule 85: the new parent if it is another directory, the replaced inode if there is one, the text if one is freed
   abbrev pub intoRows : List Write
   intoRows = when (not (eqb (m .into) (m .from))) (holderRow (m .into))
 
@@ -139,10 +139,10 @@ module _ (h : Shape) (s : List ℕ) (m : Move) where
   abbrev pub textRows : List Write
   textRows = when (present (m .text)) textRow
 
-  -- rule 99: the rows in the order of the plan
+  -- rule 85: the rows in the order of the plan
   unfoldable pub results : List Write
   results = alwaysRows ++ intoRows ++ replacedRows ++ textRows
 
--- rule 99: the last row clears the journal record
+-- rule 85: the last row clears the journal record
 abbrev pub clearRow : Shape → Write
 clearRow h = record { group = clearGroup; key = journalKey; body = freeRecord h 4 }

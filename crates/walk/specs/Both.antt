@@ -1,4 +1,4 @@
--- Both walks of a request: old's whole walk, then new's (rules 48 to 68). Assumes nothing.
+-- Both walks of a request: old's whole walk, then new's (rules 41 to 61). Assumes nothing.
 use mathlib.Core.Path.{_≡_, refl, sym, ap, subst, _∙_}
 use mathlib.Core.Logic.{_≢_}
 use mathlib.Core.Bool.{true, false, cond}
@@ -22,7 +22,7 @@ pub record Ends : Type 0 where
   pub new : End
 
 module _ (v : View) (q : Request) where
-  -- rule 66: old must name something, new need not
+  -- rule 59: old must name something, new need not
   abbrev pub oldWalk : List ℕ → End
   oldWalk path = walk v (q .who) MustExist (q .current) (q .starts .old) path
 

@@ -1,4 +1,4 @@
--- How far a walk goes (rule 68), and that its end owes nothing to the fuel it is defined with. Assumes nothing.
+-- How far a walk goes (rule 61), and that its end owes nothing to the fuel it is defined with. Assumes nothing.
 use mathlib.Core.Path.{_≡_, refl, sym, subst}
 use mathlib.Core.Logic.{_⊎_, inl, inr, ⊎-elim}
 use mathlib.Core.Bool.{Bool, false}
@@ -16,7 +16,7 @@ use Rattle.component.specs.Step.{linkLimit, pathLimit, pathComponents, stepLimi
 use Rattle.component.specs.Ways.{Way, refuses, moves, follows, exists, lacks, step-way}
 use Rattle.walk.specs.Walk.{startAt, walkFrom, walk, by-walk}
 
--- rule 68, in a number
+-- rule 61, in a number
 pub step-limit : stepLimit ≡ 1152
 step-limit = refl
 
@@ -192,7 +192,7 @@ module _ (v : View) (who : Credentials) (last : Final) where
     start-bound : walkFrom v who last stepLimit begin .steps ≤ stepLimit
     start-bound = le-trans (spends start-leads more) (ready .within)
 
-  -- rule 68: no walk begins more component checks than that
+  -- rule 61: no walk begins more component checks than that
   pub walk-bound : (current start : ℕ) (path : List ℕ) → walk v who last current start path .steps ≤ stepLimit
   walk-bound current start path =
       by-walk v who last (λ e. e .steps ≤ stepLimit) path (λ n some. zero-le)

@@ -32,7 +32,7 @@ pub record Existing (v : View) (d j i : ℕ) (slash : Bool) : Type 0 where
   pub target : v .target j ≡ i
   pub slashed : slash ≡ true → isDirectory v i ≡ true
 
--- A path whose last name directory d lacks: it has room in an entry, and is a name that an entry may have (rules 18, 31 and 32).
+-- A path whose last name directory d lacks: it has room in an entry, and is a name that an entry may have (rules 24 to 26).
 pub record Missing (v : View) (d : ℕ) (name : List ℕ) : Type 0 where
   pub directory : isDirectory v d ≡ true
   pub lacks : lookup v d name ≡ v .entries

@@ -1,4 +1,4 @@
--- The walk of a whole path: where it begins, and component after component to its end (rules 48 and 53 to 56). Assumes nothing.
+-- The walk of a whole path: where it begins, and component after component to its end (rules 41 and 46 to 49). Assumes nothing.
 use mathlib.Core.Path.{_≡_, refl, ap, _∙_}
 use mathlib.Core.Logic.{_≢_}
 use mathlib.Core.Bool.{Bool, true, false, _&&_, _||_, cond}
@@ -16,7 +16,7 @@ use Rattle.component.specs.Step.{pathLimit, stepLimit, Position, End, nothing, 
 use Rattle.walk.specs.declared.start.Start.{Start}
 use Rattle.walk.specs.declared.start.Start.the-variants.{Closed, At}
 
--- rule 48: the start that stands for the current directory
+-- rule 41: the start that stands for the current directory
 abbrev pub noHandle : ℕ
 noHandle = 255
 
@@ -29,11 +29,11 @@ abbrev pub halt : ℕ → End
 halt n = record { number = n; steps = 0; found = nothing }
 
 module _ (v : View) where
-  -- rules 55 and 58: a handle that is open, and waives search permission for one component where it was opened for search
+  -- rules 48 and 51: a handle that is open, and waives search permission for one component where it was opened for search
   abbrev pub startHandle : ℕ → Start
   startHandle n = cond (ltb n (v .handles) && handleOpen v n) (At (v .opened n) (eqb (v .state n) 2)) Closed
 
-  -- rule 48: the root for an absolute path; else the current directory, or what a handle is open on
+  -- rule 41: the root for an absolute path; else the current directory, or what a handle is open on
   abbrev pub startOf : ℕ → ℕ → List ℕ → Start
   startOf current start path = cond (absolute path) (At 0 false) (cond (eqb start noHandle) (At current false) (startHandle start))
 
@@ -47,12 +47,12 @@ module _ (v : View) (who : Credentials) (last : Final) where
   walkFrom zero w = record { number = 40; steps = w .steps; found = nothing }
   walkFrom (suc n) w = elim (step v who last w) [ goes u ↦ walkFrom n u | ends e ↦ e ]
 
-  -- rules 55 and 56: a handle that is closed, and then a path of slashes only
+  -- rules 48 and 49: a handle that is closed, and then a path of slashes only
   abbrev pub begun : Start → List ℕ → End
   begun Closed path = halt 9
   begun (At directory waived) path = cond (bare path) (halt 16) (walkFrom stepLimit (startAt directory waived path))
 
-  -- rules 53 and 54: the walk of a path from the current directory and a start
+  -- rules 46 and 47: the walk of a path from the current directory and a start
   unfoldable pub walk : ℕ → ℕ → List ℕ → End
   walk current start path =
       cond (empty path) (halt 2) (cond (ltb pathLimit (length path)) (halt 36) (begun (startOf v current start path) path))
