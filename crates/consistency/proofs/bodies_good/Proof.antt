@@ -2,7 +2,7 @@
 use mathlib.Core.Path.{sym, _∙_}
 use borrow.Author.Needs.{needs}
 use Rattle.seq.specs.Truth.{fails, holds}
-use Rattle.consistency.specs.Consistent.{bodiesGood}
+use Rattle.consistency.specs.Checked.{out-root, out-inodes, out-entries, out-names, out-texts, out-handles}
 use Rattle.consistency.specs.Entry.{entries-named}
 use Rattle.consistency.proofs.bodies_good.Statement.{statement}
 use Rattle.consistency.proofs.bodies_good.Tie as tie
@@ -11,96 +11,60 @@ is-directory-requires : tie.Need-is-directory-requires
 is-directory-requires c κs = search needs
 
 returns : tie.Need-returns
-unfolding bodiesGood
-returns c = simp (fails (c .before .is-directory .ensures) (c .if1 .taken))
+returns c = out-root _ _ (fails (c .before .is-directory .ensures) (c .if1 .taken))
 
 all-good-requires : tie.Need-all-good-requires
 all-good-requires c κs = search needs
 
 returns-2 : tie.Need-returns-2
-unfolding bodiesGood
 returns-2 c =
-    simp (
-      holds (c .before .before .before .is-directory .ensures) (c .before .before .if1 .left),
-      fails (c .before .all-good .ensures) (c .if2 .taken),
-    )
+    let root = holds (c .before .before .before .is-directory .ensures) (c .before .before .if1 .left) in
+    out-inodes _ _ root (fails (c .before .all-good .ensures) (c .if2 .taken))
 
 all-good-requires-2 : tie.Need-all-good-requires-2
 all-good-requires-2 c κs = search needs
 
 returns-3 : tie.Need-returns-3
-unfolding bodiesGood
 returns-3 c =
-    simp (
-      holds (c .before .before .before .before .before .is-directory .ensures) (c .before .before .before .before .if1 .left),
-      holds (c .before .before .before .all-good .ensures) (c .before .before .if2 .left),
-      fails (c .before .all-good2 .ensures) (c .if3 .taken),
-    )
+    let root = holds (c .before .before .before .before .before .is-directory .ensures) (c .before .before .before .before .if1 .left) in
+    let inodes = holds (c .before .before .before .all-good .ensures) (c .before .before .if2 .left) in
+    out-entries _ _ root inodes (fails (c .before .all-good2 .ensures) (c .if3 .taken))
 
 has-duplicate-requires : tie.Need-has-duplicate-requires
 has-duplicate-requires c κs =
     let args = c .before .before .before .before .before .before .before .args in
     let pre = c .before .before .before .before .before .before .before .pre in
-    (search needs, entries-named (args .h) (args .s .now) (pre) (holds (c .before .all-good2 .ensures) (c .if3 .left)))
+    (search needs, entries-named (args .h) (args .s .now) pre (holds (c .before .all-good2 .ensures) (c .if3 .left)))
 
 returns-4 : tie.Need-returns-4
-unfolding bodiesGood
 returns-4 c =
-    let is-directory = c .before .before .before .before .before .before .before .is-directory in
-    let if1 = c .before .before .before .before .before .before .if1 in
-    let all-good = c .before .before .before .before .before .all-good in
-    let if2 = c .before .before .before .before .if2 in
-    let all-good2 = c .before .before .before .all-good2 in
-    simp (
-      holds (is-directory .ensures) (if1 .left),
-      holds (all-good .ensures) (if2 .left),
-      holds (all-good2 .ensures) (c .before .before .if3 .left),
-      sym (c .before .has-duplicate .ensures) ∙ c .if4 .taken,
-    )
+    let root = holds (c .before .before .before .before .before .before .before .is-directory .ensures) (c .before .before .before .before .before .before .if1 .left) in
+    let inodes = holds (c .before .before .before .before .before .all-good .ensures) (c .before .before .before .before .if2 .left) in
+    let entries = holds (c .before .before .before .all-good2 .ensures) (c .before .before .if3 .left) in
+    out-names _ _ root inodes entries (sym (c .before .has-duplicate .ensures) ∙ c .if4 .taken)
 
 all-good-requires-3 : tie.Need-all-good-requires-3
 all-good-requires-3 c κs = search needs
 
 returns-5 : tie.Need-returns-5
-unfolding bodiesGood
 returns-5 c =
-    let is-directory = c .before .before .before .before .before .before .before .before .before .is-directory in
-    let if1 = c .before .before .before .before .before .before .before .before .if1 in
-    let all-good = c .before .before .before .before .before .before .before .all-good in
-    let if2 = c .before .before .before .before .before .before .if2 in
-    let all-good2 = c .before .before .before .before .before .all-good2 in
-    let if3 = c .before .before .before .before .if3 in
-    let has-duplicate = c .before .before .before .has-duplicate in
-    simp (
-      holds (is-directory .ensures) (if1 .left),
-      holds (all-good .ensures) (if2 .left),
-      holds (all-good2 .ensures) (if3 .left),
-      sym (has-duplicate .ensures) ∙ c .before .before .if4 .left,
-      fails (c .before .all-good3 .ensures) (c .if5 .taken),
-    )
+    let root = holds (c .before .before .before .before .before .before .before .before .before .is-directory .ensures) (c .before .before .before .before .before .before .before .before .if1 .left) in
+    let inodes = holds (c .before .before .before .before .before .before .before .all-good .ensures) (c .before .before .before .before .before .before .if2 .left) in
+    let entries = holds (c .before .before .before .before .before .all-good2 .ensures) (c .before .before .before .before .if3 .left) in
+    let names = sym (c .before .before .before .has-duplicate .ensures) ∙ c .before .before .if4 .left in
+    out-texts _ _ root inodes entries names (fails (c .before .all-good3 .ensures) (c .if5 .taken))
 
 all-good-requires-4 : tie.Need-all-good-requires-4
 all-good-requires-4 c κs = search needs
 
 returns-6 : tie.Need-returns-6
-unfolding bodiesGood
 returns-6 c =
-    let is-directory = c .before .before .before .before .before .before .before .before .before .before .is-directory in
-    let if1 = c .before .before .before .before .before .before .before .before .before .if1 in
-    let all-good = c .before .before .before .before .before .before .before .before .all-good in
-    let if2 = c .before .before .before .before .before .before .before .if2 in
-    let all-good2 = c .before .before .before .before .before .before .all-good2 in
-    let if3 = c .before .before .before .before .before .if3 in
-    let has-duplicate = c .before .before .before .before .has-duplicate in
-    let if4 = c .before .before .before .if4 in
-    simp (
-      holds (is-directory .ensures) (if1 .left),
-      holds (all-good .ensures) (if2 .left),
-      holds (all-good2 .ensures) (if3 .left),
-      sym (has-duplicate .ensures) ∙ if4 .left,
-      holds (c .before .before .all-good3 .ensures) (c .before .if5 .left),
-      c .all-good4 .ensures,
-    )
+    let root = holds (c .before .before .before .before .before .before .before .before .before .before .is-directory .ensures) (c .before .before .before .before .before .before .before .before .before .if1 .left) in
+    let inodes = holds (c .before .before .before .before .before .before .before .before .all-good .ensures) (c .before .before .before .before .before .before .before .if2 .left) in
+    let entries = holds (c .before .before .before .before .before .before .all-good2 .ensures) (c .before .before .before .before .before .if3 .left) in
+    let names = sym (c .before .before .before .before .has-duplicate .ensures) ∙ c .before .before .before .if4 .left in
+    let texts = holds (c .before .before .all-good3 .ensures) (c .before .if5 .left) in
+    out-handles _ _ root inodes entries names texts _ (c .all-good4 .ensures)
 
 pub bodies-good-spec : {M : Type 1} → statement M
 bodies-good-spec =
