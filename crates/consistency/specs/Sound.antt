@@ -1,12 +1,16 @@
--- A consistent image (the papers' word is sound), one test for each rule, in the order of the rules: 6 to 40. A reader has to believe this file. Assumes nothing.
+-- A consistent image (the papers' word is sound), one test for each rule, in the order of the rules. A reader has to believe this file. Assumes nothing.
 use mathlib.Core.Bool.{Bool, true, _&&_, _||_, not}
 use mathlib.Core.List.{List, [], _∷_}
-use Prim.Native.Nat.{ℕ, _+_, _-_}
+use Prim.Native.Nat.{ℕ, _+_, _-_, _*_}
 use lib.Dec.{eqb, ltb, leb}
+use lib.ListN.{length}
 use Rattle.seq.specs.Truth.{implies}
 use Rattle.seq.specs.Search.{any, all}
 use Rattle.seq.specs.Bytes.{zeros, noZero}
+use Rattle.seq.specs.Number.{numberAt}
 use Rattle.layout.specs.declared.Shape.{Shape}
+use Rattle.layout.specs.Place.{contentsBytes, base, imageBytes}
+use Rattle.layout.specs.Contents.{sectionName, fewest, most, nameIs, shapeOf}
 use Rattle.layout.specs.View.{View, viewOf, inodeAt, entryAt, textAt, handleAt, journalAt, nameRoom, isKind, isDirectory, isUsed, entryUsed, textUsed}
 use Rattle.names.specs.Name.{nameBytes, isDots, clash}
 use Rattle.tree.specs.Tree.{entriesOf, childDirectories, reaches}
@@ -17,6 +21,33 @@ use Rattle.consistency.specs.Others.{textRoom, textLinked, journalClear}
 abbrev pub every : List Bool → Bool
 every [] = true
 every (b ∷ bs) = b && every bs
+
+-- ---- the layout
+
+module _ (s : List ℕ) where
+  -- rule 1
+  abbrev pub contentsThere : Bool
+  contentsThere = leb contentsBytes (length s)
+
+  -- rules 2 and 3, of section k: by the counts as they stand
+  abbrev pub sectionNamed : ℕ → Bool
+  sectionNamed k = nameIs s (8 * k) (sectionName k)
+
+  abbrev pub sectionPlaced : ℕ → Bool
+  sectionPlaced k = eqb (numberAt 2 s (8 * k + 4)) (base (shapeOf s) k)
+
+  -- rule 4
+  abbrev pub imageEnds : Bool
+  imageEnds = eqb (length s) (imageBytes (shapeOf s))
+
+  -- rule 5, of section k
+  abbrev pub sectionCounted : ℕ → Bool
+  sectionCounted k = leb (fewest k) (numberAt 2 s (8 * k + 6)) && leb (numberAt 2 s (8 * k + 6)) (most k)
+
+  abbrev pub layoutRules : List Bool
+  layoutRules = contentsThere ∷ all sectionNamed 5 ∷ all sectionPlaced 5 ∷ imageEnds ∷ all sectionCounted 5 ∷ []
+
+-- ---- the records
 
 -- What a record is, by its type or its state. One of an unknown type is none of these, and rule 6 alone is told of it.
 module _ (v : View) where
@@ -77,7 +108,7 @@ module _ (h : Shape) (s : List ℕ) where
   abbrev pub handleZeros : ℕ → Bool
   handleZeros n = implies (opened v n) (zeros (handleAt h s n) 1 1 && zeros (handleAt h s n) 4 4)
 
-  -- rules 15 to 18: what is free is all zero (rule 14 is `journalClear`)
+  -- rules 15 to 18: what is free is all zero (rule 14, of the journal record, is `journalClear`)
   abbrev pub inodeFree : ℕ → Bool
   inodeFree i = implies (free v i) (zeros (inodeAt h s i) 0 32)
 
@@ -186,3 +217,7 @@ module _ (h : Shape) (s : List ℕ) where
   -- the records in front of the journal record
   unfoldable pub bodiesGood : Bool
   bodiesGood = every bodyRules
+
+-- rules 1 to 40: a consistent image (rule 14 ahead of the other records, as check asks)
+abbrev pub soundRules : List ℕ → List Bool
+soundRules s = every (layoutRules s) ∷ journalClear (shapeOf s) s ∷ bodiesGood (shapeOf s) s ∷ []

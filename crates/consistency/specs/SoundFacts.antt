@@ -28,16 +28,16 @@ use Rattle.consistency.specs.Sound.{every, free, file, directory, symlin
 -- each of them passes
 infixr 5 _&_
 
-data Every : List Bool → Type 0 where
+pub data Every : List Bool → Type 0 where
   no-more : Every []
   _&_ : {b : Bool} {bs : List Bool} → b ≡ true → Every bs → Every (b ∷ bs)
 
-is-every : {bs : List Bool} → Every bs → every bs ≡ true
+pub is-every : {bs : List Bool} → Every bs → every bs ≡ true
 is-every no-more = refl
 is-every (_&_ {b} {bs} e t) = and-both b (every bs) e (is-every t)
 
 -- the one at a place
-every-at : (bs : List Bool) → every bs ≡ true → (k : ℕ) → getD bs k true ≡ true
+pub every-at : (bs : List Bool) → every bs ≡ true → (k : ℕ) → getD bs k true ≡ true
 every-at [] e k = refl
 every-at (b ∷ bs) e zero = and-left b (every bs) e
 every-at (b ∷ bs) e (suc k) = every-at bs (and-right b (every bs) e) k
