@@ -43,12 +43,12 @@ module _ (s : List ℕ) where
       let rows = and-left (all (rowGood s (shapeOf s)) 5) _ (and-right (leb contentsBytes (length s)) _ e) in
       let row : (k : ℕ) → k < 5 → rowGood s (shapeOf s) k ≡ true = all-at (rowGood s (shapeOf s)) 5 rows in
       is-every (
-        and-left (leb contentsBytes (length s)) _ e
-        & all-of (sectionNamed s) 5 (λ k l. let r = row k l in search (and-left, and-right))
-        & all-of (sectionPlaced s) 5 (λ k l. let r = row k l in search (and-left, and-right))
-        & and-right (all (rowGood s (shapeOf s)) 5) _ (and-right (leb contentsBytes (length s)) _ e)
-        & all-of (sectionCounted s) 5 (λ k l. let r = row k l in and-both (leb (fewest k) _) _ (search (and-left, and-right)) (search (and-left, and-right)))
-        & no-more
+      and-left (leb contentsBytes (length s)) _ e
+      & all-of (sectionNamed s) 5 (λ k l. let r = row k l in search (and-left, and-right))
+      & all-of (sectionPlaced s) 5 (λ k l. let r = row k l in search (and-left, and-right))
+      & and-right (all (rowGood s (shapeOf s)) 5) _ (and-right (leb contentsBytes (length s)) _ e)
+      & all-of (sectionCounted s) 5 (λ k l. let r = row k l in and-both (leb (fewest k) _) _ (search (and-left, and-right)) (search (and-left, and-right)))
+      & no-more
       )
 
   is-layout : every (layoutRules s) ≡ true → layoutGood s ≡ true

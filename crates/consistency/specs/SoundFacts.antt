@@ -27,7 +27,6 @@ use Rattle.consistency.specs.Sound.{every, free, file, directory, symlin
 
 -- each of them passes
 infixr 5 _&_
-
 pub data Every : List Bool → Type 0 where
   no-more : Every []
   _&_ : {b : Bool} {bs : List Bool} → b ≡ true → Every bs → Every (b ∷ bs)
@@ -233,7 +232,7 @@ module _ (h : Shape) (s : List ℕ) where
           go true u = any-not (λ k. clash v k j) j (not-true _ (implies-at (entryUsed v j) (not (any (λ k. clash v k j) j)) r u)) i l
           go false u = rw (u, and-false (entryUsed v i))
 
--- ---- from the facts to the rules
+  -- ---- from the facts to the rules
 
   module _ (f : Bodies h s) where
     -- an inode by its type
@@ -290,41 +289,41 @@ module _ (h : Shape) (s : List ℕ) where
     pub is-bodies : bodiesGood h s ≡ true
     unfolding bodiesGood nameGood
     is-bodies = is-every (
-      all-of _ _ (λ i l. le-leb _ _ (f .inode i l .kind))
-      & all-of _ _ (λ n l. le-leb _ _ (f .handle n l .state))
-      & all-of _ _ (λ i l. implies-of (file v i) _ (λ e. eq-eqb _ _ (f .inode i l .file (eqb-true _ _ e) .plain)))
-      & implies-of (directory v 0) _ (λ d. eq-eqb _ _ (f .inode 0 root-below .directory (eqb-true _ _ d) .own-parent refl))
-      & all-of _ _ (λ j l. implies-of (entryUsed v j) _ (λ u. and-both (zeros (entryAt h s j) 5 3) _ (used j l u .padded) (used j l u .filled)))
-      & all-of _ _ (λ t l. le-leb _ _ (f .text t l .short))
-      & all-of _ _ (λ t l. implies-of (textUsed v t) _ (λ _. f .text t l .filled))
-      & all-of _ _ (λ n l. implies-of (opened v n) _ (λ o. and-both (zeros (handleAt h s n) 1 1) _ (open-has n l o .second) (open-has n l o .rest)))
-      & all-of _ _ (λ i l. implies-of (free v i) _ (λ e. f .inode i l .free (eqb-true _ _ e)))
-      & all-of _ _ (λ j l. implies-of (not (entryUsed v j)) _ (λ u. f .entry j l .free (not-true _ u)))
-      & all-of _ _ text-free
-      & all-of _ _ (λ n l. implies-of (eqb (v .state n) 0) _ (λ e. f .handle n l .closed (eqb-true _ _ e)))
-      & all-of _ _ (λ i l. implies-of (known v i) _ (λ k. known-has _ i l k (λ a. lt-ltb _ _ (a .mode)) (λ d. lt-ltb _ _ (d .mode))))
-      & f .root
-      & all-of _ _ (λ j l. implies-of (entryUsed v j) (not (eqb (v .target j) 0)) (λ u. rw (ne-eqb _ _ (used j l u .linked .below-root))))
-      & all-of _ _ (λ j l. implies-of (entryUsed v j) _ (λ u. used j l u .linked .parent))
-      & all-of _ _ (λ j l. implies-of (entryUsed v j) _ (λ u. used j l u .linked .target))
-      & all-of _ _ (λ j l. implies-of (entryUsed v j) _ (λ u. le-leb _ _ (used j l u .short)))
-      & all-of _ _ (λ j l. implies-of (entryUsed v j) _ (λ u. and-left (nameBytes (v .name j)) _ (used j l u .name)))
-      & all-of _ _ (λ j l. implies-of (entryUsed v j) _ (λ u. and-right (nameBytes (v .name j)) _ (used j l u .name)))
-      & all-of _ _ (λ j l. implies-of (entryUsed v j) (not (any (λ i. clash v i j) j)) (λ u. rw (any-false (λ i. clash v i j) j (λ i m. f .distinct i j m l))))
-      & all-of _ _ (λ i l. implies-of (directory v i && not (eqb i 0)) _ (λ g.
-          eq-eqb _ _ (f .inode i l .directory (eqb-true _ _ (and-left (directory v i) _ g)) .one-entry (eqb-false _ _ (not-true _ (and-right (directory v i) _ g))))))
-      & all-of _ _ up-has
-      & all-of _ _ leads-has
-      & all-of _ _ (λ i l. implies-of (directory v i) _ (λ d. eq-eqb _ _ (f .inode i l .directory (eqb-true _ _ d) .counted)))
-      & all-of _ _ (λ i l. implies-of (leaf v i) _ (λ e. eq-eqb _ _ (leaf-has i l e .counted)))
-      & all-of _ _ (λ i l. implies-of (leaf v i) _ (λ e. le-leb _ _ (leaf-has i l e .linked)))
-      & all-of _ _ (λ i l. implies-of (known v i) _ (λ k. known-has _ i l k (λ a. le-leb _ _ (a .within)) (λ d. le-leb _ _ (d .within))))
-      & all-of _ _ system-has
-      & all-of _ _ (λ i l. implies-of (symlink v i) _ (λ e.
-          let k = f .inode i l .symlink (eqb-true _ _ e) in
-          and-both (ltb (v .field i) (v .texts)) _ (lt-ltb _ _ (k .text)) (k .used)))
-      & all-of _ _ (λ i l. implies-of (symlink v i && hasTextInUse h s i) (not (textShared v i)) (λ g. rw (f .inode i l .symlink (eqb-true _ _ (and-left (symlink v i) _ g)) .own)))
-      & all-of _ _ (λ t l. implies-of (textUsed v t) _ (λ _. f .text t l .bytes))
-      & all-of _ _ (λ t l. implies-of (textUsed v t) _ (λ u. f .text t l .linked u))
-      & all-of _ _ (λ n l. implies-of (opened v n) _ (λ o. open-has n l o .used))
-      & no-more)
+        all-of _ _ (λ i l. le-leb _ _ (f .inode i l .kind))
+        & all-of _ _ (λ n l. le-leb _ _ (f .handle n l .state))
+        & all-of _ _ (λ i l. implies-of (file v i) _ (λ e. eq-eqb _ _ (f .inode i l .file (eqb-true _ _ e) .plain)))
+        & implies-of (directory v 0) _ (λ d. eq-eqb _ _ (f .inode 0 root-below .directory (eqb-true _ _ d) .own-parent refl))
+        & all-of _ _ (λ j l. implies-of (entryUsed v j) _ (λ u. and-both (zeros (entryAt h s j) 5 3) _ (used j l u .padded) (used j l u .filled)))
+        & all-of _ _ (λ t l. le-leb _ _ (f .text t l .short))
+        & all-of _ _ (λ t l. implies-of (textUsed v t) _ (λ _. f .text t l .filled))
+        & all-of _ _ (λ n l. implies-of (opened v n) _ (λ o. and-both (zeros (handleAt h s n) 1 1) _ (open-has n l o .second) (open-has n l o .rest)))
+        & all-of _ _ (λ i l. implies-of (free v i) _ (λ e. f .inode i l .free (eqb-true _ _ e)))
+        & all-of _ _ (λ j l. implies-of (not (entryUsed v j)) _ (λ u. f .entry j l .free (not-true _ u)))
+        & all-of _ _ text-free
+        & all-of _ _ (λ n l. implies-of (eqb (v .state n) 0) _ (λ e. f .handle n l .closed (eqb-true _ _ e)))
+        & all-of _ _ (λ i l. implies-of (known v i) _ (λ k. known-has _ i l k (λ a. lt-ltb _ _ (a .mode)) (λ d. lt-ltb _ _ (d .mode))))
+        & f .root
+        & all-of _ _ (λ j l. implies-of (entryUsed v j) (not (eqb (v .target j) 0)) (λ u. rw (ne-eqb _ _ (used j l u .linked .below-root))))
+        & all-of _ _ (λ j l. implies-of (entryUsed v j) _ (λ u. used j l u .linked .parent))
+        & all-of _ _ (λ j l. implies-of (entryUsed v j) _ (λ u. used j l u .linked .target))
+        & all-of _ _ (λ j l. implies-of (entryUsed v j) _ (λ u. le-leb _ _ (used j l u .short)))
+        & all-of _ _ (λ j l. implies-of (entryUsed v j) _ (λ u. and-left (nameBytes (v .name j)) _ (used j l u .name)))
+        & all-of _ _ (λ j l. implies-of (entryUsed v j) _ (λ u. and-right (nameBytes (v .name j)) _ (used j l u .name)))
+        & all-of _ _ (λ j l. implies-of (entryUsed v j) (not (any (λ i. clash v i j) j)) (λ u. rw (any-false (λ i. clash v i j) j (λ i m. f .distinct i j m l))))
+        & all-of _ _ (λ i l. implies-of (directory v i && not (eqb i 0)) _ (λ g.
+        eq-eqb _ _ (f .inode i l .directory (eqb-true _ _ (and-left (directory v i) _ g)) .one-entry (eqb-false _ _ (not-true _ (and-right (directory v i) _ g))))))
+        & all-of _ _ up-has
+        & all-of _ _ leads-has
+        & all-of _ _ (λ i l. implies-of (directory v i) _ (λ d. eq-eqb _ _ (f .inode i l .directory (eqb-true _ _ d) .counted)))
+        & all-of _ _ (λ i l. implies-of (leaf v i) _ (λ e. eq-eqb _ _ (leaf-has i l e .counted)))
+        & all-of _ _ (λ i l. implies-of (leaf v i) _ (λ e. le-leb _ _ (leaf-has i l e .linked)))
+        & all-of _ _ (λ i l. implies-of (known v i) _ (λ k. known-has _ i l k (λ a. le-leb _ _ (a .within)) (λ d. le-leb _ _ (d .within))))
+        & all-of _ _ system-has
+        & all-of _ _ (λ i l. implies-of (symlink v i) _ (λ e.
+        let k = f .inode i l .symlink (eqb-true _ _ e) in
+        and-both (ltb (v .field i) (v .texts)) _ (lt-ltb _ _ (k .text)) (k .used)))
+        & all-of _ _ (λ i l. implies-of (symlink v i && hasTextInUse h s i) (not (textShared v i)) (λ g. rw (f .inode i l .symlink (eqb-true _ _ (and-left (symlink v i) _ g)) .own)))
+        & all-of _ _ (λ t l. implies-of (textUsed v t) _ (λ _. f .text t l .bytes))
+        & all-of _ _ (λ t l. implies-of (textUsed v t) _ (λ u. f .text t l .linked u))
+        & all-of _ _ (λ n l. implies-of (opened v n) _ (λ o. open-has n l o .used))
+        & no-more)

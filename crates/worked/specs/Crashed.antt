@@ -11,11 +11,10 @@ use Rattle.layout.specs.Contents.{nameIs, rowIs, shapeOf, rowGood, rowsGood, la
 use Rattle.layout.specs.Record.{recordAt, store}
 use Rattle.layout.specs.View.{viewOf}
 use Rattle.layout.specs.Bench.{bench}
-use Rattle.names.specs.Name.{nameBytes, isDots, nameGood, clash, hasDuplicate}
+use Rattle.names.specs.Name.{nameBytes, isDots, nameGood, clash}
 use Rattle.tree.specs.Tree.{entriesOf, childDirectories, reaches}
-use Rattle.tree.specs.Inode.{leafGood, fileGood, directoryGood, textShared, symlinkGood, inodeGood}
-use Rattle.consistency.specs.Entry.{entryFormed, entryLinked, entryGood}
-use Rattle.consistency.specs.Others.{textLinked, textGood, openGood, handleGood, journalClear}
+use Rattle.tree.specs.Inode.{textShared}
+use Rattle.consistency.specs.Others.{textLinked, journalClear}
 use Rattle.consistency.specs.Consistent.{bodiesGood, consistent, recordsNumber, checkNumber}
 use Rattle.encode.specs.Entry.{entryBytes}
 use Rattle.encode.specs.Journal.{journalOf, journalFormed, journalHead, journalBytes}
@@ -81,10 +80,10 @@ pub seen-so : map seen (early ∷ back ∷ late ∷ again ∷ through ∷ [])
     ∷ (false, true, 3 ∷ 3 ∷ 3 ∷ 3 ∷ 3 ∷ 4 ∷ [])
     ∷ (true, true, [])
     ∷ []
-unfolding bench any all first count part put store zeros noZero sameBytes numberAt bytesOf nameIs rowIs shapeOf rowGood rowsGood layoutGood recordAt viewOf nameBytes isDots nameGood clash hasDuplicate entriesOf childDirectories reaches leafGood fileGood directoryGood textShared symlinkGood inodeGood entryFormed entryLinked entryGood textLinked textGood openGood handleGood journalClear bodiesGood consistent recordsNumber checkNumber allows path.slashes path.nameBytes isNamed lookup requestGood step walkFrom walk walksOf entryBytes journalOf journalFormed journalHead journalBytes rowAt headerOf rowPut rowsPut cleared noRow rowCount coversSection covers rowFits applicable applyNumber appliedImage movedBytes holderBytes replacedBytes entriesAfter childrenAfter linksAfter results stickyDenied hasEntries isOpened moveOf renameRows planned freeSlot order renamed planAfter renameFits decided intoGood moveDraft renameDraft draft pendingRows recovered finished
+unfolding bench any all first count part put store zeros noZero sameBytes numberAt bytesOf nameIs rowIs shapeOf rowGood rowsGood layoutGood recordAt viewOf nameBytes isDots nameGood clash entriesOf childDirectories reaches textShared textLinked journalClear bodiesGood consistent recordsNumber checkNumber allows path.slashes path.nameBytes isNamed lookup requestGood step walkFrom walk walksOf entryBytes journalOf journalFormed journalHead journalBytes rowAt headerOf rowPut rowsPut cleared noRow rowCount coversSection covers rowFits applicable applyNumber appliedImage movedBytes holderBytes replacedBytes entriesAfter childrenAfter linksAfter results stickyDenied hasEntries isOpened moveOf renameRows planned freeSlot order renamed planAfter renameFits decided intoGood moveDraft renameDraft draft pendingRows recovered finished
 seen-so = refl
 
 -- the image before, and the finished one
 pub ended-so : at back .image ∷ at through .image ∷ [] ≡ bench ∷ finishedImage bench dirty owner /a/f /b/g ∷ []
-unfolding bench any all first count part put store zeros noZero sameBytes numberAt bytesOf nameIs rowIs shapeOf rowGood rowsGood layoutGood recordAt viewOf nameBytes isDots nameGood clash hasDuplicate entriesOf childDirectories reaches leafGood fileGood directoryGood textShared symlinkGood inodeGood entryFormed entryLinked entryGood textLinked textGood openGood handleGood journalClear bodiesGood consistent recordsNumber checkNumber allows path.slashes path.nameBytes isNamed lookup requestGood step walkFrom walk walksOf entryBytes journalOf journalFormed journalHead journalBytes rowAt headerOf rowPut rowsPut cleared noRow rowCount coversSection covers rowFits applicable applyNumber appliedImage movedBytes holderBytes replacedBytes entriesAfter childrenAfter linksAfter results stickyDenied hasEntries isOpened moveOf renameRows planned freeSlot order renamed planAfter renameFits decided intoGood moveDraft renameDraft draft pendingRows recovered finished
+unfolding bench any all first count part put store zeros noZero sameBytes numberAt bytesOf nameIs rowIs shapeOf rowGood rowsGood layoutGood recordAt viewOf nameBytes isDots nameGood clash entriesOf childDirectories reaches textShared textLinked journalClear bodiesGood consistent recordsNumber checkNumber allows path.slashes path.nameBytes isNamed lookup requestGood step walkFrom walk walksOf entryBytes journalOf journalFormed journalHead journalBytes rowAt headerOf rowPut rowsPut cleared noRow rowCount coversSection covers rowFits applicable applyNumber appliedImage movedBytes holderBytes replacedBytes entriesAfter childrenAfter linksAfter results stickyDenied hasEntries isOpened moveOf renameRows planned freeSlot order renamed planAfter renameFits decided intoGood moveDraft renameDraft draft pendingRows recovered finished
 ended-so = refl
