@@ -14,11 +14,8 @@
 #define PROGRAM "land"
 #include "records.h"
 
-#include "mirepillar.h"
-
 /* A plan takes 648 bytes, and what a longer file has behind them is not used. */
-enum { LONGEST_PLAN = 65536, ROWS = 9 };
-enum { BAD_LAYOUT = 201, SHORT_PLAN = 205, NOT_LANDABLE = 207 };
+enum { LONGEST_PLAN = 65536, ROWS = MP_PLAN_ROWS };
 
 /* A header of eight zeros is no row. The plan has at least 648 bytes here, since mp_land did not answer 205. */
 static int is_row(struct contents plan, size_t row)
@@ -36,9 +33,9 @@ static void report(size_t row, unsigned number, const char *words)
 static const char *reason(unsigned number)
 {
     switch (number) {
-    case SHORT_PLAN:
+    case MP_SHORT_BUFFER:
         return "the plan has fewer than 648 bytes; the image file is as it was";
-    case BAD_LAYOUT:
+    case MP_UNSOUND:
         return "the layout of the image is bad; the image file is as it was";
     default:
         return "the row is not landable on this image; the image file is as it was";
@@ -56,7 +53,7 @@ static size_t land_rows(struct contents image, struct contents plan)
     size_t row = 0;
     do {
         unsigned number = mp_number(mp_land(image.bytes, image.len, plan.bytes, plan.len, row));
-        if (number == NOT_LANDABLE && !is_row(plan, row)) {
+        if (number == MP_BAD_ROW && !is_row(plan, row)) {
             report(row, number, ", and the plan has no rows");
             return 0;
         }

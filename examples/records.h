@@ -12,6 +12,8 @@
 
 #define _POSIX_C_SOURCE 200809L
 
+#include "mirepillar.h"
+
 #include <errno.h>
 #include <fcntl.h>
 #include <stdint.h>
@@ -21,7 +23,7 @@
 #include <unistd.h>
 
 /* No image is longer than LONGEST_IMAGE. */
-enum { LONGEST_IMAGE = 53448, PLAN_BYTES = 648, HEADER_BYTES = 8, GROUPS = 4 };
+enum { LONGEST_IMAGE = MP_LONGEST_IMAGE, PLAN_BYTES = MP_PLAN_BYTES, HEADER_BYTES = 8, GROUPS = 4 };
 /* Exit statuses. After REFUSED and UNUSABLE the image file is as it was. */
 enum { REFUSED = 1, UNUSABLE = 2, UNFINISHED = 3 };
 

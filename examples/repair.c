@@ -20,7 +20,7 @@
 #include "records.h"
 #include "request.h"
 
-enum { FIRST_ROW = 8, MOST_ROWS = 9, DECIDING_GROUP = 2, OTHER_IMAGE = 4 };
+enum { FIRST_ROW = 8, MOST_ROWS = MP_PLAN_ROWS, DECIDING_GROUP = 2, OTHER_IMAGE = 4 };
 
 static void said(int printed)
 {

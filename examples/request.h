@@ -5,8 +5,6 @@
 #ifndef REQUEST_H
 #define REQUEST_H
 
-#include "mirepillar.h"
-
 /* A decimal number of digits alone, and at most that. */
 static uint64_t number_of(const char *name, const char *text, uint64_t most)
 {

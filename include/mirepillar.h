@@ -5,6 +5,10 @@
  * may be NULL. Any bytes may be given: no function asks for more than buffers that do not overlap.
  *
  * Every function gives one 64-bit result; an accessor below takes out each part of it.
+ *
+ * The functions keep nothing between calls: any threads may call them at once, as long as no buffer
+ * that one call writes is given to another. They take no memory from the heap, open no file and do
+ * not sleep. Beside their buffers they need less than 16 KB of stack, as measured on x86-64.
  */
 #ifndef MIREPILLAR_H
 #define MIREPILLAR_H
@@ -15,6 +19,38 @@
 #ifdef __cplusplus
 extern "C" {
 #endif
+
+/* Bytes and rows of a plan, and the bytes of the longest image. */
+enum { MP_PLAN_BYTES = 648, MP_PLAN_ROWS = 9, MP_LONGEST_IMAGE = 53448 };
+
+/*
+ * The numbers that tell how a job went; which of them a job answers is told with it. The errors of
+ * POSIX are numbered as on Linux, whatever <errno.h> says on the host.
+ */
+enum {
+    MP_DONE = 0,
+    MP_EPERM = 1,
+    MP_ENOENT = 2,
+    MP_EBADF = 9,
+    MP_EACCES = 13,
+    MP_EBUSY = 16,
+    MP_EXDEV = 18,
+    MP_ENOTDIR = 20,
+    MP_EISDIR = 21,
+    MP_EINVAL = 22,
+    MP_ENOSPC = 28,
+    MP_EROFS = 30,
+    MP_EMLINK = 31,
+    MP_ENAMETOOLONG = 36,
+    MP_ENOTEMPTY = 39,
+    MP_ELOOP = 40,
+    MP_UNSOUND = 201,        /* the image is not consistent */
+    MP_WRONG_REQUEST = 202,  /* the current directory is none, or a path has a byte 0 */
+    MP_PENDING = 203,        /* the journal record is not zero: repair first */
+    MP_NOT_REPAIRABLE = 204, /* the journal record does not fit, or its outcome is not consistent */
+    MP_SHORT_BUFFER = 205,   /* a plan buffer under 648 bytes, or a scratch shorter than the image */
+    MP_BAD_ROW = 207         /* no plan has such a row, or it covers no record */
+};
 
 /* The number that tells how the job went: bits 0 to 7 of a result. */
 static inline uint8_t mp_number(uint64_t result)
