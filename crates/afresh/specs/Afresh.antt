@@ -14,7 +14,7 @@ use Rattle.layout.specs.Contents.{Laid}
 use Rattle.layout.specs.Record.{record-length}
 use Rattle.layout.specs.Fields.{inodeKind}
 use Rattle.layout.specs.View.{viewOf, inodeAt, entryAt}
-use Rattle.encode.specs.Journal.{absent}
+use Rattle.layout.specs.Limits.{absent}
 use Rattle.plan.specs.Write.{Write, inodeKey}
 use Rattle.edits.specs.Written.{same-entry}
 use Rattle.results.specs.declared.Move.{Move}

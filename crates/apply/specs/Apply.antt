@@ -7,20 +7,11 @@ use lib.Dec.{eqb, ltb}
 use lib.ListN.{length}
 use borrow.Author.Tests.{lt-ltb, le-ltb}
 use Rattle.seq.specs.Bytes.{put}
+use Rattle.layout.specs.Errno.{shortBuffer, inconsistent, badRow}
 use Rattle.layout.specs.declared.Shape.{Shape}
 use Rattle.layout.specs.Contents.{layoutGood, shapeOf, Read}
 use Rattle.plan.specs.Form.{Row, planBytes, rowOffset, rowAt}
 use Rattle.plan.specs.Fit.{applicable}
-
--- the numbers of the refusals
-abbrev pub shortPlan : ℕ
-shortPlan = 205
-
-abbrev pub badLayout : ℕ
-badLayout = 201
-
-abbrev pub badRow : ℕ
-badRow = 207
 
 -- rule 97: the number where the plan is long enough and the layout good
 abbrev pub rowNumber : Shape → List ℕ → ℕ → ℕ
@@ -29,7 +20,7 @@ rowNumber h plan i = cond (applicable h plan i) 0 badRow
 -- rules 94 to 97: the first refusal that applies, in this order (applying is the papers' landing)
 unfoldable pub applyNumber : List ℕ → List ℕ → ℕ → ℕ
 applyNumber image plan i =
-    cond (ltb (length plan) planBytes) shortPlan (cond (layoutGood image) (rowNumber (shapeOf image) plan i) badLayout)
+    cond (ltb (length plan) planBytes) shortBuffer (cond (layoutGood image) (rowNumber (shapeOf image) plan i) inconsistent)
 
 -- rule 101: the row's body in its place; every other byte is as before
 abbrev pub applied : List ℕ → Row → List ℕ
@@ -45,12 +36,12 @@ rowImage h image plan i = cond (applicable h plan i) (applied image (rowAt plan 
 
 -- the ways out of the job
 module _ (image plan : List ℕ) (i : ℕ) where
-  pub apply-short : length plan < planBytes → (applyNumber image plan i ≡ shortPlan) × (appliedImage image plan i ≡ image)
+  pub apply-short : length plan < planBytes → (applyNumber image plan i ≡ shortBuffer) × (appliedImage image plan i ≡ image)
   unfolding appliedImage applyNumber
   apply-short short = (rw (lt-ltb _ _ short), rw (lt-ltb _ _ short))
 
   module _ (long : planBytes ≤ length plan) where
-    pub apply-bad : layoutGood image ≡ false → (applyNumber image plan i ≡ badLayout) × (appliedImage image plan i ≡ image)
+    pub apply-bad : layoutGood image ≡ false → (applyNumber image plan i ≡ inconsistent) × (appliedImage image plan i ≡ image)
     unfolding appliedImage applyNumber
     apply-bad bad = (rw (le-ltb _ _ long, bad), rw (le-ltb _ _ long, bad))
 

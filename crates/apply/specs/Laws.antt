@@ -17,7 +17,8 @@ use Rattle.layout.specs.Commute.{store-shape, store-layout, store-swap}
 use Rattle.plan.specs.Form.{Row, planRows, planBytes, bodyAt, rowLength, rowOffset, rowAt}
 use Rattle.plan.specs.Rows.{Stands}
 use Rattle.plan.specs.Fit.{Covered, Applicable, Writes, applicable, rowFor, applicable-is, is-applicable, applicable-fits, stands-applicable, written-fits}
-use Rattle.apply.specs.Apply.{shortPlan, badLayout, badRow, applyNumber, applied, appliedImage}
+use Rattle.apply.specs.Apply.{applyNumber, applied, appliedImage}
+use Rattle.layout.specs.Errno.{shortBuffer, inconsistent, badRow}
 
 -- What it takes for the job to answer 0.
 pub record Applies (image plan : List ℕ) (i : ℕ) : Type 0 where
@@ -34,7 +35,7 @@ unfolding applyNumber
 zero-applies image plan i e = go (ltb (length plan) planBytes) (layoutGood image) (applicable (shapeOf image) plan i) refl refl refl e
   where
     go : (a b c : Bool) → ltb (length plan) planBytes ≡ a → layoutGood image ≡ b → applicable (shapeOf image) plan i ≡ c
-        → cond a shortPlan (cond b (cond c 0 badRow) badLayout) ≡ 0 → Applies image plan i
+        → cond a shortBuffer (cond b (cond c 0 badRow) inconsistent) ≡ 0 → Applies image plan i
     go true b c ea eb ec z = absurd (omega arith)
     go false false c ea eb ec z = absurd (omega arith)
     go false true false ea eb ec z = absurd (omega arith)

@@ -1,6 +1,7 @@
 // Applying one row of a plan to an image: the job land.
 use layout::Shape;
 use layout::contents::Contents;
+use layout::errno;
 ghost use mathlib.Core.Path.{_≡_};
 ghost use Prim.Native.Nat.{_<_, _≤_};
 ghost use lib.ListN.{length};
@@ -21,7 +22,7 @@ fn row_fits(h: Shape, plan: &[u8], i: usize) -> bool
     if group < 1 {
         return false;
     }
-    if 4 < group {
+    if plan::LAST_GROUP < group {
         return false;
     }
     sections::covers(h, plan::offset(plan, i), plan::length(plan, i))
@@ -32,14 +33,14 @@ pub fn applicable(h: Shape, plan: &[u8], row: u64) -> bool
     requires { ⌜ Bounded h × (planBytes ≤ length (now plan)) ⌝ }
     ensures { λ r. ⌜ r ≡ applicable h (now (plan .entry)) row ⌝ }
 {
-    if 9 <= row {
+    if plan::ROWS as u64 <= row {
         return false;
     }
     let i = row as usize;
     if plan::blank(plan, i) != 0 {
         return false;
     }
-    if plan::position(plan, i) != 72 + 64 * i {
+    if plan::position(plan, i) != plan::BODIES_AT + plan::BODY_BYTES * i {
         return false;
     }
     row_fits(h, plan, i)
@@ -51,7 +52,7 @@ fn apply_row(image: &mut [u8], h: Shape, plan: &[u8], row: u64) -> u8
     ensures { λ r. ⌜ (r ≡ rowNumber h (now (plan .entry)) row) × (now (image .exit) ≡ rowImage h (now (image .entry)) (now (plan .entry)) row) ⌝ }
 {
     if !applicable(h, plan, row) {
-        return 207;
+        return errno::BAD_ROW;
     }
     let i = row as usize;
     layout::bytes::copy(image, plan::offset(plan, i), plan::body(plan, i));
@@ -62,12 +63,12 @@ fn apply_row(image: &mut [u8], h: Shape, plan: &[u8], row: u64) -> u8
 pub fn land(image: &mut [u8], plan: &[u8], row: u64) -> u8
     ensures { λ r. ⌜ (r ≡ applyNumber (now (image .entry)) (now (plan .entry)) row) × (now (image .exit) ≡ appliedImage (now (image .entry)) (now (plan .entry)) row) ⌝ }
 {
-    if plan.len() < 648 {
-        return 205;
+    if plan.len() < plan::BYTES {
+        return errno::SHORT_BUFFER;
     }
     let found = layout::contents::read(image);
     match found {
-        Contents::Bad => 201,
+        Contents::Bad => errno::INCONSISTENT,
         Contents::Good(h) => apply_row(image, h, plan, row),
     }
 }

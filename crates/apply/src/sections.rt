@@ -1,5 +1,6 @@
 // The sections by number, and the record that a range of the image is.
 use layout::Shape;
+use layout::limits;
 ghost use mathlib.Core.Path.{_≡_};
 ghost use mathlib.Core.Bool.{_&&_};
 ghost use Prim.Native.Nat.{_<_, _≤_};
@@ -12,11 +13,11 @@ fn record_bytes(h: Shape, k: usize) -> usize
     ensures { λ r. ⌜ r ≡ recordBytes h k ⌝ }
 {
     match k {
-        0 => 32,
+        0 => limits::INODE_BYTES,
         1 => h.width,
-        2 => 64,
-        3 => 8,
-        _ => 32,
+        2 => limits::TEXT_BYTES,
+        3 => limits::HANDLE_BYTES,
+        _ => limits::JOURNAL_BYTES,
     }
 }
 
@@ -77,7 +78,7 @@ pub fn covers(h: Shape, at: usize, n: usize) -> bool
     requires { ⌜ Bounded h ⌝ }
     ensures { λ r. ⌜ r ≡ covers h at n ⌝ }
 {
-    let mut start: usize = 40;
+    let mut start: usize = limits::CONTENTS_BYTES;
     let mut k: usize = 0;
     while k < 5 {
         let width = record_bytes(h, k);

@@ -10,7 +10,7 @@ use Rattle.seq.specs.Truth.{and-left, and-right, and-both}
 use Rattle.seq.specs.Search.{all, any-not, any-false, all-at, all-of}
 use Rattle.seq.specs.Number.{numberAt}
 use Rattle.layout.specs.declared.Shape.{Shape}
-use Rattle.layout.specs.Place.{contentsBytes}
+use Rattle.layout.specs.Limits.{contentsBytes}
 use Rattle.layout.specs.Contents.{fewest, rowIs, shapeOf, rowGood, rowsGood, layoutGood}
 use Rattle.layout.specs.View.{viewOf, isDirectory}
 use Rattle.names.specs.Name.{clash, hasDuplicate}

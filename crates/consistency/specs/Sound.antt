@@ -8,14 +8,15 @@ use Rattle.seq.specs.Truth.{implies}
 use Rattle.seq.specs.Search.{any, all}
 use Rattle.seq.specs.Bytes.{zeros, noZero}
 use Rattle.seq.specs.Number.{numberAt}
+use Rattle.layout.specs.Limits.{inodeSize, textSize, handleSize, entryHead, modeLimit, contentsBytes, linkLimit, textRoom}
 use Rattle.layout.specs.declared.Shape.{Shape}
-use Rattle.layout.specs.Place.{contentsBytes, base, imageBytes}
-use Rattle.layout.specs.Contents.{sectionName, fewest, most, nameIs, shapeOf}
+use Rattle.layout.specs.Place.{base, imageBytes}
+use Rattle.layout.specs.Contents.{sectionName, fewest, most, nameIs, widthOf, shapeOf}
 use Rattle.layout.specs.View.{View, viewOf, inodeAt, entryAt, textAt, handleAt, journalAt, nameRoom, isKind, isDirectory, isUsed, entryUsed, textUsed}
 use Rattle.names.specs.Name.{nameBytes, isDots, clash}
 use Rattle.tree.specs.Tree.{entriesOf, childDirectories, reaches}
-use Rattle.tree.specs.Inode.{linkLimit, textShared}
-use Rattle.consistency.specs.Others.{textRoom, textLinked, journalClear}
+use Rattle.tree.specs.Inode.{textShared}
+use Rattle.consistency.specs.Others.{textLinked, journalClear}
 
 -- all of a list of tests pass
 abbrev pub every : List Bool → Bool
@@ -31,7 +32,7 @@ module _ (s : List ℕ) where
 
   -- rules 2 and 3, of section k: by the counts as they stand
   abbrev pub sectionNamed : ℕ → Bool
-  sectionNamed k = nameIs s (8 * k) (sectionName k)
+  sectionNamed k = nameIs s (8 * k) (sectionName (widthOf s) k)
 
   abbrev pub sectionPlaced : ℕ → Bool
   sectionPlaced k = eqb (numberAt 2 s (8 * k + 4)) (base (shapeOf s) k)
@@ -42,7 +43,7 @@ module _ (s : List ℕ) where
 
   -- rule 5, of section k
   abbrev pub sectionCounted : ℕ → Bool
-  sectionCounted k = leb (fewest k) (numberAt 2 s (8 * k + 6)) && leb (numberAt 2 s (8 * k + 6)) (most k)
+  sectionCounted k = leb (fewest k) (numberAt 2 s (8 * k + 6)) && leb (numberAt 2 s (8 * k + 6)) (most (widthOf s) k)
 
   abbrev pub layoutRules : List Bool
   layoutRules = contentsThere ∷ all sectionNamed 5 ∷ all sectionPlaced 5 ∷ imageEnds ∷ all sectionCounted 5 ∷ []
@@ -95,7 +96,7 @@ module _ (h : Shape) (s : List ℕ) where
   -- rule 10, of an entry: the three bytes behind the length, and those behind the name
   abbrev pub entryZeros : ℕ → Bool
   entryZeros j =
-      implies (entryUsed v j) (zeros (entryAt h s j) 5 3 && zeros (entryAt h s j) (8 + v .nameLength j) (nameRoom h - v .nameLength j))
+      implies (entryUsed v j) (zeros (entryAt h s j) 5 3 && zeros (entryAt h s j) (entryHead + v .nameLength j) (nameRoom h - v .nameLength j))
 
   -- rules 11 and 12, of a text
   abbrev pub textShort : ℕ → Bool
@@ -110,20 +111,20 @@ module _ (h : Shape) (s : List ℕ) where
 
   -- rules 15 to 18: what is free is all zero (rule 14, of the journal record, is `journalClear`)
   abbrev pub inodeFree : ℕ → Bool
-  inodeFree i = implies (free v i) (zeros (inodeAt h s i) 0 32)
+  inodeFree i = implies (free v i) (zeros (inodeAt h s i) 0 inodeSize)
 
   abbrev pub entryFree : ℕ → Bool
   entryFree j = implies (not (entryUsed v j)) (zeros (entryAt h s j) 0 (h .width))
 
   abbrev pub textFree : ℕ → Bool
-  textFree t = implies (not (textUsed v t)) (zeros (textAt h s t) 0 64)
+  textFree t = implies (not (textUsed v t)) (zeros (textAt h s t) 0 textSize)
 
   abbrev pub handleClosed : ℕ → Bool
-  handleClosed n = implies (eqb (v .state n) 0) (zeros (handleAt h s n) 0 8)
+  handleClosed n = implies (eqb (v .state n) 0) (zeros (handleAt h s n) 0 handleSize)
 
   -- rules 19 and 20
   abbrev pub modeSmall : ℕ → Bool
-  modeSmall i = implies (known v i) (ltb (v .mode i) 4096)
+  modeSmall i = implies (known v i) (ltb (v .mode i) modeLimit)
 
   abbrev pub rootDirectory : Bool
   rootDirectory = isDirectory v 0

@@ -19,7 +19,8 @@ use Rattle.names.specs.Name.{nameBytes, isDots, nameGood, clash}
 use Rattle.tree.specs.Tree.{entriesOf, reaches, reaches-goal}
 use Rattle.tree.specs.Inode.{textShared}
 use Rattle.tree.specs.InodeFacts.{Leaf, File, Directory, Symlink, Inode}
-use Rattle.consistency.specs.Others.{textRoom, textLinked}
+use Rattle.consistency.specs.Others.{textLinked}
+use Rattle.layout.specs.Limits.{textRoom}
 use Rattle.consistency.specs.RecordFacts.{Linked, Used, Entry, Text, Open, Handle, Bodies}
 use Rattle.consistency.specs.Sound.{every, free, file, directory, symlink, leaf, known, opened, typeKnown, stateKnown, fileField, rootField, entryZeros, textShort, textZeros, handleZeros, inodeFree, entryFree, textFree, handleClosed, modeSmall, rootDirectory, targetBelowRoot, parentDirectory, targetUsed, nameShort, namePlain, nameNoDots, nameOnce, oneEntry, fieldParent, leadsToRoot, directoryCount, leafCount, leafLinked, linksWithin, systemShared, hasTextInUse, symlinkText, textOwn, textPlain, textHeld, handleInode, bodyRules, bodiesGood}
 

@@ -1,6 +1,8 @@
 // The consistency of an image, and the job check.
 use layout::Shape;
 use layout::contents::Contents;
+use layout::errno;
+use layout::limits;
 ghost use mathlib.Core.Path.{_≡_};
 ghost use Rattle.layout.specs.Contents.{Laid};
 ghost use Rattle.consistency.specs.Others.{journalClear};
@@ -39,7 +41,7 @@ pub fn journal_clear(s: &[u8], h: Shape) -> bool
     ensures { λ r. ⌜ r ≡ journalClear h (now (s .entry)) ⌝ }
 {
     let r = layout::records::journal(s, h);
-    layout::bytes::all_zero(r, 0, 32)
+    layout::bytes::all_zero(r, 0, limits::JOURNAL_BYTES)
 }
 
 // The number of an image with a good layout.
@@ -48,10 +50,10 @@ pub fn records_number(s: &[u8], h: Shape) -> u8
     ensures { λ r. ⌜ r ≡ recordsNumber h (now (s .entry)) ⌝ }
 {
     if !journal_clear(s, h) {
-        return 203;
+        return errno::JOURNAL_PENDING;
     }
     if !bodies_good(s, h) {
-        return 201;
+        return errno::INCONSISTENT;
     }
     0
 }
@@ -62,7 +64,7 @@ pub fn check(s: &[u8]) -> u8
 {
     let found = layout::contents::read(s);
     match found {
-        Contents::Bad => 201,
+        Contents::Bad => errno::INCONSISTENT,
         Contents::Good(h) => records_number(s, h),
     }
 }

@@ -1,5 +1,6 @@
 // Consistent symlink texts.
 use layout::Shape;
+use layout::limits;
 ghost use mathlib.Core.Path.{_≡_};
 ghost use Prim.Native.Nat.{_<_};
 ghost use Rattle.seq.specs.Search.{all};
@@ -30,10 +31,10 @@ fn good(s: &[u8], h: Shape, t: usize) -> bool
 {
     let r = layout::records::text(s, h, t);
     let n = layout::text::length(r);
-    if 63 < n {
+    if limits::TEXT_ROOM < n {
         return false;
     }
-    if !layout::bytes::all_zero(r, 1 + n, 63 - n) {
+    if !layout::bytes::all_zero(r, 1 + n, limits::TEXT_ROOM - n) {
         return false;
     }
     if !layout::bytes::no_zero(layout::text::bytes(r)) {

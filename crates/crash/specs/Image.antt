@@ -10,7 +10,8 @@ use borrow.Author.Tests.{lt-ltb, ltb-true, not-true}
 use Rattle.seq.specs.Truth.{to-T, of-T, and-left, and-right, and-both}
 use Rattle.seq.specs.Bytes.{part}
 use Rattle.layout.specs.declared.Shape.{Shape}
-use Rattle.layout.specs.Place.{Key, Valid, contentsBytes, records}
+use Rattle.layout.specs.Place.{Key, Valid, records}
+use Rattle.layout.specs.Limits.{contentsBytes}
 use Rattle.layout.specs.Contents.{Laid, Read, layoutGood, shapeOf, good-laid}
 use Rattle.layout.specs.Record.{recordAt, store, store-same, store-other, store-contents, same-image}
 use Rattle.layout.specs.Commute.{store-shape, store-layout}

@@ -13,8 +13,7 @@ use Rattle.seq.specs.Search.{any, first, first-passes, first-hit, first-le}
 use Rattle.seq.specs.Climb.{up}
 use Rattle.layout.specs.View.{View, isDirectory, entryUsed}
 use Rattle.tree.specs.Tree.{entriesOf}
-use Rattle.tree.specs.Inode.{linkLimit}
-use Rattle.encode.specs.Journal.{absent}
+use Rattle.layout.specs.Limits.{linkLimit, absent}
 use Rattle.paths.specs.declared.request.Request.{Request}
 use Rattle.paths.specs.Lookup.{isNamed, lookup-misses}
 use Rattle.component.specs.declared.state.Final.the-variants.{MustExist, MayBeMissing}

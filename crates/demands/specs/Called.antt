@@ -17,7 +17,7 @@ use Rattle.layout.specs.Record.{record-length}
 use Rattle.layout.specs.View.{View, viewOf, entryAt, nameRoom}
 use Rattle.names.specs.Name.{nameGood}
 use Rattle.consistency.specs.Facts.{Bodies}
-use Rattle.encode.specs.Journal.{absent}
+use Rattle.layout.specs.Limits.{absent}
 use Rattle.paths.specs.declared.request.Request.{Request}
 use Rattle.component.specs.declared.state.Final.the-variants.{MayBeMissing}
 use Rattle.component.specs.Step.{existing}

@@ -5,7 +5,7 @@ use mathlib.Core.List.{List, [], _∷_}
 use mathlib.Core.Option.{Option, none, some}
 use Prim.Native.Nat.{ℕ, zero, suc}
 use lib.Dec.{eqb}
-use Rattle.plan.specs.Form.{rowGroup}
+use Rattle.plan.specs.Form.{rowGroup, entryGroup}
 use Rattle.apply.specs.Apply.{applyNumber, appliedImage}
 use Rattle.journal.specs.Pick.{Picked, pick, null}
 use Rattle.journal.specs.Turn.{lowest}
@@ -96,10 +96,6 @@ run x (e ∷ es) = run (step x e) es
 -- rule 112: at first the rows of the rename's plan wait, on the image that it was planned on
 abbrev pub first : List ℕ → List ℕ → State
 first s plan = record { image = s; waiting = jobsIn plan; whose = rename; applied = []; done = false }
-
--- rule 116: the new entry has been applied if the rename's row of group 2 has
-abbrev pub entryGroup : ℕ
-entryGroup = 2
 
 abbrev pub hasEntry : List Job → Bool
 hasEntry [] = false

@@ -14,18 +14,19 @@ use Rattle.component.specs.Ways.{componentNumber}
 use Rattle.walk.specs.Walk.{haltNumber}
 use Rattle.walk.specs.Ends.{walkNumber}
 use Rattle.consistency.specs.Others.{journalClear}
-use Rattle.consistency.specs.Consistent.{bodiesGood, consistent, unsound, pending, recordsNumber, checkNumber}
+use Rattle.consistency.specs.Consistent.{bodiesGood, consistent, recordsNumber, checkNumber}
+use Rattle.layout.specs.Errno.{inconsistent, journalPending, shortBuffer, badRow}
 use Rattle.plan.specs.Form.{planBytes}
 use Rattle.plan.specs.Fit.{applicable}
 use Rattle.plan.specs.Write.{Write}
-use Rattle.apply.specs.Apply.{shortPlan, badLayout, badRow, applyNumber}
+use Rattle.apply.specs.Apply.{applyNumber}
 use Rattle.refusals.specs.declared.case.Answer.the-variants.{Planned}
 use Rattle.refusals.specs.Steps.{numberOf, decide}
 use Rattle.refusals.specs.Decide.{decide-number, decide-refused, decide-passed}
 use Rattle.rename.specs.Order.{early, late, order}
 use Rattle.rename.specs.Job.{renamed}
 use Rattle.recover.specs.Recover.{pendingRows}
-use Rattle.recover.specs.Job.{tooShort, refused, done, byRows, recovered}
+use Rattle.recover.specs.Job.{refused, done, byRows, recovered}
 use Rattle.demands.specs.Begun.{old-facts, new-facts}
 
 -- a number of a list
@@ -51,7 +52,7 @@ pub check-listed : (s : List ℕ) → among checkNumbers (checkNumber s) ≡ tru
 unfolding checkNumber recordsNumber
 check-listed s = go (layoutGood s) (journalClear (shapeOf s) s) (bodiesGood (shapeOf s) s)
   where
-    go : (a b c : Bool) → among checkNumbers (cond a (cond b (cond c 0 unsound) pending) unsound) ≡ true
+    go : (a b c : Bool) → among checkNumbers (cond a (cond b (cond c 0 inconsistent) journalPending) inconsistent) ≡ true
     go true true true = refl
     go true true false = refl
     go true false c = refl
@@ -61,7 +62,7 @@ pub land-listed : (image plan : List ℕ) (row : ℕ) → among landNumbers (app
 unfolding applyNumber
 land-listed image plan row = go (ltb (length plan) planBytes) (layoutGood image) (applicable (shapeOf image) plan row)
   where
-    go : (a b c : Bool) → among landNumbers (cond a shortPlan (cond b (cond c 0 badRow) badLayout)) ≡ true
+    go : (a b c : Bool) → among landNumbers (cond a shortBuffer (cond b (cond c 0 badRow) inconsistent)) ≡ true
     go true b c = refl
     go false true true = refl
     go false true false = refl
@@ -74,9 +75,9 @@ repair-listed plan scratch image =
     go (ltb (length plan) planBytes || ltb (length scratch) (length image)) (layoutGood image) (journalClear h image) (consistent image) (pendingRows h image)
   where
     go : (a b c d : Bool) (o : Option (List Write))
-        → among repairNumbers (cond a (refused plan scratch image tooShort) (cond b
-        (cond c (cond d (done plan scratch image (shapeOf image) []) (refused plan scratch image unsound)) (byRows plan scratch image (shapeOf image) o))
-        (refused plan scratch image unsound)) .number) ≡ true
+        → among repairNumbers (cond a (refused plan scratch image shortBuffer) (cond b
+        (cond c (cond d (done plan scratch image (shapeOf image) []) (refused plan scratch image inconsistent)) (byRows plan scratch image (shapeOf image) o))
+        (refused plan scratch image inconsistent)) .number) ≡ true
     go true b c d o = refl
     go false false c d o = refl
     go false true true true o = refl

@@ -7,6 +7,7 @@ use lib.Dec.{eqb}
 use lib.ListN.{length}
 use borrow.Author.Tests.{le-ltb, eq-eqb}
 use Rattle.seq.specs.Number.{span}
+use Rattle.layout.specs.Errno.{wrongRequest}
 use Rattle.layout.specs.Contents.{shapeOf}
 use Rattle.layout.specs.View.{viewOf}
 use Rattle.consistency.specs.Consistent.{checkNumber, checked-consistent}
@@ -39,7 +40,7 @@ pub record Given (s plan : List ℕ) (q : Request) : Type 0 where
 module _ (s plan : List ℕ) (q : Request) (old new : List ℕ) where
   -- on a consistent image: the request's own test, old's walk, new's walk, and steps 1 to 13
   abbrev pub refusals : List Rule
-  refusals = refuse (not (requestGood (viewOf (shapeOf s) s) q old new)) 202 ∷ late s plan q old new
+  refusals = refuse (not (requestGood (viewOf (shapeOf s) s) q old new)) wrongRequest ∷ late s plan q old new
 
   -- the finished image: the one before with the new entry, the old one cleared, and the results
   abbrev pub finishedImage : List ℕ

@@ -6,7 +6,7 @@ use mathlib.Core.Option.{Option, none, some}
 use Prim.Native.Nat.{ℕ, zero, suc}
 use lib.Dec.{eqb}
 use Rattle.layout.specs.declared.Shape.{Shape}
-use Rattle.plan.specs.Form.{rowAt}
+use Rattle.plan.specs.Form.{rowAt, entryGroup}
 use Rattle.apply.specs.Apply.{applyNumber}
 use Rattle.journal.specs.Pick.{All, Picked, pick}
 use Rattle.journal.specs.Turn.{lowest}
@@ -19,7 +19,7 @@ use Rattle.recover.specs.Job.{recovered}
 use Rattle.results.specs.declared.Move.{Move}
 use Rattle.replay.specs.Safe.{renameJobs}
 use Rattle.journal.specs.Events as theory
-use Rattle.demands.specs.Crashes.{Event, apply, refused, crash, Whose, rename, recovery, nobody, State, groupOf, taken, atPlace, tried, answered, step, run, entryGroup, hasEntry}
+use Rattle.demands.specs.Crashes.{Event, apply, refused, crash, Whose, rename, recovery, nobody, State, groupOf, taken, atPlace, tried, answered, step, run, hasEntry}
 
 -- what waits, by whose it is
 abbrev pub phase : Whose → theory.Phase

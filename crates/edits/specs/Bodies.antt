@@ -14,7 +14,8 @@ use Rattle.seq.specs.Climb.{up}
 use Rattle.layout.specs.declared.Shape.{Shape}
 use Rattle.layout.specs.View.{View, viewOf, isSymlink}
 use Rattle.tree.specs.Tree.{reaches-goal}
-use Rattle.tree.specs.Inode.{linkLimit, hasText, textShared}
+use Rattle.tree.specs.Inode.{hasText, textShared}
+use Rattle.layout.specs.Limits.{linkLimit}
 use Rattle.tree.specs.InodeFacts.{Leaf, File, Directory, Symlink, Inode}
 use Rattle.consistency.specs.Others.{textLinked}
 use Rattle.consistency.specs.RecordFacts.{Linked, Entry, Text, Handle}

@@ -8,7 +8,7 @@ use Rattle.seq.specs.Count.{count-some}
 use Rattle.seq.specs.Climb.{up, no-circle}
 use Rattle.layout.specs.View.{View}
 use Rattle.tree.specs.Tree.{targets, entriesOf, childDirectories}
-use Rattle.tree.specs.Inode.{linkLimit}
+use Rattle.layout.specs.Limits.{linkLimit}
 use Rattle.edits.specs.Kinds.{IsKind, IsDirectory, IsSymlink, IsUsed, IsLeaf, EntryUsed, TextUsed, HandleOpen}
 use Rattle.edits.specs.Tests.{targets-is}
 

@@ -9,7 +9,7 @@ use Rattle.seq.specs.Count.{Off, On, bit, bit-le, on-or-off, count-zero, count-
 use Rattle.seq.specs.Climb.{up}
 use Rattle.layout.specs.View.{View}
 use Rattle.tree.specs.Tree.{targets, entriesOf, holdsDirectory, childDirectories}
-use Rattle.tree.specs.Inode.{linkLimit}
+use Rattle.layout.specs.Limits.{linkLimit}
 use Rattle.edits.specs.Kinds.{IsDirectory, IsUsed, IsLeaf, EntryUsed, HandleOpen, directory-used, kind?, entry-used?}
 use Rattle.edits.specs.Tests.{is-targets, no-targets, same-target, is-holds, no-holds}
 use Rattle.edits.specs.ConsistentView.{EntryLinked, ConsistentView, not-above-parent}

@@ -8,7 +8,7 @@ use Rattle.seq.specs.Bytes.{zeros, noZero}
 use Rattle.layout.specs.declared.Shape.{Shape}
 use Rattle.layout.specs.View.{viewOf, nameRoom, inodeAt, entryAt, textAt, handleAt}
 use Rattle.names.specs.Name.{nameGood}
-use Rattle.consistency.specs.Others.{textRoom}
+use Rattle.layout.specs.Limits.{textRoom}
 
 -- an entry in use
 pub record EntryForm (h : Shape) (s : List ℕ) (j : ℕ) : Type 0 where

@@ -8,7 +8,7 @@ use native.Mathlib.Decide.{ℕ-discrete}
 use Rattle.seq.specs.Climb.{up}
 use Rattle.layout.specs.View.{View}
 use Rattle.tree.specs.Tree.{entriesOf, childDirectories}
-use Rattle.tree.specs.Inode.{linkLimit}
+use Rattle.layout.specs.Limits.{linkLimit}
 use Rattle.edits.specs.Kinds.{IsDirectory, IsSymlink, EntryUsed, HandleOpen, entry-used?}
 use Rattle.edits.specs.Edit.{SameEntry, SameInode, SameHandle, SameSize}
 

@@ -8,7 +8,7 @@ use Rattle.seq.specs.Count.{On, bits}
 use Rattle.seq.specs.Climb.{up}
 use Rattle.layout.specs.View.{View}
 use Rattle.tree.specs.Tree.{targets, entriesOf, holdsDirectory, childDirectories}
-use Rattle.tree.specs.Inode.{linkLimit}
+use Rattle.layout.specs.Limits.{linkLimit}
 use Rattle.edits.specs.Kinds.{IsKind, IsDirectory, IsUsed, IsLeaf, EntryUsed, HandleOpen, directory-used, kind?}
 use Rattle.edits.specs.ConsistentView.{EntryLinked, Placed, Counted, ConsistentView}
 use Rattle.edits.specs.Edit.{kept, was, entries-edited, distinct-edited}

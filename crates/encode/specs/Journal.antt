@@ -12,10 +12,6 @@ use Rattle.seq.specs.Number.{numberAt, span, bytesOf, number-bytes}
 use Rattle.layout.specs.Fields.{journalMark, journalOldSlot, journalNewSlot, journalMoved, journalReplaced, journalOldParent, journalText, journalTime}
 use Rattle.encode.specs.declared.journal.Journal.{Journal}
 
--- form H: the number that names no replaced inode and no text
-abbrev pub absent : ℕ
-absent = 65535
-
 -- form H: what a journal record says; its second byte is the operation's kind, 0 for a rename
 unfoldable pub journalOf : List ℕ → Journal
 journalOf r = record {

@@ -1,5 +1,6 @@
 // Where the records of each section begin, in an image whose length the machine can count.
 use crate::Shape;
+use crate::limits;
 ghost use mathlib.Core.Path.{_≡_};
 ghost use Prim.Native.Nat.{_<_};
 ghost use Rattle.seq.specs.Number.{span};
@@ -9,33 +10,44 @@ pub fn inode(h: Shape, i: usize) -> usize
     requires { ⌜ (imageBytes h < span 8) × (i < h .inodes) ⌝ }
     ensures { λ r. ⌜ r ≡ place h 0 i ⌝ }
 {
-    40 + 32 * i
+    limits::CONTENTS_BYTES + limits::INODE_BYTES * i
 }
 
 pub fn entry(h: Shape, j: usize) -> usize
     requires { ⌜ (imageBytes h < span 8) × (j < h .entries) ⌝ }
     ensures { λ r. ⌜ r ≡ place h 1 j ⌝ }
 {
-    40 + 32 * h.inodes + h.width * j
+    limits::CONTENTS_BYTES + limits::INODE_BYTES * h.inodes + h.width * j
 }
 
 pub fn text(h: Shape, t: usize) -> usize
     requires { ⌜ (imageBytes h < span 8) × (t < h .texts) ⌝ }
     ensures { λ r. ⌜ r ≡ place h 2 t ⌝ }
 {
-    40 + 32 * h.inodes + h.width * h.entries + 64 * t
+    limits::CONTENTS_BYTES
+        + limits::INODE_BYTES * h.inodes
+        + h.width * h.entries
+        + limits::TEXT_BYTES * t
 }
 
 pub fn handle(h: Shape, n: usize) -> usize
     requires { ⌜ (imageBytes h < span 8) × (n < h .handles) ⌝ }
     ensures { λ r. ⌜ r ≡ place h 3 n ⌝ }
 {
-    40 + 32 * h.inodes + h.width * h.entries + 64 * h.texts + 8 * n
+    limits::CONTENTS_BYTES
+        + limits::INODE_BYTES * h.inodes
+        + h.width * h.entries
+        + limits::TEXT_BYTES * h.texts
+        + limits::HANDLE_BYTES * n
 }
 
 pub fn journal(h: Shape) -> usize
     requires { ⌜ imageBytes h < span 8 ⌝ }
     ensures { λ r. ⌜ r ≡ place h 4 0 ⌝ }
 {
-    40 + 32 * h.inodes + h.width * h.entries + 64 * h.texts + 8 * h.handles
+    limits::CONTENTS_BYTES
+        + limits::INODE_BYTES * h.inodes
+        + h.width * h.entries
+        + limits::TEXT_BYTES * h.texts
+        + limits::HANDLE_BYTES * h.handles
 }

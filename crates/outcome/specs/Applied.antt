@@ -6,7 +6,7 @@ use native.Mathlib.Omega.{arith}
 use lib.Dec.{lit≤}
 use lib.ListN.{length, length-append}
 use Rattle.layout.specs.declared.Shape.{Shape}
-use Rattle.plan.specs.Form.{planRows, planBytes, rowCount}
+use Rattle.plan.specs.Form.{planRows, planBytes, rowCount, resultGroup}
 use Rattle.plan.specs.Write.{Write}
 use Rattle.journal.specs.Pick.{All, all-join, all-map}
 use Rattle.journal.specs.Store.{putAll}
@@ -17,7 +17,7 @@ use Rattle.crash.specs.Rows.{jobsIn, plan-count}
 use Rattle.crash.specs.Operation.{rowsIn}
 use Rattle.crash.specs.Safe.{planned-whole, planned-in-order}
 use Rattle.results.specs.declared.Move.{Move}
-use Rattle.results.specs.Results.{resultGroup, results, clearRow}
+use Rattle.results.specs.Results.{results, clearRow}
 use Rattle.results.specs.Rows.{results-le}
 use Rattle.rename.specs.Plan.{renameRows, planned}
 use Rattle.outcome.specs.Outcome.{renamePlan, finished, rename-rows, rename-planned}

@@ -12,7 +12,7 @@ use Rattle.layout.specs.Record.{recordAt}
 use Rattle.layout.specs.View.{viewOf}
 use Rattle.layout.specs.Bench.{bench}
 use Rattle.names.specs.Name.{nameBytes, isDots, nameGood}
-use Rattle.encode.specs.Journal.{absent}
+use Rattle.layout.specs.Limits.{absent}
 use Rattle.consistency.specs.Consistent.{checkNumber}
 use Rattle.consistency.specs.Facts.{Consistent, consistent-is}
 use Rattle.consistency.specs.Bench.{bench-consistent}

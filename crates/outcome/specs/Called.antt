@@ -20,7 +20,7 @@ use Rattle.layout.specs.Record.{record-length}
 use Rattle.layout.specs.View.{View, viewOf, entryAt, journalAt, entryUsed, isSymlink, nameRoom}
 use Rattle.names.specs.Name.{nameGood}
 use Rattle.encode.specs.Entry.{entryBytes, retargeted, Names}
-use Rattle.encode.specs.Journal.{absent}
+use Rattle.layout.specs.Limits.{absent}
 use Rattle.consistency.specs.Others.{journalClear}
 use Rattle.consistency.specs.Facts.{Bodies}
 use Rattle.edits.specs.Kinds.{IsSymlink, EntryUsed}

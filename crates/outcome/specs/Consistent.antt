@@ -15,7 +15,7 @@ use Rattle.layout.specs.Contents.{Read}
 use Rattle.layout.specs.View.{View, viewOf, inodeAt, textAt}
 use Rattle.tree.specs.Tree.{targets, entriesOf, childDirectories}
 use Rattle.encode.specs.Inode.{Says, says-itself}
-use Rattle.encode.specs.Journal.{absent}
+use Rattle.layout.specs.Limits.{absent}
 use Rattle.consistency.specs.Others.{journalClear}
 use Rattle.consistency.specs.Facts.{Bodies, is-consistent}
 use Rattle.consistency.specs.Consistent.{consistent, checkNumber, consistent-checked}

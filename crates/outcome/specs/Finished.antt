@@ -12,7 +12,7 @@ use Rattle.layout.specs.declared.Shape.{Shape}
 use Rattle.layout.specs.Place.{Key, Valid}
 use Rattle.layout.specs.Record.{recordAt}
 use Rattle.layout.specs.View.{inodeAt, entryAt, textAt, handleAt, journalAt}
-use Rattle.encode.specs.Journal.{absent}
+use Rattle.layout.specs.Limits.{absent}
 use Rattle.plan.specs.Write.{Write, inodeKey, entryKey, textKey, journalKey, other-section, other-index}
 use Rattle.journal.specs.Pick.{Has, any-left, any-right}
 use Rattle.journal.specs.Store.{Spares, all-ok, all-same, all-other}

@@ -12,7 +12,8 @@ use Rattle.layout.specs.declared.Shape.{Shape}
 use Rattle.layout.specs.Place.{Key}
 use Rattle.layout.specs.Record.{record-length}
 use Rattle.layout.specs.View.{viewOf, inodeAt}
-use Rattle.encode.specs.Journal.{absent, journal-length}
+use Rattle.encode.specs.Journal.{journal-length}
+use Rattle.layout.specs.Limits.{absent}
 use Rattle.edits.specs.Finished.{slots-differ, moved-not-from, moved-not-into}
 use Rattle.plan.specs.Write.{Write, AllWrites, inodeKey, entryKey, textKey, other-section, other-index}
 use Rattle.journal.specs.Pick.{All, all-join}
@@ -20,10 +21,11 @@ use Rattle.journal.specs.Store.{Distinct, Spares}
 use Rattle.journal.specs.Plan.{WellFormed}
 use Rattle.crash.specs.Image.{Fits, first-ok, images}
 use Rattle.results.specs.declared.Move.{Move}
-use Rattle.results.specs.Results.{present, clearGroup, when, linksAfter, oldRow, movedRow, holderRow, replacedRow, textRow, intoRows, replacedRows, textRows, results}
+use Rattle.results.specs.Results.{present, when, linksAfter, oldRow, movedRow, holderRow, replacedRow, textRow, intoRows, replacedRows, textRows, results}
+use Rattle.plan.specs.Form.{clearGroup, entryGroup}
 use Rattle.results.specs.Links.{links-le}
 use Rattle.results.specs.Owed.{results-write, clear-writes}
-use Rattle.rename.specs.Plan.{entryGroup, journalFor, journalRow, entryRow}
+use Rattle.rename.specs.Plan.{journalFor, journalRow, entryRow}
 use Rattle.outcome.specs.Outcome.{renamePlan}
 use Rattle.outcome.specs.Called.{Called, before-good, in-image, replaced-not-moved, replaced-not-from, replaced-not-into, entry-names, journal-zeros}
 

@@ -12,12 +12,8 @@ use Rattle.seq.specs.Search.{any, any-hit, any-at}
 use Rattle.layout.specs.declared.Shape.{Shape}
 use Rattle.layout.specs.Contents.{Laid, layoutGood, shapeOf, good-laid}
 use Rattle.layout.specs.Place.{Key, Valid, recordBytes, records, place, imageBytes, inside}
-use Rattle.plan.specs.Form.{Row, planRows, bodyBytes, planBytes, bodyAt, rowOf, rowGroup, rowBlank, rowLength, rowOffset, rowPosition, rowAt, rowPut}
+use Rattle.plan.specs.Form.{Row, planRows, bodyBytes, planBytes, bodyAt, rowOf, rowGroup, rowBlank, rowLength, rowOffset, rowPosition, rowAt, rowPut, lastGroup}
 use Rattle.plan.specs.Rows.{Formed, Stands, row-stands}
-
--- rule 98: the ordering groups, counted from 1
-abbrev pub lastGroup : ℕ
-lastGroup = 4
 
 abbrev pub groupGood : ℕ → Bool
 groupGood g = leb 1 g && leb g lastGroup

@@ -31,6 +31,22 @@ headerAt i = headerBytes * i
 abbrev pub bodyAt : ℕ → ℕ
 bodyAt i = bodiesAt + bodyBytes * i
 
+-- rules 84 and 85: the ordering groups of a plan's rows, counted from 1: the journal record set, the deciding entry, the results, the journal record cleared
+abbrev pub journalGroup : ℕ
+journalGroup = 1
+
+abbrev pub entryGroup : ℕ
+entryGroup = 2
+
+abbrev pub resultGroup : ℕ
+resultGroup = 3
+
+abbrev pub clearGroup : ℕ
+clearGroup = 4
+
+abbrev pub lastGroup : ℕ
+lastGroup = 4
+
 -- A row: its ordering group (the paper's group), where in the image it belongs, how many bytes it replaces there, and those bytes.
 pub record Row : Type 0 where
   pub group : ℕ

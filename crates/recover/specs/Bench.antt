@@ -15,7 +15,8 @@ use Rattle.names.specs.Name.{nameBytes, isDots, nameGood, clash}
 use Rattle.tree.specs.Tree.{entriesOf, childDirectories, reaches}
 use Rattle.tree.specs.Inode.{textShared}
 use Rattle.encode.specs.Entry.{retargeted}
-use Rattle.encode.specs.Journal.{absent, journalOf, journalFormed, journalHead, journalBytes}
+use Rattle.encode.specs.Journal.{journalOf, journalFormed, journalHead, journalBytes}
+use Rattle.layout.specs.Limits.{absent}
 use Rattle.consistency.specs.Others.{textLinked, journalClear}
 use Rattle.consistency.specs.Consistent.{bodiesGood, consistent}
 use Rattle.plan.specs.Form.{headerOf, rowPut, rowsPut, cleared, noRow, rowCount}

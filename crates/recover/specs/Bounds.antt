@@ -13,14 +13,15 @@ use Rattle.layout.specs.View.{viewOf, journalAt}
 use Rattle.encode.specs.declared.journal.Journal.{Journal}
 use Rattle.encode.specs.Journal.{journalOf, journalFormed}
 use Rattle.consistency.specs.Others.{journalClear}
-use Rattle.consistency.specs.Consistent.{consistent, unsound}
+use Rattle.consistency.specs.Consistent.{consistent}
+use Rattle.layout.specs.Errno.{inconsistent, shortBuffer}
 use Rattle.plan.specs.Form.{planRows, planBytes}
 use Rattle.plan.specs.Write.{Write, storeAll}
 use Rattle.results.specs.declared.Move.{Move}
 use Rattle.results.specs.Results.{results, clearRow}
 use Rattle.results.specs.Rows.{results-le}
 use Rattle.recover.specs.Recover.{renameFits, moveFrom, decided, intoGood, undoing, finishing, moveDraft, renameDraft, kindDraft, draft, ifConsistent, pendingRows, recover}
-use Rattle.recover.specs.Job.{Recovered, tooShort, refused, done, byRows, byJournal, recovered}
+use Rattle.recover.specs.Job.{Recovered, refused, done, byRows, byJournal, recovered}
 
 -- at most nine rows
 abbrev Few : Option (List Write) → Type 0
@@ -86,8 +87,8 @@ module _ (plan scratch x : List ℕ) where
   unfolding recovered
   recovered-few =
       let h = shapeOf x in
-      rows-cond (ltb (length plan) planBytes || ltb (length scratch) (length x)) (refused plan scratch x tooShort) _ (lit≤ tt)
-      (rows-cond (layoutGood x) (byJournal plan scratch x h) (refused plan scratch x unsound)
+      rows-cond (ltb (length plan) planBytes || ltb (length scratch) (length x)) (refused plan scratch x shortBuffer) _ (lit≤ tt)
+      (rows-cond (layoutGood x) (byJournal plan scratch x h) (refused plan scratch x inconsistent)
       (rows-cond (journalClear h x) _ (byRows plan scratch x h (pendingRows h x))
-      (rows-cond (consistent x) (done plan scratch x h []) (refused plan scratch x unsound) (lit≤ tt) (lit≤ tt)) (by-few h (pendingRows h x) (pending-few h x)))
+      (rows-cond (consistent x) (done plan scratch x h []) (refused plan scratch x inconsistent) (lit≤ tt) (lit≤ tt)) (by-few h (pendingRows h x) (pending-few h x)))
       (lit≤ tt))

@@ -14,7 +14,8 @@ use Rattle.layout.specs.declared.Shape.{Shape}
 use Rattle.layout.specs.Contents.{Laid}
 use Rattle.layout.specs.View.{viewOf, journalAt, isDirectory, isKind-below}
 use Rattle.encode.specs.declared.journal.Journal.{Journal}
-use Rattle.encode.specs.Journal.{absent, journalOf, journalFormed}
+use Rattle.encode.specs.Journal.{journalOf, journalFormed}
+use Rattle.layout.specs.Limits.{absent}
 use Rattle.plan.specs.Form.{planRows, rowPut}
 use Rattle.plan.specs.Write.{Write, AllWrites, writes-join, rowFrom, Filled, filled-one, filled-join}
 use Rattle.results.specs.declared.Move.{Move}

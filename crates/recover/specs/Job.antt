@@ -11,21 +11,15 @@ use lib.Dec.{ltb}
 use lib.ListN.{length, replicate}
 use borrow.Author.Tests.{le-ltb, lt-ltb}
 use Rattle.seq.specs.Bytes.{put}
+use Rattle.layout.specs.Errno.{shortBuffer, notRecoverable, inconsistent}
 use Rattle.layout.specs.declared.Shape.{Shape}
 use Rattle.layout.specs.Contents.{layoutGood, shapeOf, Read}
 use Rattle.consistency.specs.Others.{journalClear}
-use Rattle.consistency.specs.Consistent.{consistent, unsound}
+use Rattle.consistency.specs.Consistent.{consistent}
 use Rattle.plan.specs.Form.{planBytes, rowsPut, cleared}
 use Rattle.plan.specs.Write.{Write, rowsFrom, storeAll}
 use Rattle.recover.specs.declared.Answer.{Answer}
 use Rattle.recover.specs.Recover.{pendingRows, recover}
-
--- the numbers for buffers that are too short, and for an image that cannot be recovered
-abbrev pub tooShort : ℕ
-tooShort = 205
-
-abbrev pub notRecoverable : ℕ
-notRecoverable = 204
 
 -- What the job answers, and its buffers after it.
 pub record Recovered : Type 0 where
@@ -64,25 +58,25 @@ module _ (plan scratch x : List ℕ) where
 
   -- rule 103: by the journal record
   abbrev pub byJournal : Shape → Recovered
-  byJournal h = cond (journalClear h x) (cond (consistent x) (done h []) (refused unsound)) (byRows h (pendingRows h x))
+  byJournal h = cond (journalClear h x) (cond (consistent x) (done h []) (refused inconsistent)) (byRows h (pendingRows h x))
 
   -- rule 102: the buffers, and then the layout
   unfoldable pub recovered : Recovered
   recovered =
-      cond (ltb (length plan) planBytes || ltb (length scratch) (length x)) (refused tooShort)
-      (cond (layoutGood x) (byJournal (shapeOf x)) (refused unsound))
+      cond (ltb (length plan) planBytes || ltb (length scratch) (length x)) (refused shortBuffer)
+      (cond (layoutGood x) (byJournal (shapeOf x)) (refused inconsistent))
 
   -- ---- the ways out of the job
 
   -- buffers that are too short are refused
-  pub recovered-short : (length plan < planBytes) ⊎ (length scratch < length x) → recovered ≡ refused tooShort
+  pub recovered-short : (length plan < planBytes) ⊎ (length scratch < length x) → recovered ≡ refused shortBuffer
   unfolding recovered
   recovered-short = ⊎-elim (λ (l : length plan < planBytes). rw (lt-ltb _ _ l))
       (λ (l : length scratch < length x). rw (lt-ltb _ _ l, or-true (ltb (length plan) planBytes)))
 
   -- with buffers that are long enough
   module _ (long : planBytes ≤ length plan) (room : length x ≤ length scratch) where
-    pub recovered-layout : layoutGood x ≡ false → recovered ≡ refused unsound
+    pub recovered-layout : layoutGood x ≡ false → recovered ≡ refused inconsistent
     unfolding recovered
     recovered-layout bad = rw (le-ltb _ _ long, le-ltb _ _ room, bad)
 
@@ -99,7 +93,7 @@ module _ (plan scratch x : List ℕ) where
         differ e = let z : _≡_ {A = ℕ} 0 1 = cc in omega arith
 
         go : (a b : Bool) (o : Option (List Write)) → cond a (cond b (some []) none) o ≡ some ws
-            → cond a (cond b (done h []) (refused unsound)) (byRows h o) ≡ done h ws
+            → cond a (cond b (done h []) (refused inconsistent)) (byRows h o) ≡ done h ws
         go true true o e = ap (done h) (Option·some-injective _ _ e)
         go true false o e = absurd (differ e)
         go false b none e = absurd (differ e)

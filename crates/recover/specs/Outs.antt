@@ -14,7 +14,8 @@ use Rattle.seq.specs.Bytes.{put, put-eq, put-whole}
 use Rattle.layout.specs.declared.Shape.{Shape}
 use Rattle.layout.specs.Contents.{Read}
 use Rattle.consistency.specs.Others.{journalClear}
-use Rattle.consistency.specs.Consistent.{bodiesGood, consistent, unsound, checkNumber, checked-consistent, consistent-checked}
+use Rattle.consistency.specs.Consistent.{bodiesGood, consistent, checkNumber, checked-consistent, consistent-checked}
+use Rattle.layout.specs.Errno.{inconsistent, notRecoverable}
 use Rattle.plan.specs.Form.{planRows, planBytes, rowsPut, cleared}
 use Rattle.plan.specs.Many.{rows-length}
 use Rattle.plan.specs.Copied.{rows-copied}
@@ -22,7 +23,7 @@ use Rattle.plan.specs.Write.{Write, AllWrites, Filled, storeAll, rowsFrom}
 use Rattle.recover.specs.declared.Answer.{Answer}
 use Rattle.recover.specs.declared.draft.Draft.the-variants.{Unfit, Rows}
 use Rattle.recover.specs.Recover.{draft, ifConsistent, pendingRows}
-use Rattle.recover.specs.Job.{Recovered, answerOf, notRecoverable, outcomeOf, refused, done, byRows, byJournal, recovered}
+use Rattle.recover.specs.Job.{Recovered, answerOf, outcomeOf, refused, done, byRows, byJournal, recovered}
 use Rattle.recover.specs.Bounds.{draft-rows, recovered-few}
 use Rattle.recover.specs.Drafts.{Drafted}
 use Rattle.recover.specs.Fit.{draft-writes}
@@ -183,7 +184,7 @@ module _ (plan scratch x : List ℕ) (h : Shape) where
     unfolding consistent
     by-bodies = rw (read .good, ← read .shape, clear)
 
-    pub answers-unsound : bodiesGood h x ≡ false → Answers (byJournal plan scratch x h) (refusedBy unsound) plan scratch
+    pub answers-unsound : bodiesGood h x ≡ false → Answers (byJournal plan scratch x h) (refusedBy inconsistent) plan scratch
     answers-unsound bad = answers-as (record { is = refl; plan-is = refl; scratch-is = refl }) refl (rw (clear, by-bodies, bad))
 
     pub answers-nothing : bodiesGood h x ≡ true → {q z : List ℕ} → q ≡ cleared plan → z ≡ put scratch 0 x → Answers (byJournal plan scratch x h) (refusedBy 0) q z

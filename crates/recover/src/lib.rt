@@ -2,6 +2,7 @@
 use draft::Draft;
 use layout::Shape;
 use layout::contents::Contents;
+use layout::errno;
 ghost use mathlib.Core.Path.{_≡_};
 ghost use Prim.Native.Nat.{_≤_};
 ghost use lib.ListN.{length};
@@ -14,9 +15,6 @@ ghost use Rattle.recover.specs.Outs.{refusedBy, Ready, Answers};
 pub mod draft;
 pub mod outcome;
 pub mod renames;
-
-// The bytes of a plan.
-const PLAN_BYTES: usize = 648;
 
 // How the job is answered: its number, and how many rows the plan has.
 pub struct Answer {
@@ -46,7 +44,7 @@ fn settle(
     outcome::apply(scratch, draft, rows);
     if consistency::check(scratch) != 0 {
         encode::record::clear(scratch);
-        return refused(204);
+        return refused(errno::NOT_RECOVERABLE);
     }
     layout::bytes::copy(plan, 0, draft);
     Answer { number: 0, rows }
@@ -57,12 +55,12 @@ fn pending(s: &[u8], h: Shape, plan: &mut [u8], scratch: &mut [u8]) -> Answer
     requires { ⌜ Read (now s) h × (planBytes ≤ length (now plan)) × (length (now scratch) ≡ length (now s)) ⌝ }
     ensures { λ r. ⌜ Answers (byRows (now (plan .entry)) (now (scratch .entry)) (now (s .entry)) h (pendingRows h (now (s .entry)))) r (now (plan .exit)) (now (scratch .exit)) ⌝ }
 {
-    let mut draft = [0u8; 648];
+    let mut draft = [0u8; plan::BYTES];
     let found = draft::make(&mut draft, s, h);
     match found {
         Draft::Unfit => {
             encode::record::clear(scratch);
-            refused(204)
+            refused(errno::NOT_RECOVERABLE)
         }
         Draft::Rows(rows) => settle(s, h, rows, &draft, plan, scratch),
     }
@@ -78,7 +76,7 @@ fn by_journal(s: &[u8], h: Shape, plan: &mut [u8], scratch: &mut [u8]) -> Answer
         return pending(s, h, plan, &mut scratch[..n]);
     }
     if !consistency::bodies_good(s, h) {
-        return refused(201);
+        return refused(errno::INCONSISTENT);
     }
     plan::clear(plan);
     layout::bytes::copy(scratch, 0, s);
@@ -89,15 +87,15 @@ fn by_journal(s: &[u8], h: Shape, plan: &mut [u8], scratch: &mut [u8]) -> Answer
 pub fn recover(s: &[u8], plan: &mut [u8], scratch: &mut [u8]) -> Answer
     ensures { λ r. ⌜ Answers (recovered (now (plan .entry)) (now (scratch .entry)) (now (s .entry))) r (now (plan .exit)) (now (scratch .exit)) ⌝ }
 {
-    if plan.len() < PLAN_BYTES {
-        return refused(205);
+    if plan.len() < plan::BYTES {
+        return refused(errno::SHORT_BUFFER);
     }
     if scratch.len() < s.len() {
-        return refused(205);
+        return refused(errno::SHORT_BUFFER);
     }
     let found = layout::contents::read(s);
     match found {
-        Contents::Bad => refused(201),
+        Contents::Bad => refused(errno::INCONSISTENT),
         Contents::Good(h) => by_journal(s, h, plan, scratch),
     }
 }

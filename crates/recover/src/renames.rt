@@ -2,6 +2,7 @@
 use crate::draft::Draft;
 use encode::journal::Journal;
 use layout::Shape;
+use layout::limits;
 use results::Move;
 ghost use mathlib.Core.Path.{_≡_};
 ghost use Prim.Native.Nat.{_≤_, _<_};
@@ -14,13 +15,10 @@ ghost use Rattle.results.specs.Results.{InImage};
 ghost use Rattle.recover.specs.Recover.{belowOrAbsent, inRange, different, renameFits, moveFrom, decided, intoGood, finishing, renameDraft};
 ghost use Rattle.recover.specs.Drafts.{Drafted};
 
-// The number that names no replaced inode and no text.
-const ABSENT: usize = 65535;
-
 fn below_or_absent(i: usize, n: usize) -> bool
     ensures { λ r. ⌜ r ≡ belowOrAbsent i n ⌝ }
 {
-    if i == ABSENT {
+    if i == limits::ABSENT {
         return true;
     }
     i < n

@@ -9,8 +9,7 @@ use Rattle.seq.specs.Search.{any}
 use Rattle.layout.specs.Fields.{readOnly}
 use Rattle.layout.specs.View.{View, isDirectory, isUsed, entryUsed, handleOpen}
 use Rattle.tree.specs.Tree.{entriesOf, reaches}
-use Rattle.tree.specs.Inode.{linkLimit}
-use Rattle.encode.specs.Journal.{absent}
+use Rattle.layout.specs.Limits.{linkLimit, absent}
 use Rattle.paths.specs.declared.request.Credentials.{Credentials}
 use Rattle.paths.specs.Permission.{writeBit, allows}
 use Rattle.refusals.specs.declared.case.Case.{Case}

@@ -11,7 +11,7 @@ use Rattle.seq.specs.Truth.{not-both}
 use Rattle.layout.specs.declared.Shape.{Shape}
 use Rattle.layout.specs.Contents.{Laid}
 use Rattle.layout.specs.View.{View, viewOf, kindOf, isUsed, isDirectory, other-kind}
-use Rattle.encode.specs.Journal.{absent}
+use Rattle.layout.specs.Limits.{absent}
 use Rattle.refusals.specs.declared.case.Case.{Case}
 use Rattle.refusals.specs.Case.{CaseIn, exists, replacesOther, replacesDirectory, slashedFile, hasEntries, notEmpty}
 

@@ -2,6 +2,7 @@
 use mathlib.Core.Bool.{Bool, cond}
 use mathlib.Core.List.{List, [], _∷_, _++_}
 use Prim.Native.Nat.{ℕ}
+use Rattle.layout.specs.Errno.{EROFS, EXDEV, EBUSY, EACCES, EPERM, EINVAL, ENOTDIR, EISDIR, ENOTEMPTY, EMLINK, ENOSPC}
 use Rattle.layout.specs.View.{View}
 use Rattle.refusals.specs.declared.case.Case.{Case}
 use Rattle.refusals.specs.declared.case.Answer.{Answer}
@@ -31,27 +32,27 @@ module _ (v : View) (c : Case) where
   -- steps 2 to 7: what is asked of the parents
   abbrev pub parentRules : List Rule
   parentRules =
-      refuse (readOnlyParent v c) 30
-      ∷ refuse (otherSystem v c) 18
-      ∷ refuse (mounted v c) 16
-      ∷ refuse (parentDenied v c) 13
-      ∷ refuse (stickyDenied v (c .who) (c .from) (c .moved)) 1
-      ∷ refuse (insideItself v c) 22
+      refuse (readOnlyParent v c) EROFS
+      ∷ refuse (otherSystem v c) EXDEV
+      ∷ refuse (mounted v c) EBUSY
+      ∷ refuse (parentDenied v c) EACCES
+      ∷ refuse (stickyDenied v (c .who) (c .from) (c .moved)) EPERM
+      ∷ refuse (insideItself v c) EINVAL
       ∷ []
 
   -- steps 8 to 10: what is asked of the two types
   abbrev pub kindRules : List Rule
   kindRules =
-      refuse (replacesOther v c) 20
-      ∷ refuse (replacesDirectory v c) 21
-      ∷ refuse (slashedFile v c) 20
-      ∷ refuse (movedDenied v c) 13
-      ∷ refuse (notEmpty v c) 39
+      refuse (replacesOther v c) ENOTDIR
+      ∷ refuse (replacesDirectory v c) EISDIR
+      ∷ refuse (slashedFile v c) ENOTDIR
+      ∷ refuse (movedDenied v c) EACCES
+      ∷ refuse (notEmpty v c) ENOTEMPTY
       ∷ []
 
   -- steps 11 to 13: what is asked of the target
   abbrev pub targetRules : List Rule
-  targetRules = refuse (busy v c) 16 ∷ refuse (fullParent v c) 31 ∷ refuse (noSlot v c) 28 ∷ []
+  targetRules = refuse (busy v c) EBUSY ∷ refuse (fullParent v c) EMLINK ∷ refuse (noSlot v c) ENOSPC ∷ []
 
   -- steps 1 to 13
   abbrev pub steps : List Rule

@@ -2,7 +2,7 @@
 use paths::request::Credentials;
 
 // What both walks have found, and who asks: the inode that moves, from slot old of directory from to slot new of directory into; the inode
-// that it replaces there, or ABSENT, and then new is the lowest free slot, or the number of slots where none is free; whether new's path
+// that it replaces there, or limits::ABSENT, and then new is the lowest free slot, or the number of slots where none is free; whether new's path
 // ends in a slash; the caller and the current directory.
 pub struct Case {
     pub old: usize,
@@ -15,9 +15,6 @@ pub struct Case {
     pub who: Credentials,
     pub current: usize,
 }
-
-// The number that names no inode.
-pub const ABSENT: usize = 65535;
 
 // How a rename is answered: refused by a number, nothing to do since both names are of one file, or planned.
 pub enum Answer {

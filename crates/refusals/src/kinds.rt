@@ -2,6 +2,7 @@
 use crate::case::Case;
 use crate::target;
 use layout::Shape;
+use layout::errno;
 use paths::permission;
 ghost use mathlib.Core.Path.{_≡_};
 ghost use mathlib.Core.Bool.{true, false};
@@ -30,20 +31,20 @@ fn of_directory(s: &[u8], h: Shape, c: Case) -> u8
     match replaced {
         0 => {
             if moved_denied(s, h, c) {
-                return 13;
+                return errno::EACCES;
             }
             0
         }
         2 => {
             if moved_denied(s, h, c) {
-                return 13;
+                return errno::EACCES;
             }
             if target::has_entries(s, h, c.replaced) {
-                return 39;
+                return errno::ENOTEMPTY;
             }
             0
         }
-        _ => 20,
+        _ => errno::ENOTDIR,
     }
 }
 
@@ -56,11 +57,11 @@ fn of_other(s: &[u8], h: Shape, c: Case) -> u8
     match replaced {
         0 => {
             if c.slash {
-                return 20;
+                return errno::ENOTDIR;
             }
             0
         }
-        2 => 21,
+        2 => errno::EISDIR,
         _ => 0,
     }
 }

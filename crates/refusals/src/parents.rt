@@ -1,6 +1,8 @@
 // Steps 2 to 7 of the order of refusal: what is asked of the two parents.
 use crate::case::Case;
 use layout::Shape;
+use layout::errno;
+use layout::limits;
 use paths::permission;
 use paths::request::Credentials;
 ghost use mathlib.Core.Path.{_≡_};
@@ -25,10 +27,10 @@ fn read_only(s: &[u8], h: Shape, c: Case) -> bool
     requires { ⌜ Laid h (now s) × Within h c ⌝ }
     ensures { λ r. ⌜ r ≡ readOnlyParent (viewOf h (now (s .entry))) c ⌝ }
 {
-    if 128 <= system(s, h, c.from) {
+    if limits::FIRST_READ_ONLY <= system(s, h, c.from) {
         return true;
     }
-    128 <= system(s, h, c.into)
+    limits::FIRST_READ_ONLY <= system(s, h, c.into)
 }
 
 // Step 3: the parents are on different file systems.
@@ -121,22 +123,22 @@ pub fn number(s: &[u8], h: Shape, c: Case) -> u8
     ensures { λ r. ⌜ r ≡ numberOf (decide (parentRules (viewOf h (now (s .entry))) c)) ⌝ }
 {
     if read_only(s, h, c) {
-        return 30;
+        return errno::EROFS;
     }
     if other_system(s, h, c) {
-        return 18;
+        return errno::EXDEV;
     }
     if mounted(s, h, c) {
-        return 16;
+        return errno::EBUSY;
     }
     if denied(s, h, c) {
-        return 13;
+        return errno::EACCES;
     }
     if sticky_denied(s, h, c.who, c.from, c.moved) {
-        return 1;
+        return errno::EPERM;
     }
     if inside_itself(s, h, c) {
-        return 22;
+        return errno::EINVAL;
     }
     0
 }

@@ -1,7 +1,8 @@
 // The target of a rename: whether it has entries, and steps 11 to 13 of the order of refusal.
-use crate::case;
 use crate::case::Case;
 use layout::Shape;
+use layout::errno;
+use layout::limits;
 ghost use mathlib.Core.Path.{_≡_};
 ghost use mathlib.Core.List.{List};
 ghost use Prim.Native.Nat.{ℕ, _<_};
@@ -73,7 +74,7 @@ fn busy(s: &[u8], h: Shape, c: Case) -> bool
     ensures { λ r. ⌜ r ≡ busy (viewOf h (now (s .entry))) c ⌝ }
 {
     let replaced = c.replaced;
-    if replaced == case::ABSENT {
+    if replaced == limits::ABSENT {
         return false;
     }
     if tree::entries_of(s, h, replaced) != 1 {
@@ -96,18 +97,18 @@ fn full_parent(s: &[u8], h: Shape, c: Case) -> bool
     if c.from == c.into {
         return false;
     }
-    if c.replaced != case::ABSENT {
+    if c.replaced != limits::ABSENT {
         return false;
     }
     let r = layout::records::inode(s, h, c.into);
-    layout::inode::links(r) == 64
+    layout::inode::links(r) == limits::LINK_LIMIT
 }
 
 // Step 13: no entry is free. This holds of any image of the shape, since the number of slots is all that is asked.
 fn no_slot(h: Shape, c: Case) -> bool
     ensures { λ r. ⌜ ((s : List ℕ) → r ≡ noSlot (viewOf h s) c) ⌝ }
 {
-    if c.replaced != case::ABSENT {
+    if c.replaced != limits::ABSENT {
         return false;
     }
     h.entries <= c.new
@@ -119,13 +120,13 @@ pub fn number(s: &[u8], h: Shape, c: Case) -> u8
     ensures { λ r. ⌜ r ≡ numberOf (decide (targetRules (viewOf h (now (s .entry))) c)) ⌝ }
 {
     if busy(s, h, c) {
-        return 16;
+        return errno::EBUSY;
     }
     if full_parent(s, h, c) {
-        return 31;
+        return errno::EMLINK;
     }
     if no_slot(h, c) {
-        return 28;
+        return errno::ENOSPC;
     }
     0
 }

@@ -7,7 +7,7 @@ use lib.ListN.{length}
 use borrow.Author.Tests.{eq-eqb, ne-eqb}
 use Rattle.layout.specs.declared.Shape.{Shape}
 use Rattle.layout.specs.View.{entryAt}
-use Rattle.encode.specs.Journal.{absent}
+use Rattle.layout.specs.Limits.{absent}
 use Rattle.encode.specs.Entry.{entryBytes, retargeted}
 use Rattle.results.specs.declared.Move.{Move}
 use Rattle.rename.specs.Plan.{newEntry}

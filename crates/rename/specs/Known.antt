@@ -11,7 +11,7 @@ use borrow.Author.Tests.{eq-eqb, leb-false}
 use Rattle.seq.specs.Truth.{and-left, not-both}
 use Rattle.layout.specs.declared.Shape.{Shape}
 use Rattle.layout.specs.View.{View, viewOf, isKind, isUsed, isSymlink, isUsed-below, isKind-below, Readable}
-use Rattle.encode.specs.Journal.{absent}
+use Rattle.layout.specs.Limits.{absent}
 use Rattle.paths.specs.declared.request.Request.{Request}
 use Rattle.component.specs.declared.state.Final.the-variants.{MustExist, MayBeMissing}
 use Rattle.component.specs.Step.{Finding, existing, missing, nothing}

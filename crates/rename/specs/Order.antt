@@ -5,11 +5,12 @@ use Prim.Native.Nat.{ℕ}
 use lib.Dec.{eqb, ltb}
 use lib.ListN.{length}
 use Rattle.seq.specs.Search.{first}
+use Rattle.layout.specs.Errno.{shortBuffer, inconsistent, journalPending, wrongRequest}
 use Rattle.layout.specs.Contents.{layoutGood, shapeOf}
 use Rattle.layout.specs.View.{View, viewOf, entryUsed}
 use Rattle.consistency.specs.Others.{journalClear}
 use Rattle.consistency.specs.Consistent.{bodiesGood}
-use Rattle.encode.specs.Journal.{absent}
+use Rattle.layout.specs.Limits.{absent}
 use Rattle.paths.specs.declared.request.Request.{Request}
 use Rattle.paths.specs.Request.{requestGood}
 use Rattle.component.specs.Step.{Finding, existing, missing, nothing}
@@ -73,11 +74,11 @@ module _ (s plan : List ℕ) (q : Request) (old new : List ℕ) where
   -- what is asked before a walk begins
   abbrev pub early : List Rule
   early =
-      refuse (ltb (length plan) planBytes) 205
-      ∷ refuse (not (layoutGood s)) 201
-      ∷ refuse (not (journalClear (shapeOf s) s)) 203
-      ∷ refuse (not (bodiesGood (shapeOf s) s)) 201
-      ∷ refuse (not (requestGood view q old new)) 202
+      refuse (ltb (length plan) planBytes) shortBuffer
+      ∷ refuse (not (layoutGood s)) inconsistent
+      ∷ refuse (not (journalClear (shapeOf s) s)) journalPending
+      ∷ refuse (not (bodiesGood (shapeOf s) s)) inconsistent
+      ∷ refuse (not (requestGood view q old new)) wrongRequest
       ∷ []
 
   -- old's walk, new's walk, and the steps

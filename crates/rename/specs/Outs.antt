@@ -9,6 +9,7 @@ use native.Mathlib.Decide.{ℕ-discrete}
 use lib.Dec.{eqb, ltb}
 use lib.ListN.{length}
 use borrow.Author.Tests.{eq-eqb, ne-eqb, lt-ltb, le-ltb}
+use Rattle.layout.specs.Errno.{shortBuffer, inconsistent, wrongRequest}
 use Rattle.layout.specs.declared.Shape.{Shape}
 use Rattle.layout.specs.Contents.{layoutGood, shapeOf, Read}
 use Rattle.layout.specs.View.{View, viewOf}
@@ -62,12 +63,12 @@ module _ (s plan : List ℕ) (q : Request) (old new : List ℕ) where
       record { is = rw (d, e); buffer = rw d }
 
   -- the plan is too short
-  pub answers-short : length plan < planBytes → Answers s plan q old new (refusedBy 205) plan
-  answers-short l = early-refused 205 (λ z. omega arith) (rw (lt-ltb _ _ l))
+  pub answers-short : length plan < planBytes → Answers s plan q old new (refusedBy shortBuffer) plan
+  answers-short l = early-refused shortBuffer (λ z. omega arith) (rw (lt-ltb _ _ l))
 
   module _ (long : planBytes ≤ length plan) where
-    pub answers-layout : layoutGood s ≡ false → Answers s plan q old new (refusedBy 201) plan
-    answers-layout bad = early-refused 201 (λ z. omega arith) (rw (le-ltb _ _ long, bad))
+    pub answers-layout : layoutGood s ≡ false → Answers s plan q old new (refusedBy inconsistent) plan
+    answers-layout bad = early-refused inconsistent (λ z. omega arith) (rw (le-ltb _ _ long, bad))
 
     module _ (h : Shape) (read : Read s h) where
       -- the journal record, and then the bodies
@@ -91,9 +92,9 @@ module _ (s plan : List ℕ) (q : Request) (old new : List ℕ) where
             go false b c d = let e : _≡_ {A = ℕ} 203 0 = sym (rw c) ∙ fine in absurd (omega arith)
 
         -- the request
-        pub answers-request : requestGood (viewOf h s) q old new ≡ false → Answers s plan q old new (refusedBy 202) plan
+        pub answers-request : requestGood (viewOf h s) q old new ≡ false → Answers s plan q old new (refusedBy wrongRequest) plan
         answers-request bad =
-            early-refused 202 (λ z. omega arith)
+            early-refused wrongRequest (λ z. omega arith)
             (rw (le-ltb _ _ long, read .good, ← read .shape, records-fine .0, records-fine .1, bad))
 
         -- the walks begin

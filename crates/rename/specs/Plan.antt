@@ -6,20 +6,14 @@ use lib.Dec.{eqb}
 use Rattle.layout.specs.declared.Shape.{Shape}
 use Rattle.layout.specs.View.{View, viewOf, entryAt, isSymlink}
 use Rattle.encode.specs.declared.journal.Journal.{Journal}
-use Rattle.encode.specs.Journal.{absent, journalBytes}
+use Rattle.encode.specs.Journal.{journalBytes}
+use Rattle.layout.specs.Limits.{absent}
 use Rattle.encode.specs.Entry.{entryBytes, retargeted}
-use Rattle.plan.specs.Form.{rowsPut, cleared}
+use Rattle.plan.specs.Form.{rowsPut, cleared, journalGroup, entryGroup}
 use Rattle.plan.specs.Write.{Write, entryKey, journalKey, rowsFrom}
 use Rattle.results.specs.declared.Move.{Move}
 use Rattle.results.specs.Results.{entriesAfter, results, clearRow}
 use Rattle.refusals.specs.declared.case.Case.{Case}
-
--- the ordering groups ahead of the results
-abbrev pub journalGroup : ℕ
-journalGroup = 1
-
-abbrev pub entryGroup : ℕ
-entryGroup = 2
 
 -- the move of a case, at a time, with the text that it frees
 abbrev pub moveWith : Case → ℕ → ℕ → Move

@@ -5,7 +5,7 @@ use mathlib.Core.Bool.{true, false}
 use Prim.Native.Nat.{ℕ}
 use borrow.Author.Tests.{eq-eqb, ne-eqb}
 use Rattle.layout.specs.View.{View, isSymlink}
-use Rattle.encode.specs.Journal.{absent}
+use Rattle.layout.specs.Limits.{absent}
 use Rattle.results.specs.Results.{entriesAfter}
 use Rattle.refusals.specs.declared.case.Case.{Case}
 use Rattle.rename.specs.Plan.{moveWith, freedText}

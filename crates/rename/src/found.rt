@@ -1,8 +1,8 @@
 // What both walks have found, as the case that a rename is judged by.
 use component::state::Found;
 use layout::Shape;
+use layout::limits;
 use paths::request::Request;
-use refusals::case;
 use refusals::case::Case;
 use walk::resolve::Walked;
 ghost use mathlib.Core.Path.{_≡_};
@@ -88,8 +88,8 @@ fn inode_of(w: Walked) -> usize
             from: _,
             to: _,
             slash: _,
-        } => case::ABSENT,
-        Found::Nothing => case::ABSENT,
+        } => limits::ABSENT,
+        Found::Nothing => limits::ABSENT,
     }
 }
 

@@ -2,6 +2,7 @@
 use component::state::Found;
 use layout::Shape;
 use layout::contents::Contents;
+use layout::errno;
 use paths::request::Request;
 use refusals::case::Answer;
 use refusals::case::Case;
@@ -25,9 +26,6 @@ ghost use Rattle.rename.specs.Outs.{refusedBy, Answers};
 pub mod found;
 pub mod moves;
 pub mod rows;
-
-// The bytes of a plan.
-const PLAN_BYTES: usize = 648;
 
 // How the job is answered: its number, how many rows the plan has, and the component checks that the walks of old and new began.
 pub struct Renamed {
@@ -113,7 +111,7 @@ fn asked(s: &[u8], h: Shape, q: Request, old: &[u8], new: &[u8], plan: &mut [u8]
         return refused(number);
     }
     if !paths::request::good(s, h, q, old, new) {
-        return refused(202);
+        return refused(errno::WRONG_REQUEST);
     }
     walked(s, h, q, old, new, plan)
 }
@@ -122,12 +120,12 @@ fn asked(s: &[u8], h: Shape, q: Request, old: &[u8], new: &[u8], plan: &mut [u8]
 pub fn rename(s: &[u8], q: Request, old: &[u8], new: &[u8], plan: &mut [u8]) -> Renamed
     ensures { λ r. ⌜ Answers (now (s .entry)) (now (plan .entry)) q (now (old .entry)) (now (new .entry)) r (now (plan .exit)) ⌝ }
 {
-    if plan.len() < PLAN_BYTES {
-        return refused(205);
+    if plan.len() < plan::BYTES {
+        return refused(errno::SHORT_BUFFER);
     }
     let found = layout::contents::read(s);
     match found {
-        Contents::Bad => refused(201),
+        Contents::Bad => refused(errno::INCONSISTENT),
         Contents::Good(h) => asked(s, h, q, old, new, plan),
     }
 }

@@ -1,6 +1,6 @@
 // The move of a case: what is taken from where to where, and the text that goes with what is replaced.
 use layout::Shape;
-use refusals::case;
+use layout::limits;
 use refusals::case::Case;
 use results::Move;
 ghost use mathlib.Core.Path.{_≡_};
@@ -23,18 +23,18 @@ fn move_with(c: Case, time: u64, text: usize) -> Move
     }
 }
 
-// The text of a replaced symlink that has no entry left, or ABSENT.
+// The text of a replaced symlink that has no entry left, or limits::ABSENT.
 fn freed_text(s: &[u8], h: Shape, c: Case, time: u64) -> usize
     requires { ⌜ Laid h (now s) ⌝ }
     ensures { λ r. ⌜ r ≡ freedText (viewOf h (now (s .entry))) c time ⌝ }
 {
     let replaced = c.replaced;
     if !layout::lookup::is_symlink(s, h, replaced) {
-        return case::ABSENT;
+        return limits::ABSENT;
     }
-    let m = move_with(c, time, case::ABSENT);
+    let m = move_with(c, time, limits::ABSENT);
     if results::recount::entries_after(s, h, m, replaced) != 0 {
-        return case::ABSENT;
+        return limits::ABSENT;
     }
     let r = layout::records::inode(s, h, replaced);
     layout::inode::field(r)

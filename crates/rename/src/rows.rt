@@ -1,7 +1,7 @@
 // The rows of a rename, put into its plan.
 use encode::journal::Journal;
 use layout::Shape;
-use refusals::case;
+use layout::limits;
 use results::Move;
 ghost use mathlib.Core.Path.{_≡_};
 ghost use Prim.Native.Nat.{_+_, _<_, _≤_};
@@ -12,10 +12,6 @@ ghost use Rattle.plan.specs.Form.{planBytes, rowPut};
 ghost use Rattle.plan.specs.Write.{rowFrom};
 ghost use Rattle.results.specs.Results.{InImage};
 ghost use Rattle.rename.specs.Plan.{journalFor, newEntry, journalRow, entryRow, planned, renameRows};
-
-const JOURNAL_GROUP: u8 = 1;
-
-const ENTRY_GROUP: u8 = 2;
 
 // The journal record of the move; a rename is of kind 0.
 fn journal(m: Move) -> [u8; 32]
@@ -41,7 +37,7 @@ fn put_journal(plan: &mut [u8], s: &[u8], h: Shape, m: Move, called: &[u8])
     ensures { λ _. ⌜ now (plan .exit) ≡ rowPut (now (plan .entry)) 0 (rowFrom h (journalRow h (now (s .entry)) m (now (called .entry)))) ⌝ }
 {
     let r = journal(m);
-    plan::put_row(plan, 0, JOURNAL_GROUP, layout::place::journal(h), &r);
+    plan::put_row(plan, 0, plan::JOURNAL_GROUP, layout::place::journal(h), &r);
 }
 
 // Makes the whole record the new entry: the replaced one's with another target, or one under the name that was missing.
@@ -49,7 +45,7 @@ fn make_entry(r: &mut [u8], s: &[u8], h: Shape, m: Move, called: &[u8])
     requires { ⌜ Laid h (now s) × (m .new < h .entries) × (length (now r) ≡ h .width) × (8 + length (now called) ≤ h .width) ⌝ }
     ensures { λ _. ⌜ now (r .exit) ≡ newEntry h (now (s .entry)) m (now (called .entry)) ⌝ }
 {
-    if m.replaced == case::ABSENT {
+    if m.replaced == limits::ABSENT {
         encode::entry::write(r, m.into, m.moved, called);
         return;
     }
@@ -63,14 +59,20 @@ fn put_made(plan: &mut [u8], r: &mut [u8], s: &[u8], h: Shape, m: Move, called: 
     ensures { λ _. ⌜ now (plan .exit) ≡ rowPut (now (plan .entry)) 1 (rowFrom h (entryRow h (now (s .entry)) m (now (called .entry)))) ⌝ }
 {
     make_entry(r, s, h, m, called);
-    plan::put_row(plan, 1, ENTRY_GROUP, layout::place::entry(h, m.new), r);
+    plan::put_row(
+        plan,
+        1,
+        plan::ENTRY_GROUP,
+        layout::place::entry(h, m.new),
+        r,
+    );
 }
 
 fn put_entry(plan: &mut [u8], s: &[u8], h: Shape, m: Move, called: &[u8])
     requires { ⌜ (planBytes ≤ length (now plan)) × Laid h (now s) × (m .new < h .entries) × (8 + length (now called) ≤ h .width) ⌝ }
     ensures { λ _. ⌜ now (plan .exit) ≡ rowPut (now (plan .entry)) 1 (rowFrom h (entryRow h (now (s .entry)) m (now (called .entry)))) ⌝ }
 {
-    let mut bytes = [0u8; 64];
+    let mut bytes = [0u8; plan::BODY_BYTES];
     let width = h.width;
     put_made(plan, &mut bytes[..width], s, h, m, called);
 }

@@ -15,7 +15,8 @@ use Rattle.seq.specs.Bytes.{zeros}
 use Rattle.layout.specs.declared.Shape.{Shape}
 use Rattle.layout.specs.View.{View, viewOf, inodeAt, entryAt, journalAt, entryUsed, isDirectory}
 use Rattle.encode.specs.declared.journal.Journal.{Journal}
-use Rattle.encode.specs.Journal.{absent, journalOf, journalFormed, journalBytes, journalHead, InRange, journal-formed, journal-of-bytes}
+use Rattle.encode.specs.Journal.{journalOf, journalFormed, journalBytes, journalHead, InRange, journal-formed, journal-of-bytes}
+use Rattle.layout.specs.Limits.{absent}
 use Rattle.consistency.specs.Others.{journalClear}
 use Rattle.consistency.specs.Consistent.{consistent}
 use Rattle.edits.specs.Kinds.{IsDirectory}

@@ -12,7 +12,7 @@ use Rattle.layout.specs.declared.Shape.{Shape}
 use Rattle.layout.specs.Fields.{entryParent, entryTarget, entryName}
 use Rattle.layout.specs.View.{viewOf, entryAt}
 use Rattle.consistency.specs.Consistent.{consistent}
-use Rattle.plan.specs.Form.{planRows, planBytes}
+use Rattle.plan.specs.Form.{planRows, planBytes, entryGroup}
 use Rattle.plan.specs.Write.{Write, entryKey, other-section}
 use Rattle.apply.specs.Apply.{applyNumber}
 use Rattle.journal.specs.Pick.{All}
@@ -31,9 +31,10 @@ use Rattle.crash.specs.Owed.{decide-does}
 use Rattle.crash.specs.Safe.{planned-first, planned-owed, planned-safe, planned-zero, planned-recovers, planned-refuses, planned-decided, planned-undecided}
 use Rattle.edits.specs.Kinds.{EntryUsed}
 use Rattle.results.specs.declared.Move.{Move}
-use Rattle.rename.specs.Plan.{entryGroup, newEntry, planned as plannedBytes}
+use Rattle.rename.specs.Plan.{newEntry, planned as plannedBytes}
 use Rattle.recover.specs.Recover.{recover}
-use Rattle.recover.specs.Job.{Recovered, tooShort, recovered, recovered-short, recovered-done}
+use Rattle.recover.specs.Job.{Recovered, recovered, recovered-short, recovered-done}
+use Rattle.layout.specs.Errno.{shortBuffer}
 use Rattle.recover.specs.Bounds.{recover-few}
 use Rattle.outcome.specs.Outcome.{renamePlan, finished, rename-planned}
 use Rattle.outcome.specs.Called.{Called, in-image, entry-names}
@@ -61,7 +62,7 @@ recovery-answers h s = record { fills = fills; refuses = refuses }
 
     refuses : (b : Buffers) (x : List ℕ) → Ok h s x → T (not (enough b x)) → recoveryJob .number b x ≢ 0
     refuses b x o t e =
-        let z : tooShort ≡ 0 = sym (ap (λ (r : Recovered). r .number) (recovered-short (b .plan) (b .scratch) x (too-short b x t))) ∙ e in
+        let z : shortBuffer ≡ 0 = sym (ap (λ (r : Recovered). r .number) (recovered-short (b .plan) (b .scratch) x (too-short b x t))) ∙ e in
         omega arith
 
 -- ---- the theorem

@@ -13,7 +13,7 @@ use Rattle.layout.specs.Fields.{inodeLinks, inodeField, inodeModified, inodeCha
 use Rattle.layout.specs.Record.{recordAt}
 use Rattle.layout.specs.View.{viewOf}
 use Rattle.layout.specs.Bench.{bench}
-use Rattle.encode.specs.Journal.{absent}
+use Rattle.layout.specs.Limits.{absent}
 use Rattle.plan.specs.Write.{Write}
 use Rattle.results.specs.declared.Move.{Move}
 use Rattle.results.specs.Results.{entriesAfter, childrenAfter, linksAfter, movedBytes, holderBytes, replacedBytes, results}

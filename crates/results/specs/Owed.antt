@@ -11,11 +11,12 @@ use Rattle.layout.specs.declared.Shape.{Shape}
 use Rattle.layout.specs.Contents.{Laid}
 use Rattle.layout.specs.Record.{record-length}
 use Rattle.layout.specs.View.{inodeAt}
-use Rattle.encode.specs.Journal.{absent}
+use Rattle.layout.specs.Limits.{absent}
 use Rattle.plan.specs.Fit.{Writes}
 use Rattle.plan.specs.Write.{Write, AllWrites, inodeKey, entryKey, textKey, journalKey, writes-join}
 use Rattle.results.specs.declared.Move.{Move}
-use Rattle.results.specs.Results.{InImage, present, resultGroup, clearGroup, freeRecord, movedAfter, holderAfter, replacedAfter, when, holderRow, replacedRow, textRow, intoRows, replacedRows, textRows, results}
+use Rattle.results.specs.Results.{InImage, present, freeRecord, movedAfter, holderAfter, replacedAfter, when, holderRow, replacedRow, textRow, intoRows, replacedRows, textRows, results}
+use Rattle.plan.specs.Form.{resultGroup, clearGroup}
 use Rattle.results.specs.Again.{moved-length, holder-length, replaced-length}
 
 -- an inode with bytes of its length

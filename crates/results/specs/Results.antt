@@ -13,20 +13,14 @@ use Rattle.layout.specs.Fields.{inodeKind}
 use Rattle.layout.specs.View.{View, viewOf, inodeAt, isDirectory}
 use Rattle.tree.specs.Tree.{targets, holdsDirectory}
 use Rattle.encode.specs.Inode.{withLinks, withField, withModified, withChanged}
-use Rattle.encode.specs.Journal.{absent}
+use Rattle.layout.specs.Limits.{absent}
 use Rattle.plan.specs.Write.{Write, inodeKey, entryKey, textKey, journalKey}
 use Rattle.results.specs.declared.Move.{Move}
+use Rattle.plan.specs.Form.{resultGroup, clearGroup}
 
 -- form H: the number names a replaced inode, or a text
 abbrev pub present : ℕ → Bool
 present n = not (eqb n absent)
-
--- rule 85: the ordering groups of a rename's rows behind the deciding one
-abbrev pub resultGroup : ℕ
-resultGroup = 3
-
-abbrev pub clearGroup : ℕ
-clearGroup = 4
 
 -- The numbers of a move are those of records of the image.
 pub record InImage (h : Shape) (m : Move) : Type 0 where

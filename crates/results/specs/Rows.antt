@@ -10,7 +10,7 @@ use lib.ListN.{length, length-append}
 use borrow.Author.Tests.{eq-eqb, ne-eqb}
 use Rattle.seq.specs.Truth.{not-both}
 use Rattle.layout.specs.declared.Shape.{Shape}
-use Rattle.encode.specs.Journal.{absent}
+use Rattle.layout.specs.Limits.{absent}
 use Rattle.plan.specs.Form.{rowPut}
 use Rattle.plan.specs.Write.{Write, rowFrom, Filled, filled-none, filled-one, filled-join}
 use Rattle.results.specs.declared.Move.{Move}

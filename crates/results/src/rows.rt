@@ -1,6 +1,7 @@
 // The rows of a rename behind the deciding one, put into a plan.
 use crate::Move;
 use layout::Shape;
+use layout::limits;
 ghost use mathlib.Core.Path.{_≡_};
 ghost use Prim.Native.Nat.{_+_, _<_, _≤_};
 ghost use lib.ListN.{length};
@@ -9,21 +10,18 @@ ghost use Rattle.plan.specs.Form.{planRows, planBytes, rowPut};
 ghost use Rattle.plan.specs.Write.{rowFrom, Filled};
 ghost use Rattle.results.specs.Results.{InImage, movedRow, holderRow, alwaysRows, intoRows, replacedRows, results, clearRow};
 
-// Their ordering group.
-const GROUP: u8 = 3;
-
-// And that of the row behind them, which clears the journal record.
-const CLEAR_GROUP: u8 = 4;
-
-// The number that names no replaced inode and no text.
-const ABSENT: usize = 65535;
-
 fn put_moved(plan: &mut [u8], at: usize, s: &[u8], h: Shape, m: Move)
     requires { ⌜ (planBytes ≤ length (now plan)) × (at < planRows) × Laid h (now s) × (m .moved < h .inodes) ⌝ }
     ensures { λ _. ⌜ now (plan .exit) ≡ rowPut (now (plan .entry)) at (rowFrom h (movedRow h (now (s .entry)) m)) ⌝ }
 {
     let r = crate::records::moved(s, h, m);
-    plan::put_row(plan, at, GROUP, layout::place::inode(h, m.moved), &r);
+    plan::put_row(
+        plan,
+        at,
+        plan::RESULT_GROUP,
+        layout::place::inode(h, m.moved),
+        &r,
+    );
 }
 
 // The old or the new parent, inode i.
@@ -32,7 +30,7 @@ fn put_holder(plan: &mut [u8], at: usize, s: &[u8], h: Shape, m: Move, i: usize)
     ensures { λ _. ⌜ now (plan .exit) ≡ rowPut (now (plan .entry)) at (rowFrom h (holderRow h (now (s .entry)) m i)) ⌝ }
 {
     let r = crate::records::holder(s, h, m, i);
-    plan::put_row(plan, at, GROUP, layout::place::inode(h, i), &r);
+    plan::put_row(plan, at, plan::RESULT_GROUP, layout::place::inode(h, i), &r);
 }
 
 // The old entry cleared, the moved inode and the old parent. Answers the next place, as the functions below do.
@@ -40,7 +38,13 @@ fn put_always(plan: &mut [u8], at: usize, s: &[u8], h: Shape, m: Move) -> usize
     requires { ⌜ (planBytes ≤ length (now plan)) × (at + 3 ≤ planRows) × Laid h (now s) × InImage h m ⌝ }
     ensures { λ n. ⌜ Filled h (now (plan .entry)) at (alwaysRows h (now (s .entry)) m) (now (plan .exit)) n ⌝ }
 {
-    plan::put_clearing(plan, at, GROUP, layout::place::entry(h, m.old), h.width);
+    plan::put_clearing(
+        plan,
+        at,
+        plan::RESULT_GROUP,
+        layout::place::entry(h, m.old),
+        h.width,
+    );
     put_moved(plan, at + 1, s, h, m);
     put_holder(plan, at + 2, s, h, m, m.from);
     at + 3
@@ -63,11 +67,17 @@ fn put_replaced(plan: &mut [u8], at: usize, s: &[u8], h: Shape, m: Move) -> usiz
     requires { ⌜ (planBytes ≤ length (now plan)) × (at < planRows) × Laid h (now s) × InImage h m ⌝ }
     ensures { λ n. ⌜ Filled h (now (plan .entry)) at (replacedRows h (now (s .entry)) m) (now (plan .exit)) n ⌝ }
 {
-    if m.replaced == ABSENT {
+    if m.replaced == limits::ABSENT {
         return at;
     }
     let r = crate::records::replaced(s, h, m);
-    plan::put_row(plan, at, GROUP, layout::place::inode(h, m.replaced), &r);
+    plan::put_row(
+        plan,
+        at,
+        plan::RESULT_GROUP,
+        layout::place::inode(h, m.replaced),
+        &r,
+    );
     at + 1
 }
 
@@ -79,10 +89,16 @@ pub fn put(plan: &mut [u8], first: usize, s: &[u8], h: Shape, m: Move) -> usize
     let a = put_always(plan, first, s, h, m);
     let b = put_into(plan, a, s, h, m);
     let c = put_replaced(plan, b, s, h, m);
-    if m.text == ABSENT {
+    if m.text == limits::ABSENT {
         return c;
     }
-    plan::put_clearing(plan, c, GROUP, layout::place::text(h, m.text), 64);
+    plan::put_clearing(
+        plan,
+        c,
+        plan::RESULT_GROUP,
+        layout::place::text(h, m.text),
+        limits::TEXT_BYTES,
+    );
     c + 1
 }
 
@@ -91,6 +107,6 @@ pub fn put_clear(plan: &mut [u8], at: usize, s: &[u8], h: Shape)
     requires { ⌜ (planBytes ≤ length (now plan)) × (at < planRows) × Laid h (now s) ⌝ }
     ensures { λ _. ⌜ now (plan .exit) ≡ rowPut (now (plan .entry)) at (rowFrom h (clearRow h)) ⌝ }
 {
-    let r = [0u8; 32];
-    plan::put_row(plan, at, CLEAR_GROUP, layout::place::journal(h), &r);
+    let r = [0u8; limits::JOURNAL_BYTES];
+    plan::put_row(plan, at, plan::CLEAR_GROUP, layout::place::journal(h), &r);
 }

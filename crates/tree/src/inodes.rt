@@ -1,5 +1,6 @@
 // Consistent inodes: what the type number asks of each.
 use layout::Shape;
+use layout::limits;
 ghost use mathlib.Core.Path.{_≡_};
 ghost use Prim.Native.Nat.{_<_};
 ghost use Rattle.seq.specs.Search.{all};
@@ -13,11 +14,11 @@ fn leaf_good(s: &[u8], h: Shape, i: usize) -> bool
     ensures { λ r. ⌜ r ≡ leafGood (viewOf h (now (s .entry))) i ⌝ }
 {
     let r = layout::records::inode(s, h, i);
-    if 4096 <= layout::inode::mode(r) {
+    if limits::MODE_LIMIT <= layout::inode::mode(r) {
         return false;
     }
     let links = layout::inode::links(r);
-    if 64 < links {
+    if limits::LINK_LIMIT < links {
         return false;
     }
     if links < 1 {
@@ -57,11 +58,11 @@ fn directory_good(s: &[u8], h: Shape, i: usize) -> bool
     ensures { λ r. ⌜ r ≡ directoryGood (viewOf h (now (s .entry))) i ⌝ }
 {
     let r = layout::records::inode(s, h, i);
-    if 4096 <= layout::inode::mode(r) {
+    if limits::MODE_LIMIT <= layout::inode::mode(r) {
         return false;
     }
     let links = layout::inode::links(r);
-    if 64 < links {
+    if limits::LINK_LIMIT < links {
         return false;
     }
     if links != 2 + crate::child_directories(s, h, i) {
