@@ -10,15 +10,16 @@ use lib.Dec.{eqb}
 use lib.ListN.{length}
 use borrow.Author.Tests.{eqb-false, not-true}
 use Rattle.layout.specs.declared.Shape.{Shape}
-use Rattle.layout.specs.Contents.{Laid}
-use Rattle.layout.specs.Record.{record-length}
+use Rattle.layout.specs.ContentsLaws.{Laid}
+use Rattle.layout.specs.RecordLaws.{record-length}
 use Rattle.layout.specs.Fields.{inodeKind}
 use Rattle.layout.specs.View.{viewOf, inodeAt, entryAt}
 use Rattle.layout.specs.Limits.{absent}
 use Rattle.plan.specs.Write.{Write, inodeKey}
 use Rattle.edits.specs.Written.{same-entry}
 use Rattle.results.specs.declared.Move.{Move}
-use Rattle.results.specs.Results.{InImage, present, entriesAfter, linksAfter, movedBytes, holderBytes, replacedBytes, movedAfter, holderAfter, replacedAfter, resultRow, when, oldRow, results}
+use Rattle.results.specs.Results.{present, entriesAfter, linksAfter, movedBytes, holderBytes, replacedBytes, movedAfter, holderAfter, replacedAfter, resultRow, when, oldRow, results}
+use Rattle.results.specs.InImage.{InImage}
 use Rattle.results.specs.Records.{replaced-freed}
 use Rattle.results.specs.Again.{holder-kind, holder-again, moved-again, replaced-kind, replaced-again, afresh}
 use Rattle.afresh.specs.Recount.{Agrees, entries-agree, links-agree}

@@ -7,13 +7,16 @@ use native.Mathlib.Omega.{arith}
 use lib.Dec.{lit<}
 use lib.ListN.{length-replicate, getD-replicate}
 use Rattle.layout.specs.declared.Shape.{Shape}
-use Rattle.layout.specs.Place.{Key, Valid}
-use Rattle.layout.specs.Contents.{Laid}
-use Rattle.layout.specs.Record.{recordAt, store, store-same, store-other}
+use Rattle.layout.specs.Place.{Key}
+use Rattle.layout.specs.PlaceLaws.{Valid}
+use Rattle.layout.specs.ContentsLaws.{Laid}
+use Rattle.layout.specs.Record.{recordAt, store}
+use Rattle.layout.specs.RecordLaws.{store-same, store-other}
 use Rattle.layout.specs.Fields.{inodeKind, entryParent, entryTarget, entryNameLength}
 use Rattle.layout.specs.View.{viewOf, entryAt}
 use Rattle.tree.specs.Tree.{entriesOf, childDirectories}
-use Rattle.plan.specs.Write.{inodeKey, entryKey, other-section, other-index}
+use Rattle.plan.specs.Write.{inodeKey, entryKey}
+use Rattle.plan.specs.WriteLaws.{other-section, other-index}
 use Rattle.edits.specs.Kinds.{EntryUsed}
 use Rattle.edits.specs.Written.{same-entry}
 use Rattle.results.specs.declared.Move.{Move}

@@ -7,7 +7,7 @@ use native.Mathlib.Omega.{arith}
 use lib.Dec.{eqb}
 use borrow.Author.Tests.{eq-eqb, ne-eqb}
 use Rattle.seq.specs.Truth.{same-truth}
-use Rattle.seq.specs.Search.{count-same}
+use Rattle.seq.specs.SearchLaws.{count-same}
 use Rattle.seq.specs.Count.{count-zero}
 use Rattle.layout.specs.View.{View, isDirectory, entryUsed}
 use Rattle.tree.specs.Tree.{targets, holdsDirectory, entriesOf, childDirectories}

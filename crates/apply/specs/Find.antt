@@ -9,9 +9,10 @@ use native.Mathlib.Omega.{arith}
 use lib.Dec.{eqb, ltb}
 use borrow.Author.Tests.{eq-eqb, eqb-true, lt-ltb, ltb-true}
 use Rattle.seq.specs.Truth.{refuted, and-left, and-right, and-both, same-truth}
-use Rattle.seq.specs.Search.{any, any-hit, any-at}
+use Rattle.seq.specs.Search.{any}
+use Rattle.seq.specs.SearchLaws.{any-hit, any-at}
 use Rattle.layout.specs.declared.Shape.{Shape}
-use Rattle.layout.specs.Contents.{Laid}
+use Rattle.layout.specs.ContentsLaws.{Laid}
 use Rattle.layout.specs.Place.{recordBytes, records, base, imageBytes}
 use Rattle.plan.specs.Fit.{coverable, coversSection}
 

@@ -8,15 +8,19 @@ use native.Mathlib.Omega.{arith}
 use lib.Dec.{eqb, ltb}
 use lib.ListN.{length}
 use borrow.Author.Tests.{eq-eqb, eqb-true, eqb-false, ne-eqb, le-ltb, ltb-false}
-use Rattle.seq.specs.Bytes.{part-length}
+use Rattle.seq.specs.BytesLaws.{part-length}
 use Rattle.layout.specs.declared.Shape.{Shape}
-use Rattle.layout.specs.Place.{Key, Valid, recordBytes, place}
-use Rattle.layout.specs.Contents.{layoutGood, shapeOf, good-laid}
-use Rattle.layout.specs.Record.{recordAt, store, store-length, store-same, store-other}
+use Rattle.layout.specs.Place.{Key, recordBytes, place}
+use Rattle.layout.specs.PlaceLaws.{Valid}
+use Rattle.layout.specs.Contents.{layoutGood, shapeOf}
+use Rattle.layout.specs.ContentsLaws.{good-laid}
+use Rattle.layout.specs.Record.{recordAt, store}
+use Rattle.layout.specs.RecordLaws.{store-length, store-same, store-other}
 use Rattle.layout.specs.Commute.{store-shape, store-layout, store-swap}
 use Rattle.plan.specs.Form.{Row, planRows, planBytes, bodyAt, rowLength, rowOffset, rowAt}
 use Rattle.plan.specs.Rows.{Stands}
-use Rattle.plan.specs.Fit.{Covered, Applicable, Writes, applicable, rowFor, applicable-is, is-applicable, applicable-fits, stands-applicable, written-fits}
+use Rattle.plan.specs.Fit.{applicable, rowFor}
+use Rattle.plan.specs.FitLaws.{Covered, Applicable, Writes, applicable-is, is-applicable, applicable-fits, stands-applicable, written-fits}
 use Rattle.apply.specs.Apply.{applyNumber, applied, appliedImage}
 use Rattle.layout.specs.Errno.{shortBuffer, inconsistent, badRow}
 

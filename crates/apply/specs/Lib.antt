@@ -1,4 +1,5 @@
 pub mod Find
 pub mod Apply
+pub mod ApplyLaws
 pub mod Laws
 pub mod Bench

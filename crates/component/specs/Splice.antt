@@ -8,7 +8,8 @@ use native.Mathlib.Omega.{arith}
 use lib.Dec.{ltb}
 use lib.ListN.{length, length-append}
 use borrow.Author.Tests.{eq-eqb, ne-eqb, lt-ltb, le-ltb}
-use Rattle.seq.specs.Bytes.{part, part-length}
+use Rattle.seq.specs.Bytes.{part}
+use Rattle.seq.specs.BytesLaws.{part-length}
 use Rattle.paths.specs.Path.{empty, bare, absolute}
 use Rattle.paths.specs.PathLaws.{bare-append}
 use Rattle.paths.specs.Filled.{filled, filled-length, filled-part}

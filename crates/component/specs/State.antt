@@ -2,10 +2,11 @@
 use mathlib.Core.Path.{_≡_, refl, sym, ap, _∙_, subst}
 use mathlib.Core.Bool.{Bool, false}
 use mathlib.Core.List.{List}
-use Prim.Native.Nat.{ℕ, _+_, _-_, _≤_, _<_}
+use Prim.Native.Nat.{ℕ, _-_, _≤_, _<_}
 use native.Mathlib.Omega.{arith}
 use lib.ListN.{length}
-use Rattle.seq.specs.Bytes.{part, part-length}
+use Rattle.seq.specs.Bytes.{part}
+use Rattle.seq.specs.BytesLaws.{part-length}
 use Rattle.component.specs.declared.state.Walk.{Walk}
 use Rattle.component.specs.declared.state.Found.{Found}
 use Rattle.component.specs.declared.state.Found.the-variants.{Existing, Missing, Nothing}

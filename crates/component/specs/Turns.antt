@@ -4,14 +4,14 @@ use mathlib.Core.Bool.{Bool, true, false, _||_, not}
 use mathlib.Core.List.{List}
 use Prim.Native.Nat.{ℕ, _+_, _-_, _≤_, _<_}
 use native.Mathlib.Omega.{arith}
-use lib.Dec.{ltb}
 use lib.ListN.{length, take, drop}
 use borrow.Author.Tests.{lt-ltb, le-ltb, lt-leb, le-leb}
-use Rattle.seq.specs.Bytes.{part, part-take, part-drop}
+use Rattle.seq.specs.Bytes.{part}
+use Rattle.seq.specs.BytesLaws.{part-take, part-drop}
 use Rattle.layout.specs.View.{View, isSymlink, isDirectory}
 use Rattle.paths.specs.declared.request.Credentials.{Credentials}
 use Rattle.paths.specs.Permission.{searchBit, allows}
-use Rattle.paths.specs.Path.{slashes, nameBytes, skip, component, behind, empty, bare, isDot, isDotDot}
+use Rattle.paths.specs.Path.{slashes, untilSlash, skip, component, behind, empty, bare, isDot, isDotDot}
 use Rattle.paths.specs.Lookup.{lookup}
 use Rattle.component.specs.declared.state.Turn.{Turn}
 use Rattle.component.specs.declared.state.Final.{Final}
@@ -113,7 +113,7 @@ module _ (v : View) (who : Credentials) (last : Final) (r : Turn) (w : Position)
   steps-inside d turned = rw d turned
 
 -- a component and what stands behind it, as ranges of a working path
-module _ (path : List ℕ) (at len a e : ℕ) (within : at ≤ len) (start : a ≡ at + slashes (part path at (len - at))) (end : e ≡ a + nameBytes (part path a (len - a))) where
+module _ (path : List ℕ) (at len a e : ℕ) (within : at ≤ len) (start : a ≡ at + slashes (part path at (len - at))) (end : e ≡ a + untilSlash (part path a (len - a))) where
   skipped : skip (part path at (len - at)) ≡ part path a (len - a)
   skipped =
       let k = slashes (part path at (len - at)) in
@@ -122,11 +122,11 @@ module _ (path : List ℕ) (at len a e : ℕ) (within : at ≤ len) (start : a �
 
   pub component-range : e ≤ len → part path a (e - a) ≡ component (part path at (len - at))
   component-range l =
-      let k : e - a ≡ nameBytes (part path a (len - a)) = omega arith in
-      sym (ap (λ x. take (nameBytes x) x) skipped ∙ part-take path a (len - a) (nameBytes (part path a (len - a))) (omega arith) ∙ ap (λ i. part path a i) (sym k))
+      let k : e - a ≡ untilSlash (part path a (len - a)) = omega arith in
+      sym (ap (λ x. take (untilSlash x) x) skipped ∙ part-take path a (len - a) (untilSlash (part path a (len - a))) (omega arith) ∙ ap (λ i. part path a i) (sym k))
 
   pub behind-range : part path e (len - e) ≡ behind (part path at (len - at))
   behind-range =
-      let m : len - a - nameBytes (part path a (len - a)) ≡ len - e = omega arith in
-      sym (ap (λ x. drop (nameBytes x) x) skipped ∙ part-drop path a (len - a) (nameBytes (part path a (len - a)))
-      ∙ ap (λ i. part path i (len - a - nameBytes (part path a (len - a)))) (sym end) ∙ ap (λ i. part path e i) m)
+      let m : len - a - untilSlash (part path a (len - a)) ≡ len - e = omega arith in
+      sym (ap (λ x. drop (untilSlash x) x) skipped ∙ part-drop path a (len - a) (untilSlash (part path a (len - a)))
+      ∙ ap (λ i. part path i (len - a - untilSlash (part path a (len - a)))) (sym end) ∙ ap (λ i. part path e i) m)

@@ -1,6 +1,6 @@
 -- The ways in which a component leaves a walk, each with what is known there: the step's definition read backwards. Assumes nothing.
 use mathlib.Core.Path.{_≡_, refl, sym}
-use mathlib.Core.Bool.{Bool, true, false, _&&_, _||_, not, cond, false≢true}
+use mathlib.Core.Bool.{Bool, true, false, _&&_, _||_, not, false≢true}
 use mathlib.Core.List.{List}
 use Prim.Native.Nat.{ℕ, _+_, _≤_, _<_}
 use lib.Dec.{eqb, ltb, leb}
@@ -14,7 +14,7 @@ use Rattle.paths.specs.Path.{component, behind, empty, bare, isDot, isDotDot}
 use Rattle.paths.specs.Lookup.{lookup}
 use Rattle.component.specs.declared.state.Final.{Final}
 use Rattle.component.specs.declared.state.Final.the-variants.{MustExist, MayBeMissing}
-use Rattle.component.specs.Step.{pathLimit, linkLimit, Position, Step, existing, missing, refuse, names, move, splice, follow, lack, miss, enter, arrive, hit, seek, dots, read, inside, step}
+use Rattle.component.specs.Step.{pathLimit, linkLimit, Position, Step, existing, missing, refuse, names, move, splice, follow, lack, enter, arrive, hit, seek, dots, read, step}
 
 -- the numbers that a component is refused by
 abbrev pub componentNumber : ℕ → Bool

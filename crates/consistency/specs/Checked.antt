@@ -7,19 +7,21 @@ use lib.Dec.{leb}
 use lib.ListN.{length}
 use borrow.Author.Tests.{not-true}
 use Rattle.seq.specs.Truth.{and-left, and-right, and-both}
-use Rattle.seq.specs.Search.{all, any-not, any-false, all-at, all-of}
+use Rattle.seq.specs.Search.{all}
+use Rattle.seq.specs.SearchLaws.{any-not, any-false, all-at, all-of}
 use Rattle.seq.specs.Number.{numberAt}
 use Rattle.layout.specs.declared.Shape.{Shape}
 use Rattle.layout.specs.Limits.{contentsBytes}
 use Rattle.layout.specs.Contents.{fewest, rowIs, shapeOf, rowGood, rowsGood, layoutGood}
 use Rattle.layout.specs.View.{viewOf, isDirectory}
-use Rattle.names.specs.Name.{clash, hasDuplicate}
+use Rattle.names.specs.Name.{clash}
+use Rattle.names.specs.NameTests.{hasDuplicate}
 use Rattle.tree.specs.Inode.{inodeGood}
 use Rattle.tree.specs.InodeFacts.{inode-is, is-inode}
 use Rattle.consistency.specs.Entry.{entryGood}
-use Rattle.consistency.specs.Others.{textGood, handleGood, journalClear}
+use Rattle.consistency.specs.Others.{textGood, handleGood}
+use Rattle.consistency.specs.Sound.{journalClear, allPass, sectionNamed, sectionPlaced, sectionCounted, layoutRules, bodiesGood, soundRules}
 use Rattle.consistency.specs.RecordFacts.{entry-is, is-entry, text-is, is-text, handle-is, is-handle, Bodies}
-use Rattle.consistency.specs.Sound.{every, sectionNamed, sectionPlaced, sectionCounted, layoutRules, bodiesGood, soundRules}
 use Rattle.consistency.specs.Consistent.{consistent}
 use Rattle.consistency.specs.SoundFacts.{no-more, _&_, is-every, every-at, bodies-is, is-bodies}
 
@@ -37,7 +39,7 @@ one-truth false false f g = refl
 
 -- the layout, section by section and rule by rule
 module _ (s : List ℕ) where
-  layout-is : layoutGood s ≡ true → every (layoutRules s) ≡ true
+  layout-is : layoutGood s ≡ true → allPass (layoutRules s) ≡ true
   unfolding layoutGood rowsGood rowGood rowIs
   layout-is e =
       let rows = and-left (all (rowGood s (shapeOf s)) 5) _ (and-right (leb contentsBytes (length s)) _ e) in
@@ -51,7 +53,7 @@ module _ (s : List ℕ) where
       & no-more
       )
 
-  is-layout : every (layoutRules s) ≡ true → layoutGood s ≡ true
+  is-layout : allPass (layoutRules s) ≡ true → layoutGood s ≡ true
   unfolding layoutGood rowsGood rowGood rowIs
   is-layout e =
       let rule = every-at (layoutRules s) e in
@@ -63,15 +65,15 @@ module _ (s : List ℕ) where
         rule 3,
       )
 
-  pub layout-same : layoutGood s ≡ every (layoutRules s)
+  pub layout-same : layoutGood s ≡ allPass (layoutRules s)
   layout-same = one-truth _ _ layout-is is-layout
 
--- A consistent image is one that every rule passes.
-pub consistent-rules : (s : List ℕ) → consistent s ≡ every (soundRules s)
+-- A consistent image is one that allPass rule passes.
+pub consistent-rules : (s : List ℕ) → consistent s ≡ allPass (soundRules s)
 unfolding consistent
-consistent-rules s = rw (layout-same s) (go (every (layoutRules s)) (journalClear (shapeOf s) s) (bodiesGood (shapeOf s) s))
+consistent-rules s = rw (layout-same s) (go (allPass (layoutRules s)) (journalClear (shapeOf s) s) (bodiesGood (shapeOf s) s))
   where
-    go : (a b c : Bool) → (a && b && c) ≡ every (a ∷ b ∷ c ∷ [])
+    go : (a b c : Bool) → (a && b && c) ≡ allPass (a ∷ b ∷ c ∷ [])
     go true true true = refl
     go true true false = refl
     go true false c = refl

@@ -7,16 +7,17 @@ use native.Mathlib.Omega.{arith}
 use borrow.Author.Tests.{leb-true, eqb-true}
 use lib.Dec.{eqb, leb}
 use Rattle.seq.specs.Truth.{and-left, and-right}
-use Rattle.seq.specs.Search.{all, all-at}
+use Rattle.seq.specs.Search.{all}
+use Rattle.seq.specs.SearchLaws.{all-at}
 use Rattle.seq.specs.Bytes.{zeros}
 use Rattle.layout.specs.declared.Shape.{Shape}
-use Rattle.layout.specs.Contents.{Laid}
+use Rattle.layout.specs.ContentsLaws.{Laid}
 use Rattle.layout.specs.View.{View, viewOf, nameRoom, entryAt, isDirectory, isUsed}
-use Rattle.names.specs.Name.{nameGood, Named}
+use Rattle.names.specs.NameTests.{nameGood, Named}
 
 -- rule 16: a free entry is all zero
-abbrev pub entryFree : Shape → List ℕ → ℕ → Bool
-entryFree h s j = zeros (entryAt h s j) 0 (h .width)
+abbrev pub entryZero : Shape → List ℕ → ℕ → Bool
+entryZero h s j = zeros (entryAt h s j) 0 (h .width)
 
 -- rule 24: a name fits its room
 abbrev pub nameFits : Shape → List ℕ → ℕ → Bool
@@ -62,7 +63,7 @@ entryLinked v j = parentGood v j && targetGood v j && belowRoot v j && held v (v
 -- an entry is free, or it is formed, named and linked as it should be
 unfoldable pub entryGood : Shape → List ℕ → ℕ → Bool
 entryGood h s j =
-    cond (eqb (viewOf h s .nameLength j) 0) (entryFree h s j) (entryFormed h s j && nameGood (viewOf h s .name j) && entryLinked (viewOf h s) j)
+    cond (eqb (viewOf h s .nameLength j) 0) (entryZero h s j) (entryFormed h s j && nameGood (viewOf h s .name j) && entryLinked (viewOf h s) j)
 
 -- a name of a consistent entry lies within its record
 module _ (h : Shape) (s : List ℕ) (laid : Laid h s) where

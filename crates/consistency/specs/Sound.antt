@@ -8,20 +8,18 @@ use Rattle.seq.specs.Truth.{implies}
 use Rattle.seq.specs.Search.{any, all}
 use Rattle.seq.specs.Bytes.{zeros, noZero}
 use Rattle.seq.specs.Number.{numberAt}
-use Rattle.layout.specs.Limits.{inodeSize, textSize, handleSize, entryHead, modeLimit, contentsBytes, linkLimit, textRoom}
+use Rattle.layout.specs.Limits.{journalSize, inodeSize, textSize, handleSize, nameAt, modeLimit, contentsBytes, linkLimit, textRoom}
 use Rattle.layout.specs.declared.Shape.{Shape}
 use Rattle.layout.specs.Place.{base, imageBytes}
-use Rattle.layout.specs.Contents.{sectionName, fewest, most, nameIs, widthOf, shapeOf}
+use Rattle.layout.specs.Contents.{sectionName, fewest, most, nameIs, shapeOf}
 use Rattle.layout.specs.View.{View, viewOf, inodeAt, entryAt, textAt, handleAt, journalAt, nameRoom, isKind, isDirectory, isUsed, entryUsed, textUsed}
-use Rattle.names.specs.Name.{nameBytes, isDots, clash}
-use Rattle.tree.specs.Tree.{entriesOf, childDirectories, reaches}
-use Rattle.tree.specs.Inode.{textShared}
-use Rattle.consistency.specs.Others.{textLinked, journalClear}
+use Rattle.names.specs.Name.{plainName, isDots, clash}
+use Rattle.tree.specs.Tree.{entriesOf, childDirectories, reaches, textShared, hasText}
 
 -- all of a list of tests pass
-abbrev pub every : List Bool → Bool
-every [] = true
-every (b ∷ bs) = b && every bs
+abbrev pub allPass : List Bool → Bool
+allPass [] = true
+allPass (b ∷ bs) = b && allPass bs
 
 -- ---- the layout
 
@@ -32,7 +30,7 @@ module _ (s : List ℕ) where
 
   -- rules 2 and 3, of section k: by the counts as they stand
   abbrev pub sectionNamed : ℕ → Bool
-  sectionNamed k = nameIs s (8 * k) (sectionName (widthOf s) k)
+  sectionNamed k = nameIs s (8 * k) (sectionName (shapeOf s .width) k)
 
   abbrev pub sectionPlaced : ℕ → Bool
   sectionPlaced k = eqb (numberAt 2 s (8 * k + 4)) (base (shapeOf s) k)
@@ -43,7 +41,7 @@ module _ (s : List ℕ) where
 
   -- rule 5, of section k
   abbrev pub sectionCounted : ℕ → Bool
-  sectionCounted k = leb (fewest k) (numberAt 2 s (8 * k + 6)) && leb (numberAt 2 s (8 * k + 6)) (most (widthOf s) k)
+  sectionCounted k = leb (fewest k) (numberAt 2 s (8 * k + 6)) && leb (numberAt 2 s (8 * k + 6)) (most (shapeOf s .width) k)
 
   abbrev pub layoutRules : List Bool
   layoutRules = contentsThere ∷ all sectionNamed 5 ∷ all sectionPlaced 5 ∷ imageEnds ∷ all sectionCounted 5 ∷ []
@@ -75,6 +73,14 @@ module _ (v : View) where
   abbrev pub opened : ℕ → Bool
   opened n = leb 1 (v .state n) && leb (v .state n) 2
 
+-- some symlink has text t
+unfoldable pub textLinked : View → ℕ → Bool
+textLinked v t = any (hasText v t) (v .inodes)
+
+-- rule 14: the journal record is all zero
+unfoldable pub journalClear : Shape → List ℕ → Bool
+journalClear h s = zeros (journalAt h s) 0 journalSize
+
 module _ (h : Shape) (s : List ℕ) where
   abbrev v : View
   v = viewOf h s
@@ -96,7 +102,7 @@ module _ (h : Shape) (s : List ℕ) where
   -- rule 10, of an entry: the three bytes behind the length, and those behind the name
   abbrev pub entryZeros : ℕ → Bool
   entryZeros j =
-      implies (entryUsed v j) (zeros (entryAt h s j) 5 3 && zeros (entryAt h s j) (entryHead + v .nameLength j) (nameRoom h - v .nameLength j))
+      implies (entryUsed v j) (zeros (entryAt h s j) 5 3 && zeros (entryAt h s j) (nameAt + v .nameLength j) (nameRoom h - v .nameLength j))
 
   -- rules 11 and 12, of a text
   abbrev pub textShort : ℕ → Bool
@@ -109,7 +115,7 @@ module _ (h : Shape) (s : List ℕ) where
   abbrev pub handleZeros : ℕ → Bool
   handleZeros n = implies (opened v n) (zeros (handleAt h s n) 1 1 && zeros (handleAt h s n) 4 4)
 
-  -- rules 15 to 18: what is free is all zero (rule 14, of the journal record, is `journalClear`)
+  -- rules 15 to 18: what is free is all zero (rule 14, of the journal record, is above)
   abbrev pub inodeFree : ℕ → Bool
   inodeFree i = implies (free v i) (zeros (inodeAt h s i) 0 inodeSize)
 
@@ -143,7 +149,7 @@ module _ (h : Shape) (s : List ℕ) where
   nameShort j = implies (entryUsed v j) (leb (v .nameLength j) (nameRoom h))
 
   abbrev pub namePlain : ℕ → Bool
-  namePlain j = implies (entryUsed v j) (nameBytes (v .name j))
+  namePlain j = implies (entryUsed v j) (plainName (v .name j))
 
   abbrev pub nameNoDots : ℕ → Bool
   nameNoDots j = implies (entryUsed v j) (not (isDots (v .name j)))
@@ -199,8 +205,8 @@ module _ (h : Shape) (s : List ℕ) where
   abbrev pub textHeld : ℕ → Bool
   textHeld t = implies (textUsed v t) (textLinked v t)
 
-  abbrev pub handleInode : ℕ → Bool
-  handleInode n = implies (opened v n) (isUsed v (v .opened n))
+  abbrev pub handleNames : ℕ → Bool
+  handleNames n = implies (opened v n) (isUsed v (v .opened n))
 
   -- rules 6 to 13 and 15 to 40, each of all records that it is about
   abbrev pub bodyRules : List Bool
@@ -213,12 +219,12 @@ module _ (h : Shape) (s : List ℕ) where
       ∷ all oneEntry (h .inodes) ∷ all fieldParent (h .entries) ∷ all leadsToRoot (h .inodes)
       ∷ all directoryCount (h .inodes) ∷ all leafCount (h .inodes) ∷ all leafLinked (h .inodes) ∷ all linksWithin (h .inodes)
       ∷ all systemShared (h .entries) ∷ all symlinkText (h .inodes) ∷ all textOwn (h .inodes)
-      ∷ all textPlain (h .texts) ∷ all textHeld (h .texts) ∷ all handleInode (h .handles) ∷ []
+      ∷ all textPlain (h .texts) ∷ all textHeld (h .texts) ∷ all handleNames (h .handles) ∷ []
 
   -- the records in front of the journal record
   unfoldable pub bodiesGood : Bool
-  bodiesGood = every bodyRules
+  bodiesGood = allPass bodyRules
 
 -- rules 1 to 40: a consistent image (rule 14 ahead of the other records, as check asks)
 abbrev pub soundRules : List ℕ → List Bool
-soundRules s = every (layoutRules s) ∷ journalClear (shapeOf s) s ∷ bodiesGood (shapeOf s) s ∷ []
+soundRules s = allPass (layoutRules s) ∷ journalClear (shapeOf s) s ∷ bodiesGood (shapeOf s) s ∷ []

@@ -1,7 +1,7 @@
 -- The rules one by one and the facts of consistent bodies: each from the other. Assumes nothing.
 use mathlib.Core.Path.{_≡_, refl, sym, ap, _∙_}
 use mathlib.Core.Logic.{_⊎_, inl, inr, ⊎-elim}
-use mathlib.Core.Bool.{Bool, true, false, _&&_, _||_, not, false≢true, and-false}
+use mathlib.Core.Bool.{Bool, true, false, _&&_, _||_, not, and-false}
 use mathlib.Core.List.{List, [], _∷_}
 use Prim.Native.Nat.{ℕ, zero, suc, _+_, _-_, _≤_, _<_}
 use native.Mathlib.Nat.{zero-add}
@@ -10,19 +10,21 @@ use native.Mathlib.Omega.{arith}
 use lib.Dec.{eqb, ltb, leb}
 use lib.ListN.{getD}
 use borrow.Author.Tests.{eqb-true, eqb-false, eq-eqb, ne-eqb, ltb-true, lt-ltb, leb-true, le-leb, not-true, not-false}
-use Rattle.seq.specs.Truth.{refuted, implies, implies-at, implies-of, and-left, and-right, and-both, or-left, or-right, not-both}
-use Rattle.seq.specs.Search.{any, all, any-not, any-false, all-none, all-at, all-of}
+use Rattle.seq.specs.Truth.{refuted, implies-at, implies-of, and-left, and-right, and-both, or-left, or-right, not-both}
+use Rattle.seq.specs.Search.{any}
+use Rattle.seq.specs.SearchLaws.{any-not, any-false, all-none, all-at, all-of}
 use Rattle.seq.specs.Bytes.{zeros, noZero, part}
 use Rattle.layout.specs.declared.Shape.{Shape}
-use Rattle.layout.specs.View.{View, viewOf, inodeAt, entryAt, textAt, handleAt, nameRoom, isKind, isDirectory, isUsed, entryUsed, textUsed, isKind-below}
-use Rattle.names.specs.Name.{nameBytes, isDots, nameGood, clash}
-use Rattle.tree.specs.Tree.{entriesOf, reaches, reaches-goal}
-use Rattle.tree.specs.Inode.{textShared}
+use Rattle.layout.specs.View.{View, viewOf, entryAt, textAt, handleAt, nameRoom, isKind, isDirectory, isUsed, entryUsed, textUsed}
+use Rattle.layout.specs.ViewLaws.{isKind-below}
+use Rattle.names.specs.Name.{plainName, clash}
+use Rattle.names.specs.NameTests.{nameGood}
+use Rattle.tree.specs.Tree.{reaches, textShared}
+use Rattle.tree.specs.TreeLaws.{reaches-goal}
 use Rattle.tree.specs.InodeFacts.{Leaf, File, Directory, Symlink, Inode}
-use Rattle.consistency.specs.Others.{textLinked}
+use Rattle.consistency.specs.Sound.{allPass, free, file, directory, symlink, leaf, known, opened, typeKnown, stateKnown, fileField, rootField, entryZeros, textShort, textZeros, handleZeros, inodeFree, entryFree, textFree, handleClosed, modeSmall, targetBelowRoot, parentDirectory, targetUsed, nameShort, namePlain, nameNoDots, nameOnce, oneEntry, fieldParent, leadsToRoot, directoryCount, leafCount, leafLinked, linksWithin, systemShared, hasTextInUse, symlinkText, textOwn, textPlain, textHeld, handleNames, bodyRules, bodiesGood}
 use Rattle.layout.specs.Limits.{textRoom}
-use Rattle.consistency.specs.RecordFacts.{Linked, Used, Entry, Text, Open, Handle, Bodies}
-use Rattle.consistency.specs.Sound.{every, free, file, directory, symlink, leaf, known, opened, typeKnown, stateKnown, fileField, rootField, entryZeros, textShort, textZeros, handleZeros, inodeFree, entryFree, textFree, handleClosed, modeSmall, rootDirectory, targetBelowRoot, parentDirectory, targetUsed, nameShort, namePlain, nameNoDots, nameOnce, oneEntry, fieldParent, leadsToRoot, directoryCount, leafCount, leafLinked, linksWithin, systemShared, hasTextInUse, symlinkText, textOwn, textPlain, textHeld, handleInode, bodyRules, bodiesGood}
+use Rattle.consistency.specs.RecordFacts.{Used, Entry, Text, Open, Handle, Bodies}
 
 -- ---- lists of tests
 
@@ -32,15 +34,15 @@ pub data Every : List Bool → Type 0 where
   no-more : Every []
   _&_ : {b : Bool} {bs : List Bool} → b ≡ true → Every bs → Every (b ∷ bs)
 
-pub is-every : {bs : List Bool} → Every bs → every bs ≡ true
+pub is-every : {bs : List Bool} → Every bs → allPass bs ≡ true
 is-every no-more = refl
-is-every (_&_ {b} {bs} e t) = and-both b (every bs) e (is-every t)
+is-every (_&_ {b} {bs} e t) = and-both b (allPass bs) e (is-every t)
 
 -- the one at a place
-pub every-at : (bs : List Bool) → every bs ≡ true → (k : ℕ) → getD bs k true ≡ true
+pub every-at : (bs : List Bool) → allPass bs ≡ true → (k : ℕ) → getD bs k true ≡ true
 every-at [] e k = refl
-every-at (b ∷ bs) e zero = and-left b (every bs) e
-every-at (b ∷ bs) e (suc k) = every-at bs (and-right b (every bs) e) k
+every-at (b ∷ bs) e zero = and-left b (allPass bs) e
+every-at (b ∷ bs) e (suc k) = every-at bs (and-right b (allPass bs) e) k
 
 or-is : (a b : Bool) → (a || b) ≡ true → (a ≡ true) ⊎ (b ≡ true)
 or-is true b e = inl refl
@@ -149,7 +151,7 @@ module _ (h : Shape) (s : List ℕ) where
           short = leb-true _ _ (implies-at (entryUsed v j) _ short u);
           padded = and-left (zeros (entryAt h s j) 5 3) _ zs;
           filled = and-right (zeros (entryAt h s j) 5 3) _ zs;
-          name = and-both (nameBytes (v .name j)) _ (implies-at (entryUsed v j) _ plain u) (implies-at (entryUsed v j) _ dots u);
+          name = and-both (plainName (v .name j)) _ (implies-at (entryUsed v j) _ plain u) (implies-at (entryUsed v j) _ dots u);
           linked = record {
             parent = p;
             target = t;
@@ -192,7 +194,7 @@ module _ (h : Shape) (s : List ℕ) where
     }
 
   module _ (n : ℕ) (state : stateKnown h s n ≡ true) (padded : handleZeros h s n ≡ true) (closed : handleClosed h s n ≡ true)
-      (inode : handleInode h s n ≡ true) where
+      (inode : handleNames h s n ≡ true) where
     handle-of : Handle h s n
     handle-of =
         let within : v .state n ≤ 2 = leb-true _ _ state in
@@ -308,8 +310,8 @@ module _ (h : Shape) (s : List ℕ) where
         & all-of _ _ (λ j l. implies-of (entryUsed v j) _ (λ u. used j l u .linked .parent))
         & all-of _ _ (λ j l. implies-of (entryUsed v j) _ (λ u. used j l u .linked .target))
         & all-of _ _ (λ j l. implies-of (entryUsed v j) _ (λ u. le-leb _ _ (used j l u .short)))
-        & all-of _ _ (λ j l. implies-of (entryUsed v j) _ (λ u. and-left (nameBytes (v .name j)) _ (used j l u .name)))
-        & all-of _ _ (λ j l. implies-of (entryUsed v j) _ (λ u. and-right (nameBytes (v .name j)) _ (used j l u .name)))
+        & all-of _ _ (λ j l. implies-of (entryUsed v j) _ (λ u. and-left (plainName (v .name j)) _ (used j l u .name)))
+        & all-of _ _ (λ j l. implies-of (entryUsed v j) _ (λ u. and-right (plainName (v .name j)) _ (used j l u .name)))
         & all-of _ _ (λ j l. implies-of (entryUsed v j) (not (any (λ i. clash v i j) j)) (λ u. rw (any-false (λ i. clash v i j) j (λ i m. f .distinct i j m l))))
         & all-of _ _ (λ i l. implies-of (directory v i && not (eqb i 0)) _ (λ g.
         eq-eqb _ _ (f .inode i l .directory (eqb-true _ _ (and-left (directory v i) _ g)) .one-entry (eqb-false _ _ (not-true _ (and-right (directory v i) _ g))))))

@@ -4,8 +4,8 @@ use layout::contents::Contents;
 use layout::errno;
 use layout::limits;
 ghost use mathlib.Core.Path.{_≡_};
-ghost use Rattle.layout.specs.Contents.{Laid};
-ghost use Rattle.consistency.specs.Others.{journalClear};
+ghost use Rattle.layout.specs.ContentsLaws.{Laid};
+ghost use Rattle.consistency.specs.Sound.{journalClear};
 ghost use Rattle.consistency.specs.Consistent.{bodiesGood, recordsNumber, checkNumber};
 
 pub mod entries;

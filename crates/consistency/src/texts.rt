@@ -4,9 +4,10 @@ use layout::limits;
 ghost use mathlib.Core.Path.{_≡_};
 ghost use Prim.Native.Nat.{_<_};
 ghost use Rattle.seq.specs.Search.{all};
-ghost use Rattle.layout.specs.Contents.{Laid};
+ghost use Rattle.layout.specs.ContentsLaws.{Laid};
 ghost use Rattle.layout.specs.View.{viewOf};
-ghost use Rattle.consistency.specs.Others.{textLinked, textGood};
+ghost use Rattle.consistency.specs.Others.{textGood};
+ghost use Rattle.consistency.specs.Sound.{textLinked};
 
 // Whether some symlink has text t.
 fn linked(s: &[u8], h: Shape, t: usize) -> bool

@@ -10,8 +10,10 @@ use borrow.Author.Tests.{eqb-true}
 use Rattle.seq.specs.Truth.{and-left, and-right}
 use Rattle.seq.specs.Search.{any, first}
 use Rattle.layout.specs.declared.Shape.{Shape}
-use Rattle.layout.specs.Place.{Key, Valid, records, place, apart}
-use Rattle.plan.specs.Fit.{Covered, coverable, coversRecord, coversSection, covers, one-covers, record-some}
+use Rattle.layout.specs.Place.{Key, records, place}
+use Rattle.layout.specs.PlaceLaws.{Valid, apart}
+use Rattle.plan.specs.Fit.{coverable, coversRecord, coversSection, covers}
+use Rattle.plan.specs.FitLaws.{Covered, one-covers, record-some}
 use Rattle.crash.specs.Image.{same-key}
 
 -- the first number that passes is one that does

@@ -14,12 +14,15 @@ use Rattle.seq.specs.Search.{any, all, first}
 use Rattle.seq.specs.Bytes.{part, put, zeros}
 use Rattle.seq.specs.Number.{numberAt, bytesOf}
 use Rattle.layout.specs.declared.Shape.{Shape}
-use Rattle.layout.specs.Place.{Key, Valid, recordBytes}
-use Rattle.layout.specs.Contents.{Read, nameIs, rowIs, shapeOf, rowGood, rowsGood, layoutGood}
+use Rattle.layout.specs.Place.{Key, recordBytes}
+use Rattle.layout.specs.PlaceLaws.{Valid}
+use Rattle.layout.specs.Contents.{nameIs, rowIs, shapeOf, rowGood, rowsGood, layoutGood}
+use Rattle.layout.specs.ContentsLaws.{Read}
 use Rattle.layout.specs.Record.{recordAt, store}
 use Rattle.plan.specs.Form.{planRows, planBytes, rowAt, headerOf, rowPut, rowsPut, cleared, noRow, rowCount}
 use Rattle.plan.specs.Fit.{coverable, coversSection, covers, rowFits, applicable}
-use Rattle.plan.specs.Write.{Write, inodeKey, entryKey, journalKey, other-section, storeAll}
+use Rattle.plan.specs.Write.{Write, inodeKey, entryKey, journalKey, storeAll}
+use Rattle.plan.specs.WriteLaws.{other-section}
 use Rattle.apply.specs.Apply.{applyNumber, appliedImage}
 use Rattle.journal.specs.Store.{putAll}
 use Rattle.journal.specs.Change.{Change}

@@ -10,12 +10,16 @@ use borrow.Author.Tests.{lt-ltb, ltb-true, not-true}
 use Rattle.seq.specs.Truth.{to-T, of-T, and-left, and-right, and-both}
 use Rattle.seq.specs.Bytes.{part}
 use Rattle.layout.specs.declared.Shape.{Shape}
-use Rattle.layout.specs.Place.{Key, Valid, records}
+use Rattle.layout.specs.Place.{Key, records}
+use Rattle.layout.specs.PlaceLaws.{Valid}
 use Rattle.layout.specs.Limits.{contentsBytes}
-use Rattle.layout.specs.Contents.{Laid, Read, layoutGood, shapeOf, good-laid}
-use Rattle.layout.specs.Record.{recordAt, store, store-same, store-other, store-contents, same-image}
+use Rattle.layout.specs.Contents.{layoutGood, shapeOf}
+use Rattle.layout.specs.ContentsLaws.{Laid, Read, good-laid}
+use Rattle.layout.specs.Record.{recordAt, store}
+use Rattle.layout.specs.RecordLaws.{store-same, store-other, store-contents, same-image}
 use Rattle.layout.specs.Commute.{store-shape, store-layout}
-use Rattle.plan.specs.Fit.{Writes, rowFits, written-fits}
+use Rattle.plan.specs.Fit.{rowFits}
+use Rattle.plan.specs.FitLaws.{Writes, written-fits}
 use Rattle.plan.specs.Write.{Write, rowFrom, storeAll}
 use Rattle.journal.specs.Pick.{All}
 use Rattle.journal.specs.Store.{Store, putAll}

@@ -9,12 +9,12 @@ use lib.Dec.{T, eqb, eqb→eq}
 use lib.ListN.{length}
 use borrow.Author.Tests.{eq-eqb, eqb-false, not-true}
 use Rattle.seq.specs.Truth.{to-T, of-T}
-use Rattle.seq.specs.Bytes.{part-length}
+use Rattle.seq.specs.BytesLaws.{part-length}
 use Rattle.layout.specs.declared.Shape.{Shape}
 use Rattle.layout.specs.Place.{Key, recordBytes, place}
 use Rattle.plan.specs.Form.{Row, planRows, planBytes, bodyAt, rowLength, rowOffset, rowAt}
 use Rattle.plan.specs.Rows.{Stands}
-use Rattle.plan.specs.Fit.{Covered, Applicable, applicable-is, applicable-fits, stands-applicable, written-fits}
+use Rattle.plan.specs.FitLaws.{Covered, Applicable, applicable-is, applicable-fits, stands-applicable, written-fits}
 use Rattle.plan.specs.Write.{Write, rowFrom}
 use Rattle.apply.specs.Apply.{applyNumber, appliedImage}
 use Rattle.apply.specs.Laws.{Applies, applies-zero, refused-same, applied-done, applied-store}

@@ -8,11 +8,11 @@ use native.Mathlib.Omega.{arith}
 use lib.ListN.{length, getD, length-map}
 use Rattle.layout.specs.declared.Shape.{Shape}
 use Rattle.layout.specs.Place.{imageBytes}
-use Rattle.layout.specs.Contents.{Read}
+use Rattle.layout.specs.ContentsLaws.{Read}
 use Rattle.plan.specs.Form.{Row, planRows, planBytes, rowsPut, cleared, rowCount}
 use Rattle.plan.specs.Rows.{Formed, Stands}
 use Rattle.plan.specs.Many.{Each, rows-length, rows-stand, cleared-length, rows-count}
-use Rattle.plan.specs.Fit.{image-small, written-formed}
+use Rattle.plan.specs.FitLaws.{image-small, written-formed}
 use Rattle.plan.specs.Write.{Write, rowsFrom}
 use Rattle.journal.specs.Pick.{All, Any}
 use Rattle.journal.specs.Order.{Sorted}

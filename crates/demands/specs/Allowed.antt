@@ -1,27 +1,26 @@
 -- A rename that passes the order of refusal is allowed: what its plan rests on, from the facts of both walks and the tests that did not hold. Assumes nothing.
 use mathlib.Core.Path.{_≡_, refl, sym, ap, _∙_}
-use mathlib.Core.Logic.{_≢_, _⊎_, inl, inr, ⊎-elim}
 use mathlib.Core.Bool.{Bool, true, false, _&&_, _||_, not, cond}
 use mathlib.Core.List.{List}
 use Prim.Native.Nat.{ℕ, _≤_, _<_}
-use native.Mathlib.Decide.{decLt}
 use native.Mathlib.Omega.{arith}
-use lib.Dec.{eqb, ltb, leb}
-use borrow.Author.Tests.{eqb-true, eqb-false, eq-eqb, ne-eqb, not-true, not-false, leb-false, le-leb}
+use lib.Dec.{eqb}
+use borrow.Author.Tests.{eqb-true, eqb-false, eq-eqb, ne-eqb, not-true, not-false, leb-false}
 use Rattle.seq.specs.Truth.{not-both, refuted}
-use Rattle.seq.specs.Search.{any, first, first-passes, first-hit, first-le}
-use Rattle.seq.specs.Climb.{up}
+use Rattle.seq.specs.Search.{first}
+use Rattle.seq.specs.SearchLaws.{first-passes}
 use Rattle.layout.specs.View.{View, isDirectory, entryUsed}
 use Rattle.tree.specs.Tree.{entriesOf}
-use Rattle.layout.specs.Limits.{linkLimit, absent}
+use Rattle.layout.specs.Limits.{absent}
 use Rattle.paths.specs.declared.request.Request.{Request}
-use Rattle.paths.specs.Lookup.{isNamed, lookup-misses}
+use Rattle.paths.specs.Lookup.{isNamed}
+use Rattle.paths.specs.LookupLaws.{lookup-misses}
 use Rattle.component.specs.declared.state.Final.the-variants.{MustExist, MayBeMissing}
-use Rattle.component.specs.Step.{Finding, existing, missing, nothing}
-use Rattle.walk.specs.Ends.{Existing, Missing, Known, Numbered, Facts}
+use Rattle.component.specs.Step.{missing}
+use Rattle.walk.specs.Ends.{Existing, Missing, Facts}
 use Rattle.walk.specs.Both.{Ends}
-use Rattle.edits.specs.Kinds.{IsDirectory, EntryUsed, HandleOpen}
-use Rattle.edits.specs.Tests.{kind-is, is-kind, not-kind}
+use Rattle.edits.specs.Kinds.{EntryUsed}
+use Rattle.edits.specs.Tests.{kind-is, is-kind}
 use Rattle.edits.specs.ConsistentView.{ConsistentView}
 use Rattle.edits.specs.Moved.{Allowed}
 use Rattle.edits.specs.Refusals.{missing-of, not-above-of, empty-of, unopened-of}

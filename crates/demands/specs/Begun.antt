@@ -1,22 +1,23 @@
 -- What is known where nothing is refused before the walks: a consistent image, a good request, and the facts of both walks. Assumes nothing.
-use mathlib.Core.Path.{_≡_, refl, sym, ap, _∙_, subst}
-use mathlib.Core.Bool.{Bool, true, false, not, cond}
-use mathlib.Core.List.{List, []}
+use mathlib.Core.Path.{_≡_, refl, sym, subst}
+use mathlib.Core.Bool.{Bool, true, cond}
+use mathlib.Core.List.{List}
 use Prim.Native.Nat.{ℕ, _≤_}
 use native.Mathlib.Decide.{ℕ-discrete}
 use lib.ListN.{length}
-use lib.Dec.{eqb}
-use borrow.Author.Tests.{ltb-false, not-false, eq-eqb, ne-eqb, eqb-false}
+use borrow.Author.Tests.{ltb-false, not-false, eq-eqb, ne-eqb}
 use Rattle.seq.specs.Bytes.{noZero}
 use Rattle.layout.specs.declared.Shape.{Shape}
-use Rattle.layout.specs.Contents.{layoutGood, shapeOf, Read, good-laid}
-use Rattle.layout.specs.View.{View, viewOf, isSymlink, readable-text}
-use Rattle.consistency.specs.Others.{journalClear}
+use Rattle.layout.specs.Contents.{layoutGood, shapeOf}
+use Rattle.layout.specs.ContentsLaws.{Read, good-laid}
+use Rattle.layout.specs.View.{View, viewOf, isSymlink}
+use Rattle.layout.specs.ViewLaws.{readable-text}
+use Rattle.consistency.specs.Sound.{journalClear}
 use Rattle.consistency.specs.Facts.{Bodies, bodies-is, bodies-readable}
 use Rattle.paths.specs.declared.request.Request.{Request}
-use Rattle.paths.specs.Request.{requestGood, good-old, good-new}
+use Rattle.paths.specs.Request.{requestGood}
+use Rattle.paths.specs.RequestLaws.{good-old, good-new}
 use Rattle.component.specs.declared.state.Final.the-variants.{MustExist, MayBeMissing}
-use Rattle.component.specs.Step.{End}
 use Rattle.walk.specs.Walk.{halt}
 use Rattle.walk.specs.Ends.{Facts, walk-facts}
 use Rattle.walk.specs.Both.{walksOf, oldWalk, newWalk, newAfter}

@@ -8,10 +8,10 @@ use Rattle.layout.specs.Contents.{nameIs, rowIs, shapeOf, rowGood, rowsGood, la
 use Rattle.layout.specs.Record.{recordAt}
 use Rattle.layout.specs.View.{viewOf}
 use Rattle.layout.specs.Bench.{bench}
-use Rattle.names.specs.Name.{nameBytes, isDots, nameGood, clash}
-use Rattle.tree.specs.Tree.{entriesOf, childDirectories, reaches}
-use Rattle.tree.specs.Inode.{textShared}
-use Rattle.consistency.specs.Others.{textLinked, journalClear}
+use Rattle.names.specs.Name.{plainName, isDots, clash}
+use Rattle.names.specs.NameTests.{nameGood}
+use Rattle.tree.specs.Tree.{entriesOf, childDirectories, reaches, textShared}
+use Rattle.consistency.specs.Sound.{textLinked, journalClear}
 use Rattle.consistency.specs.Consistent.{bodiesGood, recordsNumber, checkNumber}
 use Rattle.encode.specs.Entry.{entryBytes}
 use Rattle.encode.specs.Journal.{journalHead, journalBytes}
@@ -34,5 +34,5 @@ use Rattle.demands.specs.Line.{below, applyRows, outcome}
 use Rattle.demands.specs.Table.{table}
 
 pub bench-table : map (λ l. outcome (l .asked)) table ≡ map (λ l. l .expected) table
-unfolding bench any all first count part put zeros noZero sameBytes numberAt bytesOf nameIs rowIs shapeOf rowGood rowsGood layoutGood recordAt viewOf nameBytes isDots nameGood clash entriesOf childDirectories reaches textShared textLinked journalClear bodiesGood recordsNumber checkNumber allows path.slashes path.nameBytes isNamed lookup requestGood step walkFrom walk walksOf entryBytes journalHead journalBytes rowAt headerOf rowPut rowsPut cleared coversSection covers rowFits applicable applyNumber appliedImage movedBytes holderBytes replacedBytes entriesAfter childrenAfter linksAfter results stickyDenied hasEntries isOpened moveOf renameRows planned freeSlot order renamed planAfter below applyRows outcome table
+unfolding bench any all first count part put zeros noZero sameBytes numberAt bytesOf nameIs rowIs shapeOf rowGood rowsGood layoutGood recordAt viewOf plainName isDots nameGood clash entriesOf childDirectories reaches textShared textLinked journalClear bodiesGood recordsNumber checkNumber allows path.slashes path.untilSlash isNamed lookup requestGood step walkFrom walk walksOf entryBytes journalHead journalBytes rowAt headerOf rowPut rowsPut cleared coversSection covers rowFits applicable applyNumber appliedImage movedBytes holderBytes replacedBytes entriesAfter childrenAfter linksAfter results stickyDenied hasEntries isOpened moveOf renameRows planned freeSlot order renamed planAfter below applyRows outcome table
 bench-table = refl

@@ -10,12 +10,13 @@ use lib.Dec.{eqb}
 use lib.ListN.{length}
 use borrow.Author.Tests.{eqb-true, not-false, eq-eqb, ne-eqb}
 use Rattle.seq.specs.Number.{span}
-use Rattle.seq.specs.Bytes.{part-length}
+use Rattle.seq.specs.BytesLaws.{part-length}
 use Rattle.layout.specs.declared.Shape.{Shape}
-use Rattle.layout.specs.Contents.{shapeOf, Read}
-use Rattle.layout.specs.Record.{record-length}
+use Rattle.layout.specs.Contents.{shapeOf}
+use Rattle.layout.specs.ContentsLaws.{Read}
+use Rattle.layout.specs.RecordLaws.{record-length}
 use Rattle.layout.specs.View.{View, viewOf, entryAt, nameRoom}
-use Rattle.names.specs.Name.{nameGood}
+use Rattle.names.specs.NameTests.{nameGood}
 use Rattle.consistency.specs.Facts.{Bodies}
 use Rattle.layout.specs.Limits.{absent}
 use Rattle.paths.specs.declared.request.Request.{Request}

@@ -13,7 +13,7 @@ use Rattle.paths.specs.declared.request.Request.{Request}
 use Rattle.component.specs.Ways.{componentNumber}
 use Rattle.walk.specs.Walk.{haltNumber}
 use Rattle.walk.specs.Ends.{walkNumber}
-use Rattle.consistency.specs.Others.{journalClear}
+use Rattle.consistency.specs.Sound.{journalClear}
 use Rattle.consistency.specs.Consistent.{bodiesGood, consistent, recordsNumber, checkNumber}
 use Rattle.layout.specs.Errno.{inconsistent, journalPending, shortBuffer, badRow}
 use Rattle.plan.specs.Form.{planBytes}

@@ -1,16 +1,16 @@
 -- Demand 2: for a consistent image the job rename answers exactly as the rules say, and its plan leaves exactly the finished image. Assumes nothing.
-use mathlib.Core.Path.{_≡_, refl, sym, ap, _∙_, subst}
-use mathlib.Core.Bool.{Bool, true, false, not, cond}
-use mathlib.Core.List.{List, [], _∷_, _++_}
+use mathlib.Core.Path.{_≡_, ap, _∙_, subst}
+use mathlib.Core.Bool.{true, not}
+use mathlib.Core.List.{List, _∷_}
 use Prim.Native.Nat.{ℕ, _≤_, _<_}
-use lib.Dec.{eqb}
 use lib.ListN.{length}
 use borrow.Author.Tests.{le-ltb, eq-eqb}
 use Rattle.seq.specs.Number.{span}
 use Rattle.layout.specs.Errno.{wrongRequest}
 use Rattle.layout.specs.Contents.{shapeOf}
 use Rattle.layout.specs.View.{viewOf}
-use Rattle.consistency.specs.Consistent.{checkNumber, checked-consistent}
+use Rattle.consistency.specs.Consistent.{checkNumber}
+use Rattle.consistency.specs.ConsistentLaws.{checked-consistent}
 use Rattle.consistency.specs.Facts.{Consistent, consistent-is, is-bodies}
 use Rattle.paths.specs.declared.request.Request.{Request}
 use Rattle.paths.specs.Request.{requestGood}
@@ -21,10 +21,10 @@ use Rattle.crash.specs.Rows.{jobsIn}
 use Rattle.plan.specs.Form.{planBytes, cleared}
 use Rattle.refusals.specs.declared.case.Answer.{Answer}
 use Rattle.refusals.specs.declared.case.Answer.the-variants.{Refused, Same, Planned}
-use Rattle.refusals.specs.Steps.{Rule, refuse, numberOf, decide, steps}
+use Rattle.refusals.specs.Steps.{Rule, refuse, numberOf, decide}
 use Rattle.refusals.specs.Decide.{steps-same}
 use Rattle.rename.specs.Plan.{planned}
-use Rattle.rename.specs.Order.{walks, inodeOf, caseOf, early, late, order}
+use Rattle.rename.specs.Order.{walks, inodeOf, caseOf, late, order}
 use Rattle.rename.specs.Job.{answer, move, called, rowsOf, planOf, renamed, planAfter}
 use Rattle.outcome.specs.Outcome.{finished}
 use Rattle.outcome.specs.Applied.{applied-whole, applied-in-order}

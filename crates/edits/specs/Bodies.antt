@@ -9,15 +9,15 @@ use native.Mathlib.Omega.{arith}
 use lib.Dec.{eqb}
 use borrow.Author.Tests.{eqb-true, eqb-false, eq-eqb, ne-eqb, not-true, not-false}
 use Rattle.seq.specs.Truth.{not-both, refuted, and-left, and-right, and-both}
-use Rattle.seq.specs.Search.{any-not, any-false, any-hit, any-at}
+use Rattle.seq.specs.SearchLaws.{any-not, any-false, any-hit, any-at}
 use Rattle.seq.specs.Climb.{up}
 use Rattle.layout.specs.declared.Shape.{Shape}
 use Rattle.layout.specs.View.{View, viewOf, isSymlink}
-use Rattle.tree.specs.Tree.{reaches-goal}
-use Rattle.tree.specs.Inode.{hasText, textShared}
+use Rattle.tree.specs.TreeLaws.{reaches-goal}
+use Rattle.tree.specs.Tree.{hasText, textShared}
 use Rattle.layout.specs.Limits.{linkLimit}
 use Rattle.tree.specs.InodeFacts.{Leaf, File, Directory, Symlink, Inode}
-use Rattle.consistency.specs.Others.{textLinked}
+use Rattle.consistency.specs.Sound.{textLinked}
 use Rattle.consistency.specs.RecordFacts.{Linked, Entry, Text, Handle}
 use Rattle.consistency.specs.Facts.{Bodies}
 use Rattle.edits.specs.Kinds.{IsDirectory, IsSymlink, IsUsed, IsLeaf, EntryUsed, TextUsed, HandleOpen}

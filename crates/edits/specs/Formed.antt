@@ -7,7 +7,7 @@ use Prim.Native.Nat.{ℕ, _+_, _-_, _≤_, _<_}
 use Rattle.seq.specs.Bytes.{zeros, noZero}
 use Rattle.layout.specs.declared.Shape.{Shape}
 use Rattle.layout.specs.View.{viewOf, nameRoom, inodeAt, entryAt, textAt, handleAt}
-use Rattle.names.specs.Name.{nameGood}
+use Rattle.names.specs.NameTests.{nameGood}
 use Rattle.layout.specs.Limits.{textRoom}
 
 -- an entry in use

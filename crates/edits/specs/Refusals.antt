@@ -7,8 +7,10 @@ use Prim.Native.Nat.{ℕ}
 use lib.Dec.{eqb}
 use borrow.Author.Tests.{eq-eqb, ne-eqb}
 use Rattle.seq.specs.Truth.{not-both}
-use Rattle.seq.specs.Search.{any, any-not}
-use Rattle.seq.specs.Bytes.{sameBytes, same-refl}
+use Rattle.seq.specs.Search.{any}
+use Rattle.seq.specs.SearchLaws.{any-not}
+use Rattle.seq.specs.Bytes.{sameBytes}
+use Rattle.seq.specs.BytesLaws.{same-refl}
 use Rattle.seq.specs.Climb.{up}
 use Rattle.layout.specs.View.{View, entryUsed, handleOpen}
 use Rattle.edits.specs.Kinds.{IsDirectory, EntryUsed, HandleOpen}

@@ -6,7 +6,7 @@ use Prim.Native.Nat.{ℕ}
 use lib.Dec.{eqb, ltb}
 use borrow.Author.Tests.{eqb-true, eqb-false, ltb-true, eq-eqb, ne-eqb, lt-ltb, not-true}
 use Rattle.seq.specs.Truth.{and-left, and-right, not-both, refuted}
-use Rattle.seq.specs.Bytes.{same-refl, same-bytes}
+use Rattle.seq.specs.BytesLaws.{same-refl, same-bytes}
 use Rattle.layout.specs.View.{View, isKind, isUsed}
 use Rattle.names.specs.Name.{clash}
 use Rattle.tree.specs.Tree.{targets, holdsDirectory}

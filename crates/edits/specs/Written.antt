@@ -10,15 +10,17 @@ use native.Mathlib.Omega.{arith}
 use lib.ListN.{length, getD, replicate, getD-replicate}
 use borrow.Author.Tests.{eqb-false, not-true}
 use Rattle.seq.specs.Search.{all}
-use Rattle.seq.specs.Bytes.{part, zeros, noZero, part-byte, zeros-replicate}
-use Rattle.seq.specs.Number.{number-same}
+use Rattle.seq.specs.Bytes.{part, zeros, noZero}
+use Rattle.seq.specs.BytesLaws.{part-byte, zeros-replicate}
+use Rattle.seq.specs.NumberLaws.{number-same}
 use Rattle.layout.specs.declared.Shape.{Shape}
-use Rattle.layout.specs.Contents.{Laid}
-use Rattle.layout.specs.Record.{record-length}
+use Rattle.layout.specs.ContentsLaws.{Laid}
+use Rattle.layout.specs.RecordLaws.{record-length}
 use Rattle.layout.specs.Fields.{inodeKind, inodeLinks, entryParent, entryTarget, entryNameLength, entryName, textLength, handleState, handleInode}
 use Rattle.layout.specs.View.{View, viewOf, inodeAt, entryAt, textAt, handleAt, entryUsed, nameRoom}
-use Rattle.encode.specs.Entry.{entryBytes, retargeted, Names, names-itself, names-target, entry-names}
-use Rattle.names.specs.Name.{nameGood}
+use Rattle.encode.specs.Entry.{entryBytes, retargeted}
+use Rattle.encode.specs.EntryLaws.{Names, names-itself, names-target, entry-names}
+use Rattle.names.specs.NameTests.{nameGood}
 use Rattle.tree.specs.Tree.{entriesOf, childDirectories}
 use Rattle.consistency.specs.Facts.{Bodies}
 use Rattle.edits.specs.Kinds.{IsDirectory, IsSymlink, EntryUsed, directory-used, kind?, either?}

@@ -1,4 +1,7 @@
 pub mod Inode
+pub mod InodeLaws
 pub mod Entry
+pub mod EntryLaws
 pub mod Journal
+pub mod JournalLaws
 pub mod Bench

@@ -1,5 +1,5 @@
 -- The sizes and limits of the format and of the rules, each named once. A reader has to believe this file. Assumes nothing.
-use Prim.Native.Nat.{ℕ, _+_, _*_, _/_}
+use Prim.Native.Nat.{ℕ}
 
 -- form B: the table of contents has five rows of eight bytes
 abbrev pub contentsBytes : ℕ
@@ -21,9 +21,9 @@ handleSize = 8
 abbrev pub journalSize : ℕ
 journalSize = 32
 
--- form E: the bytes of an entry ahead of its name, which has the rest
-abbrev pub entryHead : ℕ
-entryHead = 8
+-- form E: where in an entry its name begins, which has the rest
+abbrev pub nameAt : ℕ
+nameAt = 8
 
 -- form F and rule 11: the bytes that a record has for a text
 abbrev pub textRoom : ℕ

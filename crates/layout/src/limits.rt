@@ -14,8 +14,8 @@ pub const HANDLE_BYTES: usize = 8;
 
 pub const JOURNAL_BYTES: usize = 32;
 
-// The bytes of an entry ahead of its name, and those that a record has for a text.
-pub const ENTRY_HEAD: usize = 8;
+// Where in an entry its name begins, and the bytes that a record has for a text.
+pub const NAME_AT: usize = 8;
 
 pub const TEXT_ROOM: usize = 63;
 

@@ -2,13 +2,14 @@
 use layout::Shape;
 ghost use mathlib.Core.Path.{_≡_};
 ghost use Prim.Native.Nat.{_<_};
-ghost use Rattle.layout.specs.Contents.{Laid};
+ghost use Rattle.layout.specs.ContentsLaws.{Laid};
 ghost use Rattle.layout.specs.View.{viewOf};
-ghost use Rattle.names.specs.Name.{nameBytes, isDots, nameGood, clash, hasDuplicate, Named};
+ghost use Rattle.names.specs.Name.{plainName, isDots, clash};
+ghost use Rattle.names.specs.NameTests.{nameGood, hasDuplicate, Named};
 
 // Whether no byte is 0 or a slash.
 fn bytes_good(name: &[u8]) -> bool
-    ensures { λ r. ⌜ r ≡ nameBytes (now (name .entry)) ⌝ }
+    ensures { λ r. ⌜ r ≡ plainName (now (name .entry)) ⌝ }
 {
     let mut k: usize = 0;
     while k < name.len() {

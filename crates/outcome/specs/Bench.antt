@@ -11,7 +11,8 @@ use Rattle.layout.specs.Contents.{shapeOf}
 use Rattle.layout.specs.Record.{recordAt}
 use Rattle.layout.specs.View.{viewOf}
 use Rattle.layout.specs.Bench.{bench}
-use Rattle.names.specs.Name.{nameBytes, isDots, nameGood}
+use Rattle.names.specs.Name.{plainName, isDots}
+use Rattle.names.specs.NameTests.{nameGood}
 use Rattle.layout.specs.Limits.{absent}
 use Rattle.consistency.specs.Consistent.{checkNumber}
 use Rattle.consistency.specs.Facts.{Consistent, consistent-is}
@@ -35,7 +36,7 @@ abbrev renamed : Move
 renamed = record { old = 3; new = 7; moved = 3; from = 1; into = 1; replaced = absent; text = absent; now = 500 }
 
 pub new-name-called : Called h bench renamed k
-unfolding bench part numberAt bytesOf shapeOf recordAt viewOf nameGood nameBytes isDots all sameBytes count entriesAfter
+unfolding bench part numberAt bytesOf shapeOf recordAt viewOf nameGood plainName isDots all sameBytes count entriesAfter
 new-name-called = record {
   read = read-of h bench (good .layout) refl;
   bodies = good .bodies;
@@ -59,7 +60,7 @@ abbrev replacing : Move
 replacing = record { old = 3; new = 5; moved = 3; from = 1; into = 2; replaced = 4; text = absent; now = 500 }
 
 pub file-replaced-called : Called h bench replacing []
-unfolding bench part numberAt bytesOf shapeOf recordAt viewOf nameGood nameBytes isDots all sameBytes count entriesAfter
+unfolding bench part numberAt bytesOf shapeOf recordAt viewOf nameGood plainName isDots all sameBytes count entriesAfter
 file-replaced-called = record {
   read = read-of h bench (good .layout) refl;
   bodies = good .bodies;

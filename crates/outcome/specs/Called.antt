@@ -11,17 +11,18 @@ use lib.ListN.{length, getD-replicate}
 use lib.Seq.{ext-getD}
 use borrow.Author.Tests.{eqb-true, eqb-false, eq-eqb, ne-eqb, not-true}
 use Rattle.seq.specs.Truth.{and-left, and-right}
-use Rattle.seq.specs.Search.{all-at}
+use Rattle.seq.specs.SearchLaws.{all-at}
 use Rattle.seq.specs.Bytes.{zeros}
 use Rattle.seq.specs.Number.{span}
 use Rattle.layout.specs.declared.Shape.{Shape}
-use Rattle.layout.specs.Contents.{Read}
-use Rattle.layout.specs.Record.{record-length}
+use Rattle.layout.specs.ContentsLaws.{Read}
+use Rattle.layout.specs.RecordLaws.{record-length}
 use Rattle.layout.specs.View.{View, viewOf, entryAt, journalAt, entryUsed, isSymlink, nameRoom}
-use Rattle.names.specs.Name.{nameGood}
-use Rattle.encode.specs.Entry.{entryBytes, retargeted, Names}
+use Rattle.names.specs.NameTests.{nameGood}
+use Rattle.encode.specs.Entry.{entryBytes, retargeted}
+use Rattle.encode.specs.EntryLaws.{Names}
 use Rattle.layout.specs.Limits.{absent}
-use Rattle.consistency.specs.Others.{journalClear}
+use Rattle.consistency.specs.Sound.{journalClear}
 use Rattle.consistency.specs.Facts.{Bodies}
 use Rattle.edits.specs.Kinds.{IsSymlink, EntryUsed}
 use Rattle.edits.specs.Tests.{kind-is}
@@ -33,7 +34,8 @@ use Rattle.edits.specs.Written.{new-names}
 use Rattle.plan.specs.Write.{journalKey}
 use Rattle.crash.specs.Image.{recordOf, record-is}
 use Rattle.results.specs.declared.Move.{Move}
-use Rattle.results.specs.Results.{InImage, entriesAfter, freeRecord}
+use Rattle.results.specs.Results.{entriesAfter, freeRecord}
+use Rattle.results.specs.InImage.{InImage}
 use Rattle.refusals.specs.declared.case.Case.{Case}
 use Rattle.rename.specs.Plan.{moveOf, newEntry}
 

@@ -11,14 +11,15 @@ use borrow.Author.Tests.{eq-eqb, ne-eqb}
 use Rattle.seq.specs.Bytes.{part}
 use Rattle.seq.specs.Count.{bit, count-edited}
 use Rattle.layout.specs.declared.Shape.{Shape}
-use Rattle.layout.specs.Contents.{Read}
+use Rattle.layout.specs.ContentsLaws.{Read}
 use Rattle.layout.specs.View.{View, viewOf, inodeAt, textAt}
 use Rattle.tree.specs.Tree.{targets, entriesOf, childDirectories}
-use Rattle.encode.specs.Inode.{Says, says-itself}
+use Rattle.encode.specs.InodeLaws.{Says, says-itself}
 use Rattle.layout.specs.Limits.{absent}
-use Rattle.consistency.specs.Others.{journalClear}
+use Rattle.consistency.specs.Sound.{journalClear}
 use Rattle.consistency.specs.Facts.{Bodies, is-consistent}
-use Rattle.consistency.specs.Consistent.{consistent, checkNumber, consistent-checked}
+use Rattle.consistency.specs.Consistent.{consistent, checkNumber}
+use Rattle.consistency.specs.ConsistentLaws.{consistent-checked}
 use Rattle.edits.specs.Kinds.{IsDirectory, IsSymlink, kind?}
 use Rattle.edits.specs.Tests.{is-kind, no-kind, is-targets, no-targets}
 use Rattle.edits.specs.Moved.{Replaced, Gone, replaced?}

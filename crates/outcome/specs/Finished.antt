@@ -9,11 +9,13 @@ use native.Mathlib.Omega.{arith}
 use lib.Dec.{eqb, lit<}
 use borrow.Author.Tests.{ne-eqb}
 use Rattle.layout.specs.declared.Shape.{Shape}
-use Rattle.layout.specs.Place.{Key, Valid}
+use Rattle.layout.specs.Place.{Key}
+use Rattle.layout.specs.PlaceLaws.{Valid}
 use Rattle.layout.specs.Record.{recordAt}
 use Rattle.layout.specs.View.{inodeAt, entryAt, textAt, handleAt, journalAt}
 use Rattle.layout.specs.Limits.{absent}
-use Rattle.plan.specs.Write.{Write, inodeKey, entryKey, textKey, journalKey, other-section, other-index}
+use Rattle.plan.specs.Write.{Write, inodeKey, entryKey, textKey, journalKey}
+use Rattle.plan.specs.WriteLaws.{other-section, other-index}
 use Rattle.journal.specs.Pick.{Has, any-left, any-right}
 use Rattle.journal.specs.Store.{Spares, all-ok, all-same, all-other}
 use Rattle.journal.specs.Plan.{afterOf, writes}

@@ -10,12 +10,13 @@ use lib.ListN.{length}
 use borrow.Author.Tests.{eqb-false, not-true}
 use Rattle.layout.specs.declared.Shape.{Shape}
 use Rattle.layout.specs.Place.{Key}
-use Rattle.layout.specs.Record.{record-length}
+use Rattle.layout.specs.RecordLaws.{record-length}
 use Rattle.layout.specs.View.{viewOf, inodeAt}
-use Rattle.encode.specs.Journal.{journal-length}
+use Rattle.encode.specs.JournalLaws.{journal-length}
 use Rattle.layout.specs.Limits.{absent}
 use Rattle.edits.specs.Finished.{slots-differ, moved-not-from, moved-not-into}
-use Rattle.plan.specs.Write.{Write, AllWrites, inodeKey, entryKey, textKey, other-section, other-index}
+use Rattle.plan.specs.Write.{Write, inodeKey, entryKey, textKey}
+use Rattle.plan.specs.WriteLaws.{AllWrites, other-section, other-index}
 use Rattle.journal.specs.Pick.{All, all-join}
 use Rattle.journal.specs.Store.{Distinct, Spares}
 use Rattle.journal.specs.Plan.{WellFormed}

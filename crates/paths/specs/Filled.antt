@@ -6,7 +6,8 @@ use native.Mathlib.Nat.{zero-add, sub-zero}
 use native.Mathlib.Omega.{arith}
 use lib.ListN.{length, replicate, length-append, length-replicate}
 use lib.Seq.{take-append-seam}
-use Rattle.seq.specs.Bytes.{part, put, put-join, put-zeros}
+use Rattle.seq.specs.Bytes.{part, put}
+use Rattle.seq.specs.BytesLaws.{put-join, put-zeros}
 
 -- a working path: bytes, and then zeros
 unfoldable pub filled : List ℕ → List ℕ

@@ -1,7 +1,9 @@
 pub mod Request
+pub mod RequestLaws
 pub mod Path
 pub mod Permission
 pub mod Lookup
+pub mod LookupLaws
 pub mod PathLaws
 pub mod Plain
 pub mod Filled

@@ -1,14 +1,10 @@
--- Looking a name up in a directory (rule 45). Assumes nothing.
-use mathlib.Core.Path.{_≡_}
-use mathlib.Core.Bool.{Bool, true, false, _&&_}
+-- Looking a name up in a directory (rule 45). A reader has to believe this file. Assumes nothing.
+use mathlib.Core.Bool.{Bool, _&&_}
 use mathlib.Core.List.{List}
-use Prim.Native.Nat.{ℕ, _≤_, _<_}
-use native.Mathlib.Omega.{arith}
+use Prim.Native.Nat.{ℕ}
 use lib.Dec.{eqb}
-use borrow.Author.Tests.{eqb-true}
-use Rattle.seq.specs.Truth.{and-left, and-right}
-use Rattle.seq.specs.Search.{any, any-false, first, first-le, first-passes, first-before}
-use Rattle.seq.specs.Bytes.{sameBytes, same-bytes}
+use Rattle.seq.specs.Search.{first}
+use Rattle.seq.specs.Bytes.{sameBytes}
 use Rattle.layout.specs.View.{View, entryUsed}
 
 -- the entry in slot j is in use, lies in directory d and has this name
@@ -18,36 +14,3 @@ isNamed v d name j = entryUsed v j && eqb (v .parent j) d && sameBytes (v .name 
 -- rule 45: the slot of a name in a directory, or the number of slots where there is none
 unfoldable pub lookup : View → ℕ → List ℕ → ℕ
 lookup v d name = first (isNamed v d name) (v .entries)
-
--- What holds of a slot that a name was found in.
-pub record Held (v : View) (d : ℕ) (name : List ℕ) (j : ℕ) : Type 0 where
-  pub used : entryUsed v j ≡ true
-  pub parent : v .parent j ≡ d
-  pub named : v .name j ≡ name
-
-pub lookup-held : (v : View) (d : ℕ) (name : List ℕ) (j : ℕ) → j ≡ lookup v d name → j < v .entries → Held v d name j
-unfolding lookup isNamed
-lookup-held v d name j e below = record {
-  used = and-left (entryUsed v j) _ front;
-  parent = eqb-true _ _ (and-right (entryUsed v j) _ front);
-  named = same-bytes _ _ (and-right (entryUsed v j && eqb (v .parent j) d) _ here);
-}
-  where
-    here : (entryUsed v j && eqb (v .parent j) d && sameBytes (v .name j) name) ≡ true
-    here = rw e (first-passes (isNamed v d name) (v .entries) (rw e at below))
-
-    front : (entryUsed v j && eqb (v .parent j) d) ≡ true
-    front = and-left (entryUsed v j && eqb (v .parent j) d) _ here
-
-pub lookup-used : (v : View) (d : ℕ) (name : List ℕ) (j : ℕ) → j ≡ lookup v d name → j < v .entries → entryUsed v j ≡ true
-lookup-used v d name j e below = lookup-held v d name j e below .used
-
--- where no slot was found, the answer is their number
-pub lookup-none : (v : View) (d : ℕ) (name : List ℕ) → v .entries ≤ lookup v d name → lookup v d name ≡ v .entries
-unfolding lookup
-lookup-none v d name above = let l = first-le (isNamed v d name) (v .entries) in omega arith
-
--- and then no slot holds the name
-pub lookup-misses : (v : View) (d : ℕ) (name : List ℕ) → lookup v d name ≡ v .entries → any (isNamed v d name) (v .entries) ≡ false
-unfolding lookup
-lookup-misses v d name e = any-false (isNamed v d name) (v .entries) (λ k l. first-before (isNamed v d name) (v .entries) k (rw e l))

@@ -15,8 +15,8 @@ unfoldable pub slashes : List ℕ → ℕ
 slashes p = first (λ k. not (isSlash (getD p k 0))) (length p)
 
 -- how many bytes stand ahead of its first slash
-unfoldable pub nameBytes : List ℕ → ℕ
-nameBytes p = first (λ k. isSlash (getD p k 0)) (length p)
+unfoldable pub untilSlash : List ℕ → ℕ
+untilSlash p = first (λ k. isSlash (getD p k 0)) (length p)
 
 -- a path without the slashes that it begins with
 abbrev pub skip : List ℕ → List ℕ
@@ -24,10 +24,10 @@ skip p = drop (slashes p) p
 
 -- rule 44: the first component, and what stands behind it, its slashes first
 abbrev pub component : List ℕ → List ℕ
-component p = take (nameBytes (skip p)) (skip p)
+component p = take (untilSlash (skip p)) (skip p)
 
 abbrev pub behind : List ℕ → List ℕ
-behind p = drop (nameBytes (skip p)) (skip p)
+behind p = drop (untilSlash (skip p)) (skip p)
 
 abbrev pub empty : List ℕ → Bool
 empty p = eqb (length p) 0

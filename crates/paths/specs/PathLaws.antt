@@ -10,8 +10,8 @@ use lib.ListN.{length, getD, length-append, length-drop}
 use lib.Seq.{getD-drop, getD-append-add}
 use borrow.Author.Tests.{eqb-false, ne-eqb, not-true}
 use Rattle.seq.specs.Truth.{not-both}
-use Rattle.seq.specs.Search.{first-le, first-passes, first-upto}
-use Rattle.paths.specs.Path.{isSlash, slashes, nameBytes, skip, behind, bare}
+use Rattle.seq.specs.SearchLaws.{first-le, first-passes, first-upto}
+use Rattle.paths.specs.Path.{isSlash, slashes, untilSlash, skip, behind, bare}
 
 -- a byte that is no slash ends the slashes
 pub slashes-upto : (p : List ℕ) (k : ℕ) → k < length p → isSlash (getD p k 0) ≡ false → slashes p ≤ k
@@ -31,8 +31,8 @@ pub slashes-end : (p : List ℕ) → slashes p < length p → isSlash (getD p (s
 unfolding slashes
 slashes-end p l = not-true (isSlash (getD p (slashes p) 0)) (first-passes (λ k. not (isSlash (getD p k 0))) (length p) l)
 
-pub name-end : (p : List ℕ) → nameBytes p < length p → isSlash (getD p (nameBytes p) 0) ≡ true
-unfolding nameBytes
+pub name-end : (p : List ℕ) → untilSlash p < length p → isSlash (getD p (untilSlash p) 0) ≡ true
+unfolding untilSlash
 name-end p l = first-passes (λ k. isSlash (getD p k 0)) (length p) l
 
 pub skip-le : (p : List ℕ) → length (skip p) ≤ length p
@@ -45,13 +45,13 @@ pub skip-more : (p : List ℕ) → bare p ≡ false → 0 < length (skip p)
 skip-more p more = let l = more-slashes p more in simp length-drop (omega arith)
 
 -- a component that is left has a byte at least
-pub name-more : (p : List ℕ) → bare p ≡ false → 0 < nameBytes (skip p)
-name-more p more = ⊎-elim (λ e. absurd (not-both _ (starts e) ends)) (λ l. l) (eq-zero-or-pos (nameBytes (skip p)))
+pub name-more : (p : List ℕ) → bare p ≡ false → 0 < untilSlash (skip p)
+name-more p more = ⊎-elim (λ e. absurd (not-both _ (starts e) ends)) (λ l. l) (eq-zero-or-pos (untilSlash (skip p)))
   where
     ends : isSlash (getD (skip p) 0 0) ≡ false
     ends = rw (getD-drop, add-zero) (slashes-end p (more-slashes p more))
 
-    starts : nameBytes (skip p) ≡ 0 → isSlash (getD (skip p) 0 0) ≡ true
+    starts : untilSlash (skip p) ≡ 0 → isSlash (getD (skip p) 0 0) ≡ true
     starts e = rw e at (name-end (skip p) (rw e (skip-more p more)))
 
 -- what stands behind a component that others follow begins with a slash
@@ -61,8 +61,8 @@ behind-slash p more = ⊎-elim (λ e. absurd (not-both _ starts (ends e))) (λ l
     left : slashes (behind p) < length (behind p)
     left = more-slashes (behind p) more
 
-    inside : nameBytes (skip p) < length (skip p)
-    inside = omega (arith, left, length-drop (nameBytes (skip p)) (skip p))
+    inside : untilSlash (skip p) < length (skip p)
+    inside = omega (arith, left, length-drop (untilSlash (skip p)) (skip p))
 
     starts : isSlash (getD (behind p) 0 0) ≡ true
     starts = rw (getD-drop, add-zero) (name-end (skip p) inside)

@@ -1,9 +1,7 @@
--- A request and its own check (rules 41 and 42). Assumes nothing.
-use mathlib.Core.Path.{_≡_}
-use mathlib.Core.Bool.{Bool, true, _&&_}
+-- A request's own check (rule 42). A reader has to believe this file. Assumes nothing.
+use mathlib.Core.Bool.{Bool, _&&_}
 use mathlib.Core.List.{List}
 use Prim.Native.Nat.{ℕ}
-use Rattle.seq.specs.Truth.{and-left, and-right}
 use Rattle.seq.specs.Bytes.{noZero}
 use Rattle.layout.specs.View.{View, isDirectory}
 use Rattle.paths.specs.declared.request.Request.{Request}
@@ -11,16 +9,3 @@ use Rattle.paths.specs.declared.request.Request.{Request}
 -- rule 42: the current directory is a directory, and no path holds a zero byte
 unfoldable pub requestGood : View → Request → List ℕ → List ℕ → Bool
 requestGood v q old new = isDirectory v (q .current) && noZero old && noZero new
-
--- what a good request gives
-pub good-current : (v : View) (q : Request) (old new : List ℕ) → requestGood v q old new ≡ true → isDirectory v (q .current) ≡ true
-unfolding requestGood
-good-current v q old new e = and-left _ (noZero old) (and-left (isDirectory v (q .current) && noZero old) _ e)
-
-pub good-old : (v : View) (q : Request) (old new : List ℕ) → requestGood v q old new ≡ true → noZero old ≡ true
-unfolding requestGood
-good-old v q old new e = and-right (isDirectory v (q .current)) _ (and-left (isDirectory v (q .current) && noZero old) _ e)
-
-pub good-new : (v : View) (q : Request) (old new : List ℕ) → requestGood v q old new ≡ true → noZero new ≡ true
-unfolding requestGood
-good-new v q old new e = and-right (isDirectory v (q .current) && noZero old) _ e

@@ -4,7 +4,7 @@ ghost use mathlib.Core.Bool.{cond};
 ghost use mathlib.Core.List.{_++_};
 ghost use Prim.Native.Nat.{_+_, _≤_};
 ghost use lib.ListN.{length};
-ghost use Rattle.paths.specs.Path.{slashes, nameBytes, bare, absolute, isDot, isDotDot};
+ghost use Rattle.paths.specs.Path.{slashes, untilSlash, bare, absolute, isDot, isDotDot};
 ghost use Rattle.paths.specs.Filled.{filled};
 
 // How many slashes a path begins with.
@@ -23,7 +23,7 @@ pub fn slashes(p: &[u8]) -> usize
 
 // How many bytes stand ahead of its first slash.
 pub fn name_bytes(p: &[u8]) -> usize
-    ensures { λ r. ⌜ (r ≡ nameBytes (now (p .entry))) × (r ≤ length (now (p .entry))) ⌝ }
+    ensures { λ r. ⌜ (r ≡ untilSlash (now (p .entry))) × (r ≤ length (now (p .entry))) ⌝ }
 {
     let mut k: usize = 0;
     while k < p.len() {

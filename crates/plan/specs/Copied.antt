@@ -4,7 +4,8 @@ use mathlib.Core.List.{List, [], _∷_}
 use Prim.Native.Nat.{ℕ, _+_, _≤_, _<_}
 use native.Mathlib.Omega.{arith}
 use lib.ListN.{length}
-use Rattle.seq.specs.Bytes.{put, put-length, put-within}
+use Rattle.seq.specs.Bytes.{put}
+use Rattle.seq.specs.BytesLaws.{put-length, put-within}
 use Rattle.plan.specs.Form.{Row, planRows, bodyBytes, planBytes, headerAt, bodyAt, headerOf, rowPut, rowsPut}
 use Rattle.plan.specs.Rows.{Formed, header-length, row-length}
 use Rattle.plan.specs.Many.{Each}

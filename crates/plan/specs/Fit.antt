@@ -1,19 +1,12 @@
--- Which rows an image can take: their ordering group, and the record that each replaces (rules 84 and 97 to 100). Assumes nothing.
-use mathlib.Core.Path.{_≡_, refl, _∙_}
+-- Which rows an image can take: their ordering group, and the record that each replaces (rules 84 and 97 to 100). A reader has to believe this file. Assumes nothing.
 use mathlib.Core.Bool.{Bool, true, false, _&&_}
 use mathlib.Core.List.{List}
-use Prim.Native.Nat.{ℕ, zero, suc, _+_, _≤_, _<_}
-use native.Mathlib.Omega.{arith}
+use Prim.Native.Nat.{ℕ, zero, suc}
 use lib.Dec.{eqb, leb, ltb}
-use lib.ListN.{length}
-use borrow.Author.Tests.{eq-eqb, eqb-true, lt-ltb, ltb-true, le-leb, leb-true}
-use Rattle.seq.specs.Truth.{and-left, and-right, and-both}
-use Rattle.seq.specs.Search.{any, any-hit, any-at}
+use Rattle.seq.specs.Search.{any}
 use Rattle.layout.specs.declared.Shape.{Shape}
-use Rattle.layout.specs.Contents.{Laid, layoutGood, shapeOf, good-laid}
-use Rattle.layout.specs.Place.{Key, Valid, recordBytes, records, place, imageBytes, inside}
-use Rattle.plan.specs.Form.{Row, planRows, bodyBytes, planBytes, bodyAt, rowOf, rowGroup, rowBlank, rowLength, rowOffset, rowPosition, rowAt, rowPut, lastGroup}
-use Rattle.plan.specs.Rows.{Formed, Stands, row-stands}
+use Rattle.layout.specs.Place.{Key, recordBytes, records, place}
+use Rattle.plan.specs.Form.{Row, planRows, bodyAt, rowOf, rowBlank, rowPosition, rowAt, lastGroup}
 
 abbrev pub groupGood : ℕ → Bool
 groupGood g = leb 1 g && leb g lastGroup
@@ -46,129 +39,6 @@ rowFits h r = groupGood (r .group) && covers h (r .offset) (r .bytes)
 unfoldable pub applicable : Shape → List ℕ → ℕ → Bool
 applicable h plan i = ltb i planRows && eqb (rowBlank plan i) 0 && eqb (rowPosition plan i) (bodyAt i) && rowFits h (rowAt plan i)
 
--- The record that n bytes from at on are.
-pub record Covered (h : Shape) (at n : ℕ) : Type 0 where
-  pub key : Key
-  pub valid : Valid h key
-  pub allowed : coverable (key .section) ≡ true
-  pub begins : at ≡ place h (key .section) (key .index)
-  pub whole : n ≡ recordBytes h (key .section)
-
-pub covers-one : (h : Shape) (at n : ℕ) → covers h at n ≡ true → Covered h at n
-unfolding covers coversSection
-covers-one h at n e =
-    let (k, l, f) = any-at (coversSection h at n) 5 e in
-    let (i, m, g) = any-at (coversRecord h at n k) (records h k) (and-right (coverable k) _ f) in
-    record {
-      key = record { section = k; index = i };
-      valid = record { in-image = l; in-section = m };
-      allowed = and-left (coverable k) _ f;
-      begins = eqb-true _ _ (and-left (eqb at (place h k i)) _ g);
-      whole = eqb-true _ _ (and-right (eqb at (place h k i)) _ g);
-    }
-
-pub one-covers : (h : Shape) (at n : ℕ) → Covered h at n → covers h at n ≡ true
-unfolding covers coversSection
-one-covers h at n c =
-    any-hit (coversSection h at n) 5 (c .key .section) (c .valid .in-image)
-    (and-both (coverable (c .key .section)) _ (c .allowed)
-    (any-hit (coversRecord h at n (c .key .section)) (records h (c .key .section)) (c .key .index) (c .valid .in-section)
-    (and-both (eqb at _) _ (eq-eqb _ _ (c .begins)) (eq-eqb _ _ (c .whole)))))
-
--- such a record lies in the image
-pub covered-ends : (h : Shape) (at n : ℕ) → Covered h at n → at + n ≤ imageBytes h
-covered-ends h at n c = rw (c .begins, c .whole) (inside h (c .key .section) (c .key .index) (c .valid .in-image) (c .valid .in-section))
-
--- a record is not empty, and it fits a body
-pub record-some : (h : Shape) → 1 ≤ h .width → (k : ℕ) → 1 ≤ recordBytes h k
-record-some h a zero = omega arith
-record-some h a (suc zero) = a
-record-some h a (suc (suc zero)) = omega arith
-record-some h a (suc (suc (suc zero))) = omega arith
-record-some h a (suc (suc (suc (suc k)))) = omega arith
-
-record-room : (h : Shape) → h .width ≤ 48 → (k : ℕ) → recordBytes h k ≤ bodyBytes
-record-room h a zero = omega arith
-record-room h a (suc zero) = omega arith
-record-room h a (suc (suc zero)) = omega arith
-record-room h a (suc (suc (suc zero))) = omega arith
-record-room h a (suc (suc (suc (suc k)))) = omega arith
-
--- What holds of a row that can be applied.
-pub record Applicable (h : Shape) (plan : List ℕ) (i : ℕ) : Type 0 where
-  pub below : i < planRows
-  pub blank : rowBlank plan i ≡ 0
-  pub position : rowPosition plan i ≡ bodyAt i
-  pub first : 1 ≤ rowGroup plan i
-  pub last : rowGroup plan i ≤ lastGroup
-  pub covered : Covered h (rowOffset plan i) (rowLength plan i)
-
-pub applicable-is : (h : Shape) (plan : List ℕ) (i : ℕ) → applicable h plan i ≡ true → Applicable h plan i
-unfolding applicable rowFits rowAt
-applicable-is h plan i e = record {
-  below = ltb-true _ _ (search (and-left, and-right));
-  blank = eqb-true _ _ (search (and-left, and-right));
-  position = eqb-true _ _ (search (and-left, and-right));
-  first = leb-true _ _ (search (and-left, and-right));
-  last = leb-true _ _ (search (and-left, and-right));
-  covered = covers-one h _ _ (search (and-left, and-right));
-}
-
-pub is-applicable : (h : Shape) (plan : List ℕ) (i : ℕ) → Applicable h plan i → applicable h plan i ≡ true
-unfolding applicable rowFits rowAt
-is-applicable h plan i g =
-    rw (lt-ltb _ _ (g .below), eq-eqb _ _ (g .blank), eq-eqb _ _ (g .position), le-leb _ _ (g .first), le-leb _ _ (g .last), one-covers h _ _ (g .covered))
-
--- such a row has its body in the plan and its record in the image
-pub applicable-fits : (h : Shape) (s plan : List ℕ) (i : ℕ) → Laid h s → Applicable h plan i → (rowLength plan i ≤ bodyBytes) × (rowOffset plan i + rowLength plan i ≤ length s)
-applicable-fits h s plan i laid g =
-    (rw (g .covered .whole) (record-room h (laid .width-most) (g .covered .key .section)), omega (arith, laid .long, covered-ends h _ _ (g .covered)))
-
 -- the row that replaces one record, as every operation writes it
 abbrev pub rowFor : Shape → ℕ → Key → List ℕ → Row
 rowFor h group k body = rowOf group (place h (k .section) (k .index)) body
-
--- What an operation owes for each of its rows (rule 84).
-pub record Writes (h : Shape) (group : ℕ) (k : Key) (body : List ℕ) : Type 0 where
-  pub first : 1 ≤ group
-  pub last : group ≤ lastGroup
-  pub valid : Valid h k
-  pub allowed : coverable (k .section) ≡ true
-  pub whole : length body ≡ recordBytes h (k .section)
-
--- such a row can be applied to the image, by itself
-module _ (h : Shape) (group : ℕ) (k : Key) (body : List ℕ) (w : Writes h group k body) where
-  written-covers : Covered h (place h (k .section) (k .index)) (length body)
-  written-covers = record { key = k; valid = w .valid; allowed = w .allowed; begins = refl; whole = w .whole }
-
-  pub written-fits : rowFits h (rowFor h group k body) ≡ true
-  unfolding rowFits
-  written-fits =
-      and-both (groupGood group) _ (and-both (leb 1 group) _ (le-leb _ _ (w .first)) (le-leb _ _ (w .last)))
-      (one-covers h _ _ written-covers)
-
--- a row that stands in its place can be applied exactly if the image can take it
-pub stands-applicable : (h : Shape) (plan : List ℕ) (i : ℕ) (r : Row) → i < planRows → Stands plan i r → applicable h plan i ≡ rowFits h r
-unfolding applicable
-stands-applicable h plan i r below stands =
-    rw (lt-ltb _ _ below, eq-eqb _ _ (stands .blank), eq-eqb _ _ (stands .position), stands .row)
-
--- the offset of a record fits two bytes
-pub image-small : (s : List ℕ) → layoutGood s ≡ true → imageBytes (shapeOf s) ≤ 65536
-unfolding shapeOf
-image-small s good =
-    let l = good-laid s good in
-    omega (arith, l .inodes-most, l .entries-most, l .texts-most, l .handles-most)
-
-module _ (h : Shape) (s : List ℕ) (laid : Laid h s) (small : imageBytes h ≤ 65536) (group : ℕ) (k : Key) (body : List ℕ) (w : Writes h group k body) where
-  pub written-formed : Formed (rowFor h group k body)
-  written-formed =
-      let some = record-some h (omega (arith, laid .width-least)) (k .section) in
-      let room = record-room h (laid .width-most) (k .section) in
-      let ends = inside h (k .section) (k .index) (w .valid .in-image) (w .valid .in-section) in
-      record { offset-small = omega arith; body-fits = omega (arith, w .whole); whole = refl }
-
-  -- put into a plan, it can be applied from there
-  pub written-applicable : (plan : List ℕ) (i : ℕ) → planBytes ≤ length plan → i < planRows → applicable h (rowPut plan i (rowFor h group k body)) i ≡ true
-  written-applicable plan i long below =
-      stands-applicable h _ i _ below (row-stands plan i (rowFor h group k body) long below written-formed) ∙ written-fits h group k body w

@@ -4,5 +4,7 @@ pub mod Many
 pub mod Unused
 pub mod Copied
 pub mod Fit
+pub mod FitLaws
 pub mod Write
+pub mod WriteLaws
 pub mod Bench

@@ -9,8 +9,10 @@ use native.Mathlib.Omega.{arith}
 use lib.Dec.{eqb}
 use lib.ListN.{length, getD, replicate, getD-replicate, length-replicate}
 use borrow.Author.Tests.{eq-eqb, ne-eqb}
-use Rattle.seq.specs.Search.{any, any-false, all-not, all-of, first-hit, first-none}
-use Rattle.seq.specs.Bytes.{put, zeros, part-byte, put-length, put-inside, put-after}
+use Rattle.seq.specs.Search.{any}
+use Rattle.seq.specs.SearchLaws.{any-false, all-not, all-of, first-hit, first-none}
+use Rattle.seq.specs.Bytes.{put, zeros}
+use Rattle.seq.specs.BytesLaws.{part-byte, put-length, put-inside, put-after}
 use Rattle.plan.specs.Form.{Row, planRows, headerBytes, bodyBytes, planBytes, headerAt, rowGroup, rowAt, rowPut, rowsPut, cleared, noRow, rowCount}
 use Rattle.plan.specs.Rows.{Formed, Stands, header, row-length, row-past, row-stands, header-other, stands-other}
 

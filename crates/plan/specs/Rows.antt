@@ -7,9 +7,11 @@ use native.Mathlib.Nat.{add-zero}
 use native.Mathlib.Decide.{decLt}
 use native.Mathlib.Omega.{arith}
 use lib.ListN.{length, getD, take, drop}
-use Rattle.seq.specs.Bytes.{part, put, part-byte, part-length, part-range, put-length, put-part, put-part-other, put-after}
-use Rattle.seq.specs.Number.{numberAt, bytesOf, number-part}
-use Rattle.layout.specs.Record.{Reads}
+use Rattle.seq.specs.Bytes.{part, put}
+use Rattle.seq.specs.BytesLaws.{part-byte, part-length, part-range, put-length, put-part, put-part-other, put-after}
+use Rattle.seq.specs.Number.{numberAt, bytesOf}
+use Rattle.seq.specs.NumberLaws.{number-part}
+use Rattle.layout.specs.RecordLaws.{Reads}
 use Rattle.plan.specs.Form.{Row, planRows, headerBytes, bodyBytes, planBytes, headerAt, bodyAt, rowGroup, rowBlank, rowLength, rowOffset, rowPosition, rowAt, headerOf, rowPut}
 
 -- a body as the code takes it, `&plan[at..at + n]`

@@ -7,7 +7,8 @@ use native.Mathlib.Omega.{arith}
 use lib.Dec.{leb, ltb}
 use lib.ListN.{length, getD}
 use borrow.Author.Tests.{leb-false, ltb-false}
-use Rattle.seq.specs.Bytes.{put, put-before, put-after}
+use Rattle.seq.specs.Bytes.{put}
+use Rattle.seq.specs.BytesLaws.{put-before, put-after}
 use Rattle.plan.specs.Form.{Row, headerBytes, planBytes, headerAt, bodyAt, headerOf, rowPut, rowsPut, cleared}
 use Rattle.plan.specs.Rows.{header-length}
 use Rattle.plan.specs.Many.{cleared-byte}

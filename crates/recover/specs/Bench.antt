@@ -11,13 +11,13 @@ use Rattle.layout.specs.Contents.{nameIs, rowIs, shapeOf, rowGood, rowsGood, la
 use Rattle.layout.specs.Record.{recordAt, store}
 use Rattle.layout.specs.View.{viewOf, entryAt}
 use Rattle.layout.specs.Bench.{bench}
-use Rattle.names.specs.Name.{nameBytes, isDots, nameGood, clash}
-use Rattle.tree.specs.Tree.{entriesOf, childDirectories, reaches}
-use Rattle.tree.specs.Inode.{textShared}
+use Rattle.names.specs.Name.{plainName, isDots, clash}
+use Rattle.names.specs.NameTests.{nameGood}
+use Rattle.tree.specs.Tree.{entriesOf, childDirectories, reaches, textShared}
 use Rattle.encode.specs.Entry.{retargeted}
 use Rattle.encode.specs.Journal.{journalOf, journalFormed, journalHead, journalBytes}
 use Rattle.layout.specs.Limits.{absent}
-use Rattle.consistency.specs.Others.{textLinked, journalClear}
+use Rattle.consistency.specs.Sound.{textLinked, journalClear}
 use Rattle.consistency.specs.Consistent.{bodiesGood, consistent}
 use Rattle.plan.specs.Form.{headerOf, rowPut, rowsPut, cleared, noRow, rowCount}
 use Rattle.plan.specs.Write.{Write, entryKey, journalKey, storeAll}
@@ -74,13 +74,13 @@ pub bench-recovered : map (λ x. told (asked x)) inputs ≡
     (0 ∷ 0 ∷ 0 ∷ []) ∷ (0 ∷ 1 ∷ 1 ∷ []) ∷ (0 ∷ 6 ∷ 6 ∷ []) ∷ (0 ∷ 6 ∷ 6 ∷ [])
     ∷ (204 ∷ 0 ∷ 0 ∷ []) ∷ (204 ∷ 0 ∷ 0 ∷ []) ∷ (204 ∷ 0 ∷ 0 ∷ []) ∷ (204 ∷ 0 ∷ 0 ∷ []) ∷ (204 ∷ 0 ∷ 0 ∷ []) ∷ (204 ∷ 0 ∷ 0 ∷ []) ∷ (201 ∷ 0 ∷ 0 ∷ [])
     ∷ []
-unfolding bench any all first count part put store zeros sameBytes numberAt bytesOf nameIs rowIs shapeOf rowGood rowsGood layoutGood recordAt viewOf nameBytes isDots nameGood clash entriesOf childDirectories reaches textShared noZero textLinked journalClear bodiesGood consistent movedBytes holderBytes replacedBytes entriesAfter childrenAfter linksAfter results journalOf journalFormed journalHead journalBytes renameFits decided intoGood moveDraft renameDraft draft pendingRows recovered headerOf rowPut rowsPut cleared noRow rowCount
+unfolding bench any all first count part put store zeros sameBytes numberAt bytesOf nameIs rowIs shapeOf rowGood rowsGood layoutGood recordAt viewOf plainName isDots nameGood clash entriesOf childDirectories reaches textShared noZero textLinked journalClear bodiesGood consistent movedBytes holderBytes replacedBytes entriesAfter childrenAfter linksAfter results journalOf journalFormed journalHead journalBytes renameFits decided intoGood moveDraft renameDraft draft pendingRows recovered headerOf rowPut rowsPut cleared noRow rowCount
 bench-recovered = refl
 
 -- the outcome in scratch, zeros where the image cannot be recovered, and the byte past the image as it was
 pub bench-scratch : map (λ x. asked x .scratch) (bench ∷ begun ∷ going ∷ set going 592 2 ∷ []) ≡
     map (λ x. x ++ 7 ∷ []) (bench ∷ bench ∷ storeAll h bench (entryRow ∷ results h bench m) ∷ replicate 624 0 ∷ [])
-unfolding bench any all first count part put store zeros sameBytes numberAt bytesOf nameIs rowIs shapeOf rowGood rowsGood layoutGood recordAt viewOf nameBytes isDots nameGood clash entriesOf childDirectories reaches textShared noZero textLinked journalClear bodiesGood consistent movedBytes holderBytes replacedBytes entriesAfter childrenAfter linksAfter results journalOf journalFormed journalHead journalBytes renameFits decided intoGood moveDraft renameDraft draft pendingRows recovered headerOf rowPut rowsPut cleared noRow rowCount
+unfolding bench any all first count part put store zeros sameBytes numberAt bytesOf nameIs rowIs shapeOf rowGood rowsGood layoutGood recordAt viewOf plainName isDots nameGood clash entriesOf childDirectories reaches textShared noZero textLinked journalClear bodiesGood consistent movedBytes holderBytes replacedBytes entriesAfter childrenAfter linksAfter results journalOf journalFormed journalHead journalBytes renameFits decided intoGood moveDraft renameDraft draft pendingRows recovered headerOf rowPut rowsPut cleared noRow rowCount
 bench-scratch = refl
 
 -- buffers that are too short

@@ -12,7 +12,7 @@ use Rattle.layout.specs.Contents.{layoutGood, shapeOf}
 use Rattle.layout.specs.View.{viewOf, journalAt}
 use Rattle.encode.specs.declared.journal.Journal.{Journal}
 use Rattle.encode.specs.Journal.{journalOf, journalFormed}
-use Rattle.consistency.specs.Others.{journalClear}
+use Rattle.consistency.specs.Sound.{journalClear}
 use Rattle.consistency.specs.Consistent.{consistent}
 use Rattle.layout.specs.Errno.{inconsistent, shortBuffer}
 use Rattle.plan.specs.Form.{planRows, planBytes}

@@ -3,7 +3,8 @@ use mathlib.Core.List.{List}
 use mathlib.Core.Option.{Option, none, some}
 use Prim.Native.Nat.{ℕ}
 use Rattle.layout.specs.declared.Shape.{Shape}
-use Rattle.plan.specs.Write.{Write, Filled}
+use Rattle.plan.specs.Write.{Write}
+use Rattle.plan.specs.WriteLaws.{Filled}
 use Rattle.recover.specs.declared.draft.Draft.{Draft}
 use Rattle.recover.specs.declared.draft.Draft.the-variants.{Unfit, Rows}
 

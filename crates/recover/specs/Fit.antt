@@ -11,15 +11,18 @@ use lib.Dec.{eqb, ltb}
 use borrow.Author.Tests.{ltb-true, lt-ltb, ne-eqb}
 use Rattle.seq.specs.Truth.{and-left, and-right, implies-at, by-test}
 use Rattle.layout.specs.declared.Shape.{Shape}
-use Rattle.layout.specs.Contents.{Laid}
-use Rattle.layout.specs.View.{viewOf, journalAt, isDirectory, isKind-below}
+use Rattle.layout.specs.ContentsLaws.{Laid}
+use Rattle.layout.specs.View.{viewOf, journalAt, isDirectory}
+use Rattle.layout.specs.ViewLaws.{isKind-below}
 use Rattle.encode.specs.declared.journal.Journal.{Journal}
 use Rattle.encode.specs.Journal.{journalOf, journalFormed}
 use Rattle.layout.specs.Limits.{absent}
 use Rattle.plan.specs.Form.{planRows, rowPut}
-use Rattle.plan.specs.Write.{Write, AllWrites, writes-join, rowFrom, Filled, filled-one, filled-join}
+use Rattle.plan.specs.Write.{Write, rowFrom}
+use Rattle.plan.specs.WriteLaws.{AllWrites, writes-join, Filled, filled-one, filled-join}
 use Rattle.results.specs.declared.Move.{Move}
-use Rattle.results.specs.Results.{InImage, present, results, clearRow}
+use Rattle.results.specs.Results.{present, results, clearRow}
+use Rattle.results.specs.InImage.{InImage}
 use Rattle.results.specs.Owed.{results-write, clear-writes}
 use Rattle.results.specs.Rows.{results-le}
 use Rattle.recover.specs.Recover.{belowOrAbsent, inRange, different, renameFits, moveFrom, decided, intoGood, undoing, finishing, moveDraft, renameDraft, kindDraft, draft}

@@ -1,5 +1,6 @@
 pub mod Recover
 pub mod Job
+pub mod JobLaws
 pub mod Bounds
 pub mod Drafts
 pub mod Fit

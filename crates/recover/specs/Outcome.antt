@@ -5,17 +5,18 @@ use Prim.Native.Nat.{ℕ, zero, suc, _+_, _-_, _≤_, _<_}
 use native.Mathlib.Nat.{add-zero}
 use native.Mathlib.Omega.{arith}
 use lib.ListN.{length, getD, length-map}
-use Rattle.seq.specs.Bytes.{put-length}
+use Rattle.seq.specs.BytesLaws.{put-length}
 use Rattle.layout.specs.declared.Shape.{Shape}
 use Rattle.layout.specs.Place.{Key, place, imageBytes}
-use Rattle.layout.specs.Contents.{Laid, Read, good-laid}
+use Rattle.layout.specs.ContentsLaws.{Laid, Read, good-laid}
 use Rattle.layout.specs.Record.{store}
 use Rattle.layout.specs.Commute.{store-shape, store-layout}
 use Rattle.plan.specs.Form.{Row, planRows, planBytes, rowsPut}
 use Rattle.plan.specs.Rows.{Formed, Stands}
 use Rattle.plan.specs.Many.{Each, rows-length, rows-stand}
-use Rattle.plan.specs.Fit.{Writes, image-small, written-formed}
-use Rattle.plan.specs.Write.{Write, AllWrites, storeAll, rowFrom, rowsFrom}
+use Rattle.plan.specs.FitLaws.{Writes, image-small, written-formed}
+use Rattle.plan.specs.Write.{Write, storeAll, rowFrom, rowsFrom}
+use Rattle.plan.specs.WriteLaws.{AllWrites}
 use Rattle.apply.specs.Apply.{appliedImage}
 use Rattle.apply.specs.Laws.{written-stores}
 

@@ -10,16 +10,19 @@ use native.Mathlib.Omega.{arith}
 use lib.ListN.{length, replicate, take, drop, length-replicate, length-map}
 use lib.Seq.{length-take-le}
 use Rattle.seq.specs.Truth.{refuted}
-use Rattle.seq.specs.Bytes.{put, put-eq, put-whole}
+use Rattle.seq.specs.Bytes.{put}
+use Rattle.seq.specs.BytesLaws.{put-eq, put-whole}
 use Rattle.layout.specs.declared.Shape.{Shape}
-use Rattle.layout.specs.Contents.{Read}
-use Rattle.consistency.specs.Others.{journalClear}
-use Rattle.consistency.specs.Consistent.{bodiesGood, consistent, checkNumber, checked-consistent, consistent-checked}
+use Rattle.layout.specs.ContentsLaws.{Read}
+use Rattle.consistency.specs.Sound.{journalClear}
+use Rattle.consistency.specs.Consistent.{bodiesGood, consistent, checkNumber}
+use Rattle.consistency.specs.ConsistentLaws.{checked-consistent, consistent-checked}
 use Rattle.layout.specs.Errno.{inconsistent, notRecoverable}
 use Rattle.plan.specs.Form.{planRows, planBytes, rowsPut, cleared}
 use Rattle.plan.specs.Many.{rows-length}
 use Rattle.plan.specs.Copied.{rows-copied}
-use Rattle.plan.specs.Write.{Write, AllWrites, Filled, storeAll, rowsFrom}
+use Rattle.plan.specs.Write.{Write, storeAll, rowsFrom}
+use Rattle.plan.specs.WriteLaws.{AllWrites, Filled}
 use Rattle.recover.specs.declared.Answer.{Answer}
 use Rattle.recover.specs.declared.draft.Draft.the-variants.{Unfit, Rows}
 use Rattle.recover.specs.Recover.{draft, ifConsistent, pendingRows}

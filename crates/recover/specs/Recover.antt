@@ -10,7 +10,7 @@ use Rattle.layout.specs.declared.Shape.{Shape}
 use Rattle.layout.specs.View.{View, viewOf, journalAt, entryUsed, isDirectory}
 use Rattle.encode.specs.declared.journal.Journal.{Journal}
 use Rattle.encode.specs.Journal.{journalOf, journalFormed}
-use Rattle.consistency.specs.Others.{journalClear}
+use Rattle.consistency.specs.Sound.{journalClear}
 use Rattle.consistency.specs.Consistent.{consistent}
 use Rattle.plan.specs.Write.{Write, storeAll}
 use Rattle.results.specs.declared.Move.{Move}

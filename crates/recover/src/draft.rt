@@ -2,7 +2,7 @@
 use layout::Shape;
 ghost use Prim.Native.Nat.{_≤_};
 ghost use lib.ListN.{length};
-ghost use Rattle.layout.specs.Contents.{Laid};
+ghost use Rattle.layout.specs.ContentsLaws.{Laid};
 ghost use Rattle.plan.specs.Form.{planBytes};
 ghost use Rattle.recover.specs.Recover.{draft};
 ghost use Rattle.recover.specs.Drafts.{Drafted};

@@ -6,7 +6,7 @@ use layout::errno;
 ghost use mathlib.Core.Path.{_≡_};
 ghost use Prim.Native.Nat.{_≤_};
 ghost use lib.ListN.{length};
-ghost use Rattle.layout.specs.Contents.{Read};
+ghost use Rattle.layout.specs.ContentsLaws.{Read};
 ghost use Rattle.plan.specs.Form.{planBytes};
 ghost use Rattle.recover.specs.Recover.{pendingRows};
 ghost use Rattle.recover.specs.Job.{byRows, byJournal, recovered};

@@ -7,11 +7,11 @@ use results::Move;
 ghost use mathlib.Core.Path.{_≡_};
 ghost use Prim.Native.Nat.{_≤_, _<_};
 ghost use lib.ListN.{length};
-ghost use Rattle.layout.specs.Contents.{Laid};
+ghost use Rattle.layout.specs.ContentsLaws.{Laid};
 ghost use Rattle.layout.specs.View.{viewOf};
 ghost use Rattle.plan.specs.Form.{planBytes};
-ghost use Rattle.plan.specs.Write.{Filled};
-ghost use Rattle.results.specs.Results.{InImage};
+ghost use Rattle.plan.specs.WriteLaws.{Filled};
+ghost use Rattle.results.specs.InImage.{InImage};
 ghost use Rattle.recover.specs.Recover.{belowOrAbsent, inRange, different, renameFits, moveFrom, decided, intoGood, finishing, renameDraft};
 ghost use Rattle.recover.specs.Drafts.{Drafted};
 

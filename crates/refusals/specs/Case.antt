@@ -1,13 +1,11 @@
--- What the steps of the order of refusal ask of a case, each test by itself, so that another call can ask a part of them. Assumes nothing.
+-- What the steps of the order of refusal ask of a case, each test by itself, so that another call can ask a part of them. A reader has to believe this file. Assumes nothing.
 -- The papers' S, T, P and Q are `moved`, `replaced`, `from` and `into`.
-use mathlib.Core.Path.{_≡_}
-use mathlib.Core.Logic.{_≢_}
-use mathlib.Core.Bool.{Bool, true, _&&_, _||_, not}
-use Prim.Native.Nat.{ℕ, _/_, _%_, _<_}
+use mathlib.Core.Bool.{Bool, _&&_, _||_, not}
+use Prim.Native.Nat.{ℕ, _/_, _%_}
 use lib.Dec.{eqb, leb}
 use Rattle.seq.specs.Search.{any}
 use Rattle.layout.specs.Fields.{readOnly}
-use Rattle.layout.specs.View.{View, isDirectory, isUsed, entryUsed, handleOpen}
+use Rattle.layout.specs.View.{View, isDirectory, entryUsed, handleOpen}
 use Rattle.tree.specs.Tree.{entriesOf, reaches}
 use Rattle.layout.specs.Limits.{linkLimit, absent}
 use Rattle.paths.specs.declared.request.Credentials.{Credentials}
@@ -103,10 +101,3 @@ module _ (v : View) where
   -- rule 77, step 13: no entry is free
   abbrev pub noSlot : Case → Bool
   noSlot c = not (exists c) && leb (v .entries) (c .new)
-
--- A case whose numbers name inodes in use: what the code relies on when it reads them.
-pub record CaseIn (v : View) (c : Case) : Type 0 where
-  pub moved : isUsed v (c .moved) ≡ true
-  pub from : isDirectory v (c .from) ≡ true
-  pub into : isDirectory v (c .into) ≡ true
-  pub replaced : c .replaced ≢ absent → isUsed v (c .replaced) ≡ true

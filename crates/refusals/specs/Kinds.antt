@@ -9,11 +9,13 @@ use lib.Dec.{eqb, ltb}
 use borrow.Author.Tests.{eq-eqb, ne-eqb, le-ltb}
 use Rattle.seq.specs.Truth.{not-both}
 use Rattle.layout.specs.declared.Shape.{Shape}
-use Rattle.layout.specs.Contents.{Laid}
-use Rattle.layout.specs.View.{View, viewOf, kindOf, isUsed, isDirectory, other-kind}
+use Rattle.layout.specs.ContentsLaws.{Laid}
+use Rattle.layout.specs.View.{View, viewOf, kindOf, isUsed, isDirectory}
+use Rattle.layout.specs.ViewLaws.{other-kind}
 use Rattle.layout.specs.Limits.{absent}
 use Rattle.refusals.specs.declared.case.Case.{Case}
-use Rattle.refusals.specs.Case.{CaseIn, exists, replacesOther, replacesDirectory, slashedFile, hasEntries, notEmpty}
+use Rattle.refusals.specs.Case.{exists, replacesOther, replacesDirectory, slashedFile, hasEntries, notEmpty}
+use Rattle.refusals.specs.CaseIn.{CaseIn}
 
 -- type 0 is that of no inode in use, and of no directory
 used-kind : (v : View) (i : ℕ) → kindOf v i ≡ 0 → isUsed v i ≡ false

@@ -1,4 +1,5 @@
 pub mod Case
+pub mod CaseIn
 pub mod Within
 pub mod Kinds
 pub mod Steps

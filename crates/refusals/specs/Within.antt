@@ -2,9 +2,10 @@
 use mathlib.Core.List.{List}
 use Prim.Native.Nat.{ℕ, _<_}
 use Rattle.layout.specs.declared.Shape.{Shape}
-use Rattle.layout.specs.View.{viewOf, isKind-below, isUsed-below}
+use Rattle.layout.specs.View.{viewOf}
+use Rattle.layout.specs.ViewLaws.{isKind-below, isUsed-below}
 use Rattle.refusals.specs.declared.case.Case.{Case}
-use Rattle.refusals.specs.Case.{CaseIn}
+use Rattle.refusals.specs.CaseIn.{CaseIn}
 
 pub record Within (h : Shape) (c : Case) : Type 0 where
   pub moved : c .moved < h .inodes

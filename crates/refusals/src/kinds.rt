@@ -6,9 +6,10 @@ use layout::errno;
 use paths::permission;
 ghost use mathlib.Core.Path.{_≡_};
 ghost use mathlib.Core.Bool.{true, false};
-ghost use Rattle.layout.specs.Contents.{Laid};
+ghost use Rattle.layout.specs.ContentsLaws.{Laid};
 ghost use Rattle.layout.specs.View.{viewOf, isDirectory};
-ghost use Rattle.refusals.specs.Case.{movedDenied, CaseIn};
+ghost use Rattle.refusals.specs.Case.{movedDenied};
+ghost use Rattle.refusals.specs.CaseIn.{CaseIn};
 ghost use Rattle.refusals.specs.Steps.{numberOf, decide, kindRules};
 
 // Step 9 of a directory: it gets another parent, and write permission is denied on it.

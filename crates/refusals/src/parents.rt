@@ -7,7 +7,7 @@ use paths::permission;
 use paths::request::Credentials;
 ghost use mathlib.Core.Path.{_≡_};
 ghost use Prim.Native.Nat.{_<_};
-ghost use Rattle.layout.specs.Contents.{Laid};
+ghost use Rattle.layout.specs.ContentsLaws.{Laid};
 ghost use Rattle.layout.specs.View.{viewOf};
 ghost use Rattle.refusals.specs.Case.{readOnlyParent, otherSystem, mountedIn, mounted, parentDenied, sticky, owns, stickyDenied, insideItself};
 ghost use Rattle.refusals.specs.Within.{Within};

@@ -6,8 +6,9 @@ use crate::parents;
 use crate::target;
 use layout::Shape;
 ghost use mathlib.Core.Path.{_≡_};
-ghost use Rattle.layout.specs.View.{viewOf, Readable};
-ghost use Rattle.refusals.specs.Case.{CaseIn};
+ghost use Rattle.layout.specs.View.{viewOf};
+ghost use Rattle.layout.specs.ViewLaws.{Readable};
+ghost use Rattle.refusals.specs.CaseIn.{CaseIn};
 ghost use Rattle.refusals.specs.Steps.{decide, steps};
 
 // How a rename is answered, whose walks have found this case.

@@ -1,7 +1,7 @@
 -- The parts of the job's answer are small: no more rows than a plan holds, and no walk of more than 1,152 component checks (rule 61). Assumes nothing.
 use mathlib.Core.Path.{sym, subst}
 use mathlib.Core.List.{List, [], _∷_}
-use Prim.Native.Nat.{ℕ, _+_, _≤_, zero-le}
+use Prim.Native.Nat.{ℕ, _≤_, zero-le}
 use native.Mathlib.Omega.{arith}
 use lib.Dec.{eqb}
 use lib.ListN.{length, length-append}
@@ -23,7 +23,7 @@ use Rattle.refusals.specs.declared.case.Answer.the-variants.{Refused, Same, Pla
 use Rattle.refusals.specs.Steps.{decide}
 use Rattle.rename.specs.declared.Renamed.{Renamed}
 use Rattle.rename.specs.Plan.{renameRows}
-use Rattle.rename.specs.Order.{view, walks, early}
+use Rattle.rename.specs.Order.{view, early}
 use Rattle.rename.specs.Job.{answer, move, called, rowsOf, countOf, renamed}
 use Rattle.rename.specs.Outs.{Answers}
 

@@ -1,16 +1,17 @@
 -- What is known of the case where both walks are whole: its numbers name inodes in use, and a planned move lies in the image. Assumes nothing.
-use mathlib.Core.Path.{_≡_, refl, sym, _∙_}
+use mathlib.Core.Path.{_≡_, refl}
 use mathlib.Core.Logic.{_≢_}
-use mathlib.Core.Bool.{Bool, true, false, _&&_, not, cond}
+use mathlib.Core.Bool.{Bool, true, false, _&&_, not}
 use mathlib.Core.List.{List}
-use Prim.Native.Nat.{ℕ, _+_, _-_, _≤_, _<_, zero-le}
+use Prim.Native.Nat.{ℕ, _+_, _-_, _≤_, _<_}
 use native.Mathlib.Omega.{arith}
-use lib.Dec.{eqb, leb}
+use lib.Dec.{eqb}
 use lib.ListN.{length}
 use borrow.Author.Tests.{eq-eqb, leb-false}
-use Rattle.seq.specs.Truth.{and-left, not-both}
+use Rattle.seq.specs.Truth.{not-both}
 use Rattle.layout.specs.declared.Shape.{Shape}
-use Rattle.layout.specs.View.{View, viewOf, isKind, isUsed, isSymlink, isUsed-below, isKind-below, Readable}
+use Rattle.layout.specs.View.{View, viewOf, isKind, isUsed, isSymlink}
+use Rattle.layout.specs.ViewLaws.{isUsed-below, isKind-below, Readable}
 use Rattle.layout.specs.Limits.{absent}
 use Rattle.paths.specs.declared.request.Request.{Request}
 use Rattle.component.specs.declared.state.Final.the-variants.{MustExist, MayBeMissing}
@@ -18,8 +19,10 @@ use Rattle.component.specs.Step.{Finding, existing, missing, nothing}
 use Rattle.walk.specs.Ends.{Existing, Missing, Known, Numbered, Facts}
 use Rattle.walk.specs.Both.{Ends}
 use Rattle.refusals.specs.declared.case.Case.{Case}
-use Rattle.refusals.specs.Case.{CaseIn, exists, noSlot}
-use Rattle.results.specs.Results.{InImage, entriesAfter}
+use Rattle.refusals.specs.Case.{exists, noSlot}
+use Rattle.refusals.specs.CaseIn.{CaseIn}
+use Rattle.results.specs.Results.{entriesAfter}
+use Rattle.results.specs.InImage.{InImage}
 use Rattle.rename.specs.Plan.{moveWith, freedText, moveOf}
 use Rattle.rename.specs.Order.{freeSlot, directoryOf, slotOf, inodeOf, slashOf, nameOf, caseOf}
 

@@ -1,5 +1,5 @@
 -- The whole order of refusal of a rename, for any bytes: buffer, layout, journal record, bodies, request, old's walk, new's walk, steps 1 to 13 (rules 63 and 64). Assumes nothing.
-use mathlib.Core.Bool.{Bool, true, false, not}
+use mathlib.Core.Bool.{Bool, false, not}
 use mathlib.Core.List.{List, [], _∷_, _++_}
 use Prim.Native.Nat.{ℕ}
 use lib.Dec.{eqb, ltb}
@@ -8,7 +8,7 @@ use Rattle.seq.specs.Search.{first}
 use Rattle.layout.specs.Errno.{shortBuffer, inconsistent, journalPending, wrongRequest}
 use Rattle.layout.specs.Contents.{layoutGood, shapeOf}
 use Rattle.layout.specs.View.{View, viewOf, entryUsed}
-use Rattle.consistency.specs.Others.{journalClear}
+use Rattle.consistency.specs.Sound.{journalClear}
 use Rattle.consistency.specs.Consistent.{bodiesGood}
 use Rattle.layout.specs.Limits.{absent}
 use Rattle.paths.specs.declared.request.Request.{Request}
@@ -17,8 +17,7 @@ use Rattle.component.specs.Step.{Finding, existing, missing, nothing}
 use Rattle.walk.specs.Both.{Ends, walksOf}
 use Rattle.plan.specs.Form.{planBytes}
 use Rattle.refusals.specs.declared.case.Case.{Case}
-use Rattle.refusals.specs.declared.case.Answer.{Answer}
-use Rattle.refusals.specs.Steps.{Rule, refuse, decide, steps}
+use Rattle.refusals.specs.Steps.{Rule, refuse, steps}
 
 -- the lowest free slot, or the number of slots where none is free
 unfoldable pub freeSlot : View → ℕ

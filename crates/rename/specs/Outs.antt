@@ -1,32 +1,31 @@
 -- The ways out of the job rename: refused before any walk, by a walk, or answered by the steps. Assumes nothing.
-use mathlib.Core.Path.{_≡_, refl, sym, ap, _∙_, subst}
+use mathlib.Core.Path.{_≡_, refl, sym, ap, _∙_}
 use mathlib.Core.Logic.{_≢_}
-use mathlib.Core.Bool.{Bool, true, false, not, cond}
-use mathlib.Core.List.{List, [], _∷_, _++_}
+use mathlib.Core.Bool.{Bool, true, false, cond}
+use mathlib.Core.List.{List, _++_}
 use Prim.Native.Nat.{ℕ, _≤_, _<_}
 use native.Mathlib.Omega.{arith}
 use native.Mathlib.Decide.{ℕ-discrete}
-use lib.Dec.{eqb, ltb}
 use lib.ListN.{length}
 use borrow.Author.Tests.{eq-eqb, ne-eqb, lt-ltb, le-ltb}
 use Rattle.layout.specs.Errno.{shortBuffer, inconsistent, wrongRequest}
 use Rattle.layout.specs.declared.Shape.{Shape}
-use Rattle.layout.specs.Contents.{layoutGood, shapeOf, Read}
+use Rattle.layout.specs.Contents.{layoutGood}
+use Rattle.layout.specs.ContentsLaws.{Read}
 use Rattle.layout.specs.View.{View, viewOf}
-use Rattle.consistency.specs.Others.{journalClear}
+use Rattle.consistency.specs.Sound.{journalClear}
 use Rattle.consistency.specs.Consistent.{bodiesGood, recordsNumber}
 use Rattle.paths.specs.declared.request.Request.{Request}
 use Rattle.paths.specs.Request.{requestGood}
-use Rattle.component.specs.Step.{End}
 use Rattle.walk.specs.Walk.{halt}
-use Rattle.walk.specs.Both.{Ends, walksOf, newWalk, newAfter}
+use Rattle.walk.specs.Both.{Ends, walksOf, newWalk}
 use Rattle.plan.specs.Form.{planBytes}
 use Rattle.refusals.specs.declared.case.Answer.{Answer}
-use Rattle.refusals.specs.declared.case.Answer.the-variants.{Refused, Same, Planned}
-use Rattle.refusals.specs.Steps.{Rule, numberOf, decide, steps}
+use Rattle.refusals.specs.declared.case.Answer.the-variants.{Refused, Planned}
+use Rattle.refusals.specs.Steps.{numberOf, decide, steps}
 use Rattle.refusals.specs.Decide.{decide-refused, decide-passed}
 use Rattle.rename.specs.declared.Renamed.{Renamed}
-use Rattle.rename.specs.Order.{view, walks, caseOf, early, late, order}
+use Rattle.rename.specs.Order.{walks, caseOf, early, late, order}
 use Rattle.rename.specs.Job.{rowsOf, planOf, renamed, planAfter}
 
 -- What the job answers, and the plan buffer after it.

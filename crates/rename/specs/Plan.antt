@@ -4,7 +4,7 @@ use mathlib.Core.List.{List, [], _∷_, _++_}
 use Prim.Native.Nat.{ℕ}
 use lib.Dec.{eqb}
 use Rattle.layout.specs.declared.Shape.{Shape}
-use Rattle.layout.specs.View.{View, viewOf, entryAt, isSymlink}
+use Rattle.layout.specs.View.{View, entryAt, isSymlink}
 use Rattle.encode.specs.declared.journal.Journal.{Journal}
 use Rattle.encode.specs.Journal.{journalBytes}
 use Rattle.layout.specs.Limits.{absent}

@@ -6,7 +6,8 @@ use native.Mathlib.Omega.{arith}
 use lib.ListN.{length}
 use Rattle.layout.specs.declared.Shape.{Shape}
 use Rattle.plan.specs.Form.{planRows, rowPut, rowsPut, cleared}
-use Rattle.plan.specs.Write.{rowFrom, rowsFrom, Filled, filled-one, filled-join}
+use Rattle.plan.specs.Write.{rowFrom, rowsFrom}
+use Rattle.plan.specs.WriteLaws.{Filled, filled-one, filled-join}
 use Rattle.results.specs.declared.Move.{Move}
 use Rattle.results.specs.Results.{results, clearRow}
 use Rattle.results.specs.Rows.{results-le}

@@ -1,21 +1,21 @@
 -- From the code's walks to the job's answer: refused by a walk, or answered by what the steps make of the case. Assumes nothing.
-use mathlib.Core.Path.{_≡_, refl, sym, ap, _∙_, subst}
+use mathlib.Core.Path.{_≡_, sym, ap, _∙_, subst}
 use mathlib.Core.Logic.{_≢_}
 use mathlib.Core.Bool.{true, false}
 use mathlib.Core.List.{List}
 use Prim.Native.Nat.{ℕ, _+_, _≤_}
 use lib.ListN.{length}
 use Rattle.layout.specs.declared.Shape.{Shape}
-use Rattle.layout.specs.Contents.{shapeOf, Read}
-use Rattle.layout.specs.View.{View, viewOf, Readable}
-use Rattle.consistency.specs.Consistent.{recordsNumber, check-read}
+use Rattle.layout.specs.Contents.{shapeOf}
+use Rattle.layout.specs.ContentsLaws.{Read}
+use Rattle.layout.specs.View.{View, viewOf}
+use Rattle.layout.specs.ViewLaws.{Readable}
+use Rattle.consistency.specs.Consistent.{recordsNumber}
+use Rattle.consistency.specs.ConsistentLaws.{check-read}
 use Rattle.consistency.specs.Facts.{checked-readable}
 use Rattle.paths.specs.declared.request.Request.{Request}
 use Rattle.paths.specs.Request.{requestGood}
-use Rattle.component.specs.declared.state.Final.the-variants.{MustExist, MayBeMissing}
-use Rattle.component.specs.Step.{End}
 use Rattle.walk.specs.declared.both.Walks.{Walks}
-use Rattle.walk.specs.Ends.{Facts}
 use Rattle.walk.specs.Answer.{endOf}
 use Rattle.walk.specs.Both.{Ends, walksOf, BothAnswered}
 use Rattle.plan.specs.Form.{planBytes, cleared}
@@ -23,10 +23,11 @@ use Rattle.plan.specs.Write.{Write}
 use Rattle.refusals.specs.declared.case.Case.{Case}
 use Rattle.refusals.specs.declared.case.Answer.{Answer}
 use Rattle.refusals.specs.declared.case.Answer.the-variants.{Refused, Same, Planned}
-use Rattle.refusals.specs.Case.{CaseIn, noSlot}
+use Rattle.refusals.specs.Case.{noSlot}
+use Rattle.refusals.specs.CaseIn.{CaseIn}
 use Rattle.refusals.specs.Steps.{decide, steps}
 use Rattle.refusals.specs.Passed.{planned-passed}
-use Rattle.results.specs.Results.{InImage}
+use Rattle.results.specs.InImage.{InImage}
 use Rattle.rename.specs.declared.Renamed.{Renamed}
 use Rattle.rename.specs.Plan.{moveOf, renameRows, planned}
 use Rattle.rename.specs.Order.{nameOf, caseOf}

@@ -2,15 +2,16 @@
 use encode::journal::Journal;
 use layout::Shape;
 use layout::limits;
+use layout::place;
 use results::Move;
 ghost use mathlib.Core.Path.{_≡_};
 ghost use Prim.Native.Nat.{_+_, _<_, _≤_};
 ghost use lib.ListN.{length};
-ghost use Rattle.layout.specs.Contents.{Laid};
+ghost use Rattle.layout.specs.ContentsLaws.{Laid};
 ghost use Rattle.encode.specs.Journal.{journalBytes};
 ghost use Rattle.plan.specs.Form.{planBytes, rowPut};
 ghost use Rattle.plan.specs.Write.{rowFrom};
-ghost use Rattle.results.specs.Results.{InImage};
+ghost use Rattle.results.specs.InImage.{InImage};
 ghost use Rattle.rename.specs.Plan.{journalFor, newEntry, journalRow, entryRow, planned, renameRows};
 
 // The journal record of the move; a rename is of kind 0.
@@ -37,7 +38,7 @@ fn put_journal(plan: &mut [u8], s: &[u8], h: Shape, m: Move, called: &[u8])
     ensures { λ _. ⌜ now (plan .exit) ≡ rowPut (now (plan .entry)) 0 (rowFrom h (journalRow h (now (s .entry)) m (now (called .entry)))) ⌝ }
 {
     let r = journal(m);
-    plan::put_row(plan, 0, plan::JOURNAL_GROUP, layout::place::journal(h), &r);
+    plan::put_row(plan, 0, plan::JOURNAL_GROUP, place::journal(h), &r);
 }
 
 // Makes the whole record the new entry: the replaced one's with another target, or one under the name that was missing.
@@ -59,13 +60,7 @@ fn put_made(plan: &mut [u8], r: &mut [u8], s: &[u8], h: Shape, m: Move, called: 
     ensures { λ _. ⌜ now (plan .exit) ≡ rowPut (now (plan .entry)) 1 (rowFrom h (entryRow h (now (s .entry)) m (now (called .entry)))) ⌝ }
 {
     make_entry(r, s, h, m, called);
-    plan::put_row(
-        plan,
-        1,
-        plan::ENTRY_GROUP,
-        layout::place::entry(h, m.new),
-        r,
-    );
+    plan::put_row(plan, 1, plan::ENTRY_GROUP, place::entry(h, m.new), r);
 }
 
 fn put_entry(plan: &mut [u8], s: &[u8], h: Shape, m: Move, called: &[u8])

@@ -10,19 +10,21 @@ use native.Mathlib.Omega.{arith}
 use lib.Dec.{eqb, lit<}
 use borrow.Author.Tests.{eqb-true, eqb-false, eq-eqb, ne-eqb, lt-ltb, not-true}
 use Rattle.seq.specs.Truth.{refuted, and-left, and-right}
-use Rattle.seq.specs.Search.{all-not}
+use Rattle.seq.specs.SearchLaws.{all-not}
 use Rattle.seq.specs.Bytes.{zeros}
 use Rattle.layout.specs.declared.Shape.{Shape}
 use Rattle.layout.specs.View.{View, viewOf, inodeAt, entryAt, journalAt, entryUsed, isDirectory}
 use Rattle.encode.specs.declared.journal.Journal.{Journal}
-use Rattle.encode.specs.Journal.{journalOf, journalFormed, journalBytes, journalHead, InRange, journal-formed, journal-of-bytes}
+use Rattle.encode.specs.Journal.{journalOf, journalFormed, journalBytes, journalHead}
+use Rattle.encode.specs.JournalLaws.{InRange, journal-formed, journal-of-bytes}
 use Rattle.layout.specs.Limits.{absent}
-use Rattle.consistency.specs.Others.{journalClear}
+use Rattle.consistency.specs.Sound.{journalClear}
 use Rattle.consistency.specs.Consistent.{consistent}
 use Rattle.edits.specs.Kinds.{IsDirectory}
 use Rattle.edits.specs.Tests.{is-kind}
 use Rattle.edits.specs.Finished.{slots-differ, from-directory, moved-below-root, moved-not-from, moved-not-into}
-use Rattle.plan.specs.Write.{Write, entryKey, journalKey, other-section, storeAll}
+use Rattle.plan.specs.Write.{Write, entryKey, journalKey, storeAll}
+use Rattle.plan.specs.WriteLaws.{other-section}
 use Rattle.journal.specs.Pick.{All, all-join}
 use Rattle.journal.specs.Store.{putAll}
 use Rattle.journal.specs.Change.{Change}

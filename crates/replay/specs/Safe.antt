@@ -13,7 +13,8 @@ use Rattle.layout.specs.Fields.{entryParent, entryTarget, entryName}
 use Rattle.layout.specs.View.{viewOf, entryAt}
 use Rattle.consistency.specs.Consistent.{consistent}
 use Rattle.plan.specs.Form.{planRows, planBytes, entryGroup}
-use Rattle.plan.specs.Write.{Write, entryKey, other-section}
+use Rattle.plan.specs.Write.{Write, entryKey}
+use Rattle.plan.specs.WriteLaws.{other-section}
 use Rattle.apply.specs.Apply.{applyNumber}
 use Rattle.journal.specs.Pick.{All}
 use Rattle.journal.specs.Change.{Change, plan, goal}
@@ -33,7 +34,8 @@ use Rattle.edits.specs.Kinds.{EntryUsed}
 use Rattle.results.specs.declared.Move.{Move}
 use Rattle.rename.specs.Plan.{newEntry, planned as plannedBytes}
 use Rattle.recover.specs.Recover.{recover}
-use Rattle.recover.specs.Job.{Recovered, recovered, recovered-short, recovered-done}
+use Rattle.recover.specs.Job.{Recovered, recovered}
+use Rattle.recover.specs.JobLaws.{recovered-short, recovered-done}
 use Rattle.layout.specs.Errno.{shortBuffer}
 use Rattle.recover.specs.Bounds.{recover-few}
 use Rattle.outcome.specs.Outcome.{renamePlan, finished, rename-planned}

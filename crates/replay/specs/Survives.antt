@@ -8,7 +8,8 @@ use Prim.Native.Nat.{ℕ, _≤_}
 use lib.Dec.{T}
 use lib.ListN.{length}
 use Rattle.layout.specs.declared.Shape.{Shape}
-use Rattle.consistency.specs.Consistent.{checkNumber, consistent-checked}
+use Rattle.consistency.specs.Consistent.{checkNumber}
+use Rattle.consistency.specs.ConsistentLaws.{consistent-checked}
 use Rattle.plan.specs.Form.{planBytes}
 use Rattle.apply.specs.Apply.{applyNumber}
 use Rattle.journal.specs.Pick.{All, Empty, Has}

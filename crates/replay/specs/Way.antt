@@ -6,11 +6,13 @@ use Prim.Native.Nat.{ℕ, _<_}
 use native.Mathlib.Omega.{arith}
 use lib.Dec.{lit<}
 use Rattle.layout.specs.declared.Shape.{Shape}
-use Rattle.layout.specs.Place.{Key, Valid}
+use Rattle.layout.specs.Place.{Key}
+use Rattle.layout.specs.PlaceLaws.{Valid}
 use Rattle.layout.specs.Record.{recordAt}
 use Rattle.layout.specs.Fields.{inodeKind}
 use Rattle.layout.specs.View.{viewOf, inodeAt, entryAt}
-use Rattle.plan.specs.Write.{inodeKey, entryKey, journalKey, other-section}
+use Rattle.plan.specs.Write.{inodeKey, entryKey, journalKey}
+use Rattle.plan.specs.WriteLaws.{other-section}
 use Rattle.crash.specs.Image.{recordOf, record-is}
 use Rattle.results.specs.declared.Move.{Move}
 use Rattle.results.specs.Results.{holderAfter, results}

@@ -6,8 +6,10 @@ use Prim.Native.Nat.{ℕ, _+_, _≤_}
 use native.Mathlib.Decide.{ℕ-discrete}
 use native.Mathlib.Omega.{arith}
 use lib.ListN.{length, length-append}
-use Rattle.seq.specs.Bytes.{put, put-length, put-join, put-before}
-use Rattle.seq.specs.Number.{bytesOf, bytesOf-length}
+use Rattle.seq.specs.Bytes.{put}
+use Rattle.seq.specs.BytesLaws.{put-length, put-join, put-before}
+use Rattle.seq.specs.Number.{bytesOf}
+use Rattle.seq.specs.NumberLaws.{bytesOf-length}
 use Rattle.layout.specs.declared.Shape.{Shape}
 use Rattle.layout.specs.Fields.{inodeKind}
 use Rattle.layout.specs.Commute.{put-swap, put-again, put-both-again}

@@ -3,7 +3,7 @@ use mathlib.Core.Path.{_≡_}
 use mathlib.Core.Bool.{true, false}
 use Prim.Native.Nat.{_+_, _≤_, ℕ}
 use native.Mathlib.Omega.{arith}
-use Rattle.seq.specs.Search.{count-le}
+use Rattle.seq.specs.SearchLaws.{count-le}
 use Rattle.seq.specs.Truth.{by-test}
 use Rattle.layout.specs.View.{View, isDirectory}
 use Rattle.results.specs.declared.Move.{Move}

@@ -8,14 +8,16 @@ use lib.Dec.{eqb, lit<, lit≤}
 use lib.ListN.{length, length-replicate}
 use borrow.Author.Tests.{eqb-false, not-true}
 use Rattle.layout.specs.declared.Shape.{Shape}
-use Rattle.layout.specs.Contents.{Laid}
-use Rattle.layout.specs.Record.{record-length}
+use Rattle.layout.specs.ContentsLaws.{Laid}
+use Rattle.layout.specs.RecordLaws.{record-length}
 use Rattle.layout.specs.View.{inodeAt}
 use Rattle.layout.specs.Limits.{absent}
-use Rattle.plan.specs.Fit.{Writes}
-use Rattle.plan.specs.Write.{Write, AllWrites, inodeKey, entryKey, textKey, journalKey, writes-join}
+use Rattle.plan.specs.FitLaws.{Writes}
+use Rattle.plan.specs.Write.{Write, inodeKey, entryKey, textKey, journalKey}
+use Rattle.plan.specs.WriteLaws.{AllWrites, writes-join}
 use Rattle.results.specs.declared.Move.{Move}
-use Rattle.results.specs.Results.{InImage, present, freeRecord, movedAfter, holderAfter, replacedAfter, when, holderRow, replacedRow, textRow, intoRows, replacedRows, textRows, results}
+use Rattle.results.specs.Results.{present, freeRecord, movedAfter, holderAfter, replacedAfter, when, holderRow, replacedRow, textRow, intoRows, replacedRows, textRows, results}
+use Rattle.results.specs.InImage.{InImage}
 use Rattle.plan.specs.Form.{resultGroup, clearGroup}
 use Rattle.results.specs.Again.{moved-length, holder-length, replaced-length}
 

@@ -1,9 +1,8 @@
 -- What a rename leaves in each record that it touches, in bytes, and its rows behind the deciding one: one definition for rename and for
--- recovery, which count the entries as edited, whether the edit has been applied or not. Assumes nothing.
-use mathlib.Core.Logic.{_≢_}
+-- recovery, which count the entries as edited, whether the edit has been applied or not. A reader has to believe this file. Assumes nothing.
 use mathlib.Core.Bool.{Bool, true, false, _&&_, not, cond}
 use mathlib.Core.List.{List, [], _∷_, _++_}
-use Prim.Native.Nat.{ℕ, _+_, _<_}
+use Prim.Native.Nat.{ℕ, _+_}
 use lib.Dec.{eqb}
 use lib.ListN.{replicate}
 use Rattle.seq.specs.Search.{count}
@@ -21,16 +20,6 @@ use Rattle.plan.specs.Form.{resultGroup, clearGroup}
 -- form H: the number names a replaced inode, or a text
 abbrev pub present : ℕ → Bool
 present n = not (eqb n absent)
-
--- The numbers of a move are those of records of the image.
-pub record InImage (h : Shape) (m : Move) : Type 0 where
-  pub old : m .old < h .entries
-  pub new : m .new < h .entries
-  pub moved : m .moved < h .inodes
-  pub from : m .from < h .inodes
-  pub into : m .into < h .inodes
-  pub replaced : m .replaced ≢ absent → m .replaced < h .inodes
-  pub text : m .text ≢ absent → m .text < h .texts
 
 -- ---- the entries as edited, counted on the image as it stands
 

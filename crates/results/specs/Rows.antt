@@ -12,7 +12,8 @@ use Rattle.seq.specs.Truth.{not-both}
 use Rattle.layout.specs.declared.Shape.{Shape}
 use Rattle.layout.specs.Limits.{absent}
 use Rattle.plan.specs.Form.{rowPut}
-use Rattle.plan.specs.Write.{Write, rowFrom, Filled, filled-none, filled-one, filled-join}
+use Rattle.plan.specs.Write.{Write, rowFrom}
+use Rattle.plan.specs.WriteLaws.{Filled, filled-none, filled-one, filled-join}
 use Rattle.results.specs.declared.Move.{Move}
 use Rattle.results.specs.Results.{present, when, oldRow, movedRow, holderRow, replacedRow, textRow, alwaysRows, intoRows, replacedRows, textRows, results}
 

@@ -2,26 +2,25 @@
 use crate::Move;
 use layout::Shape;
 use layout::limits;
+use layout::limits::TEXT_BYTES;
+use layout::place;
+use plan::RESULT_GROUP;
 ghost use mathlib.Core.Path.{_≡_};
 ghost use Prim.Native.Nat.{_+_, _<_, _≤_};
 ghost use lib.ListN.{length};
-ghost use Rattle.layout.specs.Contents.{Laid};
+ghost use Rattle.layout.specs.ContentsLaws.{Laid};
 ghost use Rattle.plan.specs.Form.{planRows, planBytes, rowPut};
-ghost use Rattle.plan.specs.Write.{rowFrom, Filled};
-ghost use Rattle.results.specs.Results.{InImage, movedRow, holderRow, alwaysRows, intoRows, replacedRows, results, clearRow};
+ghost use Rattle.plan.specs.Write.{rowFrom};
+ghost use Rattle.plan.specs.WriteLaws.{Filled};
+ghost use Rattle.results.specs.Results.{movedRow, holderRow, alwaysRows, intoRows, replacedRows, results, clearRow};
+ghost use Rattle.results.specs.InImage.{InImage};
 
 fn put_moved(plan: &mut [u8], at: usize, s: &[u8], h: Shape, m: Move)
     requires { ⌜ (planBytes ≤ length (now plan)) × (at < planRows) × Laid h (now s) × (m .moved < h .inodes) ⌝ }
     ensures { λ _. ⌜ now (plan .exit) ≡ rowPut (now (plan .entry)) at (rowFrom h (movedRow h (now (s .entry)) m)) ⌝ }
 {
     let r = crate::records::moved(s, h, m);
-    plan::put_row(
-        plan,
-        at,
-        plan::RESULT_GROUP,
-        layout::place::inode(h, m.moved),
-        &r,
-    );
+    plan::put_row(plan, at, RESULT_GROUP, place::inode(h, m.moved), &r);
 }
 
 // The old or the new parent, inode i.
@@ -30,7 +29,7 @@ fn put_holder(plan: &mut [u8], at: usize, s: &[u8], h: Shape, m: Move, i: usize)
     ensures { λ _. ⌜ now (plan .exit) ≡ rowPut (now (plan .entry)) at (rowFrom h (holderRow h (now (s .entry)) m i)) ⌝ }
 {
     let r = crate::records::holder(s, h, m, i);
-    plan::put_row(plan, at, plan::RESULT_GROUP, layout::place::inode(h, i), &r);
+    plan::put_row(plan, at, RESULT_GROUP, place::inode(h, i), &r);
 }
 
 // The old entry cleared, the moved inode and the old parent. Answers the next place, as the functions below do.
@@ -38,13 +37,7 @@ fn put_always(plan: &mut [u8], at: usize, s: &[u8], h: Shape, m: Move) -> usize
     requires { ⌜ (planBytes ≤ length (now plan)) × (at + 3 ≤ planRows) × Laid h (now s) × InImage h m ⌝ }
     ensures { λ n. ⌜ Filled h (now (plan .entry)) at (alwaysRows h (now (s .entry)) m) (now (plan .exit)) n ⌝ }
 {
-    plan::put_clearing(
-        plan,
-        at,
-        plan::RESULT_GROUP,
-        layout::place::entry(h, m.old),
-        h.width,
-    );
+    plan::put_clearing(plan, at, RESULT_GROUP, place::entry(h, m.old), h.width);
     put_moved(plan, at + 1, s, h, m);
     put_holder(plan, at + 2, s, h, m, m.from);
     at + 3
@@ -71,13 +64,7 @@ fn put_replaced(plan: &mut [u8], at: usize, s: &[u8], h: Shape, m: Move) -> usiz
         return at;
     }
     let r = crate::records::replaced(s, h, m);
-    plan::put_row(
-        plan,
-        at,
-        plan::RESULT_GROUP,
-        layout::place::inode(h, m.replaced),
-        &r,
-    );
+    plan::put_row(plan, at, RESULT_GROUP, place::inode(h, m.replaced), &r);
     at + 1
 }
 
@@ -92,13 +79,7 @@ pub fn put(plan: &mut [u8], first: usize, s: &[u8], h: Shape, m: Move) -> usize
     if m.text == limits::ABSENT {
         return c;
     }
-    plan::put_clearing(
-        plan,
-        c,
-        plan::RESULT_GROUP,
-        layout::place::text(h, m.text),
-        limits::TEXT_BYTES,
-    );
+    plan::put_clearing(plan, c, RESULT_GROUP, place::text(h, m.text), TEXT_BYTES);
     c + 1
 }
 
@@ -108,5 +89,5 @@ pub fn put_clear(plan: &mut [u8], at: usize, s: &[u8], h: Shape)
     ensures { λ _. ⌜ now (plan .exit) ≡ rowPut (now (plan .entry)) at (rowFrom h (clearRow h)) ⌝ }
 {
     let r = [0u8; limits::JOURNAL_BYTES];
-    plan::put_row(plan, at, plan::CLEAR_GROUP, layout::place::journal(h), &r);
+    plan::put_row(plan, at, plan::CLEAR_GROUP, place::journal(h), &r);
 }

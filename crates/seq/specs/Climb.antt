@@ -8,7 +8,8 @@ use native.Mathlib.Decide.{decLe}
 use native.Mathlib.Omega.{arith}
 use lib.Dec.{eqb}
 use borrow.Author.Tests.{eqb-true, eq-eqb, ne-eqb}
-use Rattle.seq.specs.Search.{any, any-none, any-false, any-hit, first, first-upto, first-passes, count, count-le}
+use Rattle.seq.specs.Search.{any, first, count}
+use Rattle.seq.specs.SearchLaws.{any-none, any-false, any-hit, first-upto, first-passes, count-le}
 use Rattle.seq.specs.Count.{bit, count-one, count-never}
 
 -- n different numbers below a limit: n is at most the limit

@@ -10,7 +10,8 @@ use native.Mathlib.Omega.{arith}
 use lib.Dec.{eqb}
 use borrow.Author.Tests.{eq-eqb, ne-eqb}
 use Rattle.seq.specs.Truth.{not-both}
-use Rattle.seq.specs.Search.{count, count-same}
+use Rattle.seq.specs.Search.{count}
+use Rattle.seq.specs.SearchLaws.{count-same}
 
 -- what one number adds to a count
 abbrev pub bit : Bool → ℕ

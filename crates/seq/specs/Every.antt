@@ -1,5 +1,5 @@
 -- A test of every byte of a list: kept by its front, its end and a joined list. Assumes nothing.
-use mathlib.Core.Path.{_≡_, sym, _∙_}
+use mathlib.Core.Path.{_≡_}
 use mathlib.Core.Bool.{Bool, true}
 use mathlib.Core.List.{List, _++_}
 use Prim.Native.Nat.{ℕ, _+_, _-_, _<_}
@@ -7,7 +7,8 @@ use native.Mathlib.Decide.{decLt}
 use native.Mathlib.Omega.{arith}
 use lib.ListN.{length, getD, take, drop, length-take, length-drop, length-append, List·getD-append}
 use lib.Seq.{getD-take, getD-drop, getD-append-add}
-use Rattle.seq.specs.Search.{all, all-at, all-of}
+use Rattle.seq.specs.Search.{all}
+use Rattle.seq.specs.SearchLaws.{all-at, all-of}
 
 module _ (p : ℕ → Bool) where
   -- every byte passes

@@ -1,3 +1,4 @@
 pub mod Tree
+pub mod TreeLaws
 pub mod Inode
 pub mod InodeFacts

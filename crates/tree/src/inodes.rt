@@ -4,9 +4,10 @@ use layout::limits;
 ghost use mathlib.Core.Path.{_≡_};
 ghost use Prim.Native.Nat.{_<_};
 ghost use Rattle.seq.specs.Search.{all};
-ghost use Rattle.layout.specs.Contents.{Laid};
+ghost use Rattle.layout.specs.ContentsLaws.{Laid};
 ghost use Rattle.layout.specs.View.{viewOf, textUsed};
-ghost use Rattle.tree.specs.Inode.{leafGood, fileGood, placed, directoryGood, hasText, textShared, symlinkGood, inodeGood};
+ghost use Rattle.tree.specs.Inode.{leafGood, fileGood, directoryPlaced, directoryGood, symlinkGood, inodeGood};
+ghost use Rattle.tree.specs.Tree.{hasText, textShared};
 
 // What a file and a symlink share: mode and link count.
 fn leaf_good(s: &[u8], h: Shape, i: usize) -> bool
@@ -41,7 +42,7 @@ fn file_good(s: &[u8], h: Shape, i: usize) -> bool
 // The root is its own parent; any other directory has one entry and leads to the root.
 fn directory_placed(s: &[u8], h: Shape, i: usize) -> bool
     requires { ⌜ Laid h (now s) × (i < h .inodes) ⌝ }
-    ensures { λ r. ⌜ r ≡ placed (viewOf h (now (s .entry))) i ⌝ }
+    ensures { λ r. ⌜ r ≡ directoryPlaced (viewOf h (now (s .entry))) i ⌝ }
 {
     if i == 0 {
         let r = layout::records::inode(s, h, i);

@@ -11,7 +11,7 @@ use Rattle.layout.specs.Record.{recordAt}
 use Rattle.layout.specs.View.{View, viewOf}
 use Rattle.layout.specs.Bench.{bench}
 use Rattle.paths.specs.Permission.{allows}
-use Rattle.paths.specs.Path.{slashes, nameBytes}
+use Rattle.paths.specs.Path.{slashes, untilSlash}
 use Rattle.paths.specs.Lookup.{isNamed, lookup}
 use Rattle.component.specs.Step.{Finding, End, existing, missing, nothing, step}
 use Rattle.component.specs.declared.state.Final.{Final}
@@ -50,5 +50,5 @@ pub walks :
     ∷ halt 16
     ∷ halt 2
     ∷ []
-unfolding bench any all first part sameBytes numberAt bytesOf shapeOf recordAt viewOf allows slashes nameBytes isNamed lookup step walkFrom walk
+unfolding bench any all first part sameBytes numberAt bytesOf shapeOf recordAt viewOf allows slashes untilSlash isNamed lookup step walkFrom walk
 walks = refl

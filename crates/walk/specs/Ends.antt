@@ -1,20 +1,22 @@
 -- What is known where a walk has ended: an entry that holds the name in a directory, or a good name that the directory lacks. Assumes nothing.
 use mathlib.Core.Path.{_≡_, refl, sym, subst, _∙_, ap}
 use mathlib.Core.Logic.{_≢_}
-use mathlib.Core.Bool.{Bool, true, false, _&&_, _||_, not}
+use mathlib.Core.Bool.{Bool, true, false, _||_, not}
 use mathlib.Core.List.{List}
 use Prim.Native.Nat.{ℕ, _≤_, _<_}
 use lib.Dec.{eqb}
 use lib.ListN.{length, getD}
 use Rattle.seq.specs.Truth.{and-both, or-left, or-right, not-both}
-use Rattle.seq.specs.Search.{all-at, all-of}
-use Rattle.seq.specs.Bytes.{noZero, sameBytes}
+use Rattle.seq.specs.SearchLaws.{all-at, all-of}
+use Rattle.seq.specs.Bytes.{noZero}
 use Rattle.layout.specs.View.{View, entryUsed, isDirectory, isSymlink}
-use Rattle.names.specs.Name.{nameBytes, isDots, nameGood}
+use Rattle.names.specs.Name.{plainName, isDots}
+use Rattle.names.specs.NameTests.{nameGood}
 use Rattle.paths.specs.declared.request.Credentials.{Credentials}
 use Rattle.paths.specs.Path.{component, behind, bare, isDot, isDotDot}
 use Rattle.paths.specs.Plain.{component-plain, behind-plain, joined-plain, component-slash, component-some}
-use Rattle.paths.specs.Lookup.{lookup, lookup-held, lookup-none}
+use Rattle.paths.specs.Lookup.{lookup}
+use Rattle.paths.specs.LookupLaws.{lookup-held, lookup-none}
 use Rattle.component.specs.declared.state.Final.{Final}
 use Rattle.component.specs.declared.state.Final.the-variants.{MustExist, MayBeMissing}
 use Rattle.component.specs.Step.{Position, Finding, existing, missing, nothing, End, Step, goes, ends, step}
@@ -70,7 +72,7 @@ refusal-facts v last n steps p zero-not here listed =
 
 -- a component without a zero byte, and not of dots, is a good name
 good-component : (p : List ℕ) → noZero p ≡ true → (isDot (component p) || isDotDot (component p)) ≡ false → nameGood (component p) ≡ true
-unfolding nameGood nameBytes isDots noZero
+unfolding nameGood plainName isDots noZero
 good-component p plain dots =
     and-both _ _ (all-of _ (length (component p)) (λ k l.
     and-both (not (eqb (getD (component p) k 0) 0)) _ (all-at _ (length (component p)) (component-plain p plain) k l) (rw (component-slash p k l)))) (rw dots)

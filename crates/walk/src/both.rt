@@ -6,7 +6,8 @@ use layout::Shape;
 use paths::request::Request;
 ghost use mathlib.Core.Path.{_≡_};
 ghost use mathlib.Core.Bool.{true};
-ghost use Rattle.layout.specs.View.{viewOf, Readable};
+ghost use Rattle.layout.specs.View.{viewOf};
+ghost use Rattle.layout.specs.ViewLaws.{Readable};
 ghost use Rattle.paths.specs.Request.{requestGood};
 ghost use Rattle.walk.specs.Both.{walksOf, BothAnswered};
 

@@ -2,7 +2,7 @@
 use layout::Shape;
 use paths::path;
 ghost use mathlib.Core.Path.{_≡_};
-ghost use Rattle.layout.specs.Contents.{Laid};
+ghost use Rattle.layout.specs.ContentsLaws.{Laid};
 ghost use Rattle.layout.specs.View.{viewOf};
 ghost use Rattle.walk.specs.Walk.{startOf};
 

@@ -11,10 +11,10 @@ use Rattle.layout.specs.Contents.{nameIs, rowIs, shapeOf, rowGood, rowsGood, la
 use Rattle.layout.specs.Record.{recordAt, store}
 use Rattle.layout.specs.View.{viewOf}
 use Rattle.layout.specs.Bench.{bench}
-use Rattle.names.specs.Name.{nameBytes, isDots, nameGood, clash}
-use Rattle.tree.specs.Tree.{entriesOf, childDirectories, reaches}
-use Rattle.tree.specs.Inode.{textShared}
-use Rattle.consistency.specs.Others.{textLinked, journalClear}
+use Rattle.names.specs.Name.{plainName, isDots, clash}
+use Rattle.names.specs.NameTests.{nameGood}
+use Rattle.tree.specs.Tree.{entriesOf, childDirectories, reaches, textShared}
+use Rattle.consistency.specs.Sound.{textLinked, journalClear}
 use Rattle.consistency.specs.Consistent.{bodiesGood, consistent, recordsNumber, checkNumber}
 use Rattle.encode.specs.Entry.{entryBytes}
 use Rattle.encode.specs.Journal.{journalOf, journalFormed, journalHead, journalBytes}
@@ -80,10 +80,10 @@ pub seen-so : map seen (early ∷ back ∷ late ∷ again ∷ through ∷ [])
     ∷ (false, true, 3 ∷ 3 ∷ 3 ∷ 3 ∷ 3 ∷ 4 ∷ [])
     ∷ (true, true, [])
     ∷ []
-unfolding bench any all first count part put store zeros noZero sameBytes numberAt bytesOf nameIs rowIs shapeOf rowGood rowsGood layoutGood recordAt viewOf nameBytes isDots nameGood clash entriesOf childDirectories reaches textShared textLinked journalClear bodiesGood consistent recordsNumber checkNumber allows path.slashes path.nameBytes isNamed lookup requestGood step walkFrom walk walksOf entryBytes journalOf journalFormed journalHead journalBytes rowAt headerOf rowPut rowsPut cleared noRow rowCount coversSection covers rowFits applicable applyNumber appliedImage movedBytes holderBytes replacedBytes entriesAfter childrenAfter linksAfter results stickyDenied hasEntries isOpened moveOf renameRows planned freeSlot order renamed planAfter renameFits decided intoGood moveDraft renameDraft draft pendingRows recovered finished
+unfolding bench any all first count part put store zeros noZero sameBytes numberAt bytesOf nameIs rowIs shapeOf rowGood rowsGood layoutGood recordAt viewOf plainName isDots nameGood clash entriesOf childDirectories reaches textShared textLinked journalClear bodiesGood consistent recordsNumber checkNumber allows path.slashes path.untilSlash isNamed lookup requestGood step walkFrom walk walksOf entryBytes journalOf journalFormed journalHead journalBytes rowAt headerOf rowPut rowsPut cleared noRow rowCount coversSection covers rowFits applicable applyNumber appliedImage movedBytes holderBytes replacedBytes entriesAfter childrenAfter linksAfter results stickyDenied hasEntries isOpened moveOf renameRows planned freeSlot order renamed planAfter renameFits decided intoGood moveDraft renameDraft draft pendingRows recovered finished
 seen-so = refl
 
 -- the image before, and the finished one
 pub ended-so : at back .image ∷ at through .image ∷ [] ≡ bench ∷ finishedImage bench dirty owner /a/f /b/g ∷ []
-unfolding bench any all first count part put store zeros noZero sameBytes numberAt bytesOf nameIs rowIs shapeOf rowGood rowsGood layoutGood recordAt viewOf nameBytes isDots nameGood clash entriesOf childDirectories reaches textShared textLinked journalClear bodiesGood consistent recordsNumber checkNumber allows path.slashes path.nameBytes isNamed lookup requestGood step walkFrom walk walksOf entryBytes journalOf journalFormed journalHead journalBytes rowAt headerOf rowPut rowsPut cleared noRow rowCount coversSection covers rowFits applicable applyNumber appliedImage movedBytes holderBytes replacedBytes entriesAfter childrenAfter linksAfter results stickyDenied hasEntries isOpened moveOf renameRows planned freeSlot order renamed planAfter renameFits decided intoGood moveDraft renameDraft draft pendingRows recovered finished
+unfolding bench any all first count part put store zeros noZero sameBytes numberAt bytesOf nameIs rowIs shapeOf rowGood rowsGood layoutGood recordAt viewOf plainName isDots nameGood clash entriesOf childDirectories reaches textShared textLinked journalClear bodiesGood consistent recordsNumber checkNumber allows path.slashes path.untilSlash isNamed lookup requestGood step walkFrom walk walksOf entryBytes journalOf journalFormed journalHead journalBytes rowAt headerOf rowPut rowsPut cleared noRow rowCount coversSection covers rowFits applicable applyNumber appliedImage movedBytes holderBytes replacedBytes entriesAfter childrenAfter linksAfter results stickyDenied hasEntries isOpened moveOf renameRows planned freeSlot order renamed planAfter renameFits decided intoGood moveDraft renameDraft draft pendingRows recovered finished
 ended-so = refl

@@ -1,7 +1,7 @@
 -- `apply::land` meets its contract. Assumes nothing.
 use mathlib.Core.Path.{sym, _∙_}
-use Rattle.layout.specs.Contents.{contents-good, contents-bad}
-use Rattle.apply.specs.Apply.{apply-short, apply-bad, apply-read}
+use Rattle.layout.specs.ContentsLaws.{contents-good, contents-bad}
+use Rattle.apply.specs.ApplyLaws.{apply-short, apply-bad, apply-read}
 use borrow.Author.Needs.{needs}
 use Rattle.apply.proofs.land.Statement.{statement}
 use Rattle.apply.proofs.land.Tie as tie

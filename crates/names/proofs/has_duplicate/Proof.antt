@@ -4,9 +4,11 @@ use mathlib.Core.Bool.{false}
 use Prim.Native.Nat.{_≤_, _-_}
 use native.Mathlib.Omega.{arith}
 use borrow.Author.Needs.{needs}
-use Rattle.seq.specs.Search.{any, any-none, any-miss, any-hit}
+use Rattle.seq.specs.Search.{any}
+use Rattle.seq.specs.SearchLaws.{any-none, any-miss, any-hit}
 use Rattle.layout.specs.View.{viewOf}
-use Rattle.names.specs.Name.{clash, hasDuplicate}
+use Rattle.names.specs.Name.{clash}
+use Rattle.names.specs.NameTests.{hasDuplicate}
 use Rattle.names.proofs.has_duplicate.Statement.{statement}
 use Rattle.names.proofs.has_duplicate.Tie as tie
 

@@ -5,7 +5,7 @@ use native.Mathlib.Omega.{arith}
 use lib.ListN.{replicate}
 use lib.Seq.{length-take-le}
 use borrow.Author.Needs.{needs}
-use Rattle.seq.specs.Bytes.{take-zeros}
+use Rattle.seq.specs.BytesLaws.{take-zeros}
 use Rattle.plan.specs.Form.{rowOf, rowPut}
 use Rattle.plan.proofs.put_clearing.Statement.{statement}
 use Rattle.plan.proofs.put_clearing.Tie as tie

@@ -1,8 +1,8 @@
 -- `recover::recover` meets its contract: short buffers and a bad layout come first. Assumes nothing.
 use mathlib.Core.Path.{refl, sym, _∙_}
 use mathlib.Core.Logic.{inl, inr}
-use Rattle.layout.specs.Contents.{contents-good, contents-bad}
-use Rattle.recover.specs.Job.{recovered-short, recovered-layout, recovered-read}
+use Rattle.layout.specs.ContentsLaws.{contents-good, contents-bad}
+use Rattle.recover.specs.JobLaws.{recovered-short, recovered-layout, recovered-read}
 use Rattle.recover.specs.Outs.{answers-as, answers-refused}
 use borrow.Author.Needs.{needs}
 use Rattle.recover.proofs.recover.Statement.{statement}

@@ -1,6 +1,6 @@
 -- `rename::rename` meets its contract: a short plan and a bad layout come first. Assumes nothing.
 use mathlib.Core.Path.{sym, _∙_}
-use Rattle.layout.specs.Contents.{contents-good, contents-bad}
+use Rattle.layout.specs.ContentsLaws.{contents-good, contents-bad}
 use Rattle.rename.specs.Outs.{answers-as, answers-short, answers-layout}
 use borrow.Author.Needs.{needs}
 use Rattle.rename.proofs.rename.Statement.{statement}

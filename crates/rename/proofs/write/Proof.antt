@@ -5,7 +5,7 @@ use native.Mathlib.Omega.{arith}
 use lib.ListN.{length}
 use Rattle.seq.specs.Bytes.{part}
 use Rattle.component.specs.State.{findingOf, missing-range}
-use Rattle.results.specs.Results.{InImage}
+use Rattle.results.specs.InImage.{InImage}
 use Rattle.rename.specs.Order.{nameOf}
 use Rattle.rename.specs.Rows.{planned-as}
 use borrow.Author.Needs.{needs}

@@ -5,9 +5,11 @@ use native.Mathlib.Omega.{arith}
 use borrow.Author.Needs.{needs}
 use Rattle.seq.specs.Truth.{fails, holds}
 use Rattle.layout.specs.Fields.{inodeField}
-use Rattle.layout.specs.Record.{field-of}
-use Rattle.layout.specs.View.{viewOf, isDirectory, isKind-below}
-use Rattle.tree.specs.Tree.{reaches, reaches-goal, reaches-out, reaches-on, reaches-end}
+use Rattle.layout.specs.RecordLaws.{field-of}
+use Rattle.layout.specs.View.{viewOf, isDirectory}
+use Rattle.layout.specs.ViewLaws.{isKind-below}
+use Rattle.tree.specs.Tree.{reaches}
+use Rattle.tree.specs.TreeLaws.{reaches-goal, reaches-out, reaches-on, reaches-end}
 use Rattle.tree.proofs.is_above.Statement.{statement}
 use Rattle.tree.proofs.is_above.Tie as tie
 

@@ -1,8 +1,10 @@
 -- `apply::sections::covers` meets its contract. Assumes nothing.
 use mathlib.Core.Bool.{false}
-use Rattle.seq.specs.Search.{any, any-none, any-miss, any-hit}
+use Rattle.seq.specs.Search.{any}
+use Rattle.seq.specs.SearchLaws.{any-none, any-miss, any-hit}
 use Rattle.layout.specs.Place.{base}
-use Rattle.plan.specs.Fit.{coversSection, covers, record-some}
+use Rattle.plan.specs.Fit.{coversSection, covers}
+use Rattle.plan.specs.FitLaws.{record-some}
 use Rattle.apply.specs.Find.{section-is, section-next, section-room}
 use mathlib.Core.Path.{_≡_, sym, _∙_}
 use Prim.Native.Nat.{_≤_, _-_}

@@ -2,8 +2,9 @@
 use mathlib.Core.Path.{sym, _∙_}
 use borrow.Author.Needs.{needs}
 use Rattle.layout.specs.Fields.{inodeKind}
-use Rattle.layout.specs.Record.{field-of}
-use Rattle.layout.specs.View.{viewOf, is-kind, is-other}
+use Rattle.layout.specs.RecordLaws.{field-of}
+use Rattle.layout.specs.View.{viewOf}
+use Rattle.layout.specs.ViewLaws.{is-kind, is-other}
 use Rattle.component.specs.Splice.{plain-end, slash-end}
 use Rattle.component.specs.State.{positionOf, restFrom}
 use Rattle.component.specs.Turns.{arrives-plain, arrives-directory, arrives-other}

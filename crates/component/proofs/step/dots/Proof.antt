@@ -5,7 +5,7 @@ use native.Mathlib.Omega.{arith}
 use borrow.Author.Needs.{needs}
 use Rattle.seq.specs.Bytes.{part}
 use Rattle.layout.specs.Fields.{inodeField}
-use Rattle.layout.specs.Record.{field-of}
+use Rattle.layout.specs.RecordLaws.{field-of}
 use Rattle.layout.specs.View.{viewOf}
 use Rattle.component.specs.State.{positionOf, restFrom}
 use Rattle.component.specs.Turns.{dots-last, dots-stay, dots-up}

@@ -3,10 +3,11 @@ use mathlib.Core.Path.{sym, _∙_, ap}
 use native.Mathlib.Omega.{arith}
 use lib.ListN.{length}
 use borrow.Author.Needs.{needs}
-use Rattle.seq.specs.Bytes.{part-length}
+use Rattle.seq.specs.BytesLaws.{part-length}
 use Rattle.layout.specs.Fields.{inodeKind, inodeField, textLength, textBytes}
-use Rattle.layout.specs.Record.{field-of}
-use Rattle.layout.specs.View.{viewOf, textAt, is-kind, is-other}
+use Rattle.layout.specs.RecordLaws.{field-of}
+use Rattle.layout.specs.View.{viewOf, textAt}
+use Rattle.layout.specs.ViewLaws.{is-kind, is-other}
 use Rattle.component.specs.State.{positionOf, restFrom}
 use Rattle.component.specs.Turns.{enters-link, enters-other}
 use Rattle.component.proofs.step.enter.Statement.{statement}

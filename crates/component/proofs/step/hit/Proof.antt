@@ -4,8 +4,9 @@ use native.Mathlib.Omega.{arith}
 use borrow.Author.Needs.{needs}
 use Rattle.seq.specs.Bytes.{part}
 use Rattle.layout.specs.Fields.{entryTarget}
-use Rattle.layout.specs.Record.{field-of}
-use Rattle.layout.specs.View.{viewOf, isUsed-below}
+use Rattle.layout.specs.RecordLaws.{field-of}
+use Rattle.layout.specs.View.{viewOf}
+use Rattle.layout.specs.ViewLaws.{isUsed-below}
 use Rattle.component.specs.State.{positionOf, restFrom}
 use Rattle.component.specs.Turns.{hits-last, hits-more}
 use Rattle.component.proofs.step.hit.Statement.{statement}

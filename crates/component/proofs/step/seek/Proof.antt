@@ -4,7 +4,7 @@ use native.Mathlib.Omega.{arith}
 use borrow.Author.Needs.{needs}
 use Rattle.seq.specs.Bytes.{part}
 use Rattle.layout.specs.View.{viewOf}
-use Rattle.paths.specs.Lookup.{lookup-used}
+use Rattle.paths.specs.LookupLaws.{lookup-used}
 use Rattle.component.specs.State.{positionOf, restFrom}
 use Rattle.component.specs.Turns.{seeks-hit, seeks-miss}
 use Rattle.component.proofs.step.seek.Statement.{statement}

@@ -2,7 +2,8 @@
 use mathlib.Core.Path.{sym, _∙_}
 use native.Mathlib.Omega.{arith}
 use borrow.Author.Needs.{needs}
-use Rattle.layout.specs.View.{viewOf, isKind-below, kind-of, other-kind}
+use Rattle.layout.specs.View.{viewOf}
+use Rattle.layout.specs.ViewLaws.{isKind-below, kind-of, other-kind}
 use Rattle.component.specs.State.{positionOf}
 use Rattle.component.specs.Turns.{steps-nowhere, steps-inside}
 use Rattle.component.proofs.step.step.Statement.{statement}

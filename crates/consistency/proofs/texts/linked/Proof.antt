@@ -4,10 +4,11 @@ use mathlib.Core.Bool.{false}
 use Prim.Native.Nat.{_≤_, _-_}
 use native.Mathlib.Omega.{arith}
 use borrow.Author.Needs.{needs}
-use Rattle.seq.specs.Search.{any, any-none, any-miss, any-hit}
+use Rattle.seq.specs.Search.{any}
+use Rattle.seq.specs.SearchLaws.{any-none, any-miss, any-hit}
 use Rattle.layout.specs.View.{viewOf}
-use Rattle.tree.specs.Inode.{hasText}
-use Rattle.consistency.specs.Others.{textLinked}
+use Rattle.tree.specs.Tree.{hasText}
+use Rattle.consistency.specs.Sound.{textLinked}
 use Rattle.consistency.proofs.texts.linked.Statement.{statement}
 use Rattle.consistency.proofs.texts.linked.Tie as tie
 

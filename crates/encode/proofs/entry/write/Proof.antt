@@ -5,7 +5,8 @@ use lib.ListN.{length}
 use borrow.Author.Needs.{needs}
 use Rattle.seq.specs.Bytes.{put}
 use Rattle.seq.specs.Number.{bytesOf}
-use Rattle.encode.specs.Entry.{entryHead, entry-put}
+use Rattle.encode.specs.Entry.{entryHead}
+use Rattle.encode.specs.EntryLaws.{entry-put}
 use Rattle.encode.proofs.entry.write.Statement.{statement}
 use Rattle.encode.proofs.entry.write.Tie as tie
 

@@ -4,7 +4,7 @@ use lib.ListN.{replicate}
 use borrow.Author.Needs.{needs}
 use Rattle.seq.specs.Bytes.{put}
 use Rattle.seq.specs.Number.{bytesOf}
-use Rattle.encode.specs.Journal.{journal-put}
+use Rattle.encode.specs.JournalLaws.{journal-put}
 use Rattle.encode.proofs.journal.write.Statement.{statement}
 use Rattle.encode.proofs.journal.write.Tie as tie
 

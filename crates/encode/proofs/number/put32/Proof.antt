@@ -1,7 +1,7 @@
 -- `encode::number::put32` meets its contract. Assumes nothing.
 use denote.Ref.{now}
 use borrow.Author.Needs.{needs}
-use Rattle.seq.specs.Number.{put-two}
+use Rattle.seq.specs.NumberLaws.{put-two}
 use Rattle.encode.proofs.number.put32.Statement.{statement}
 use Rattle.encode.proofs.number.put32.Tie as tie
 

@@ -1,7 +1,7 @@
 -- `encode::number::put64` meets its contract. Assumes nothing.
 use denote.Ref.{now}
 use borrow.Author.Needs.{needs}
-use Rattle.seq.specs.Number.{put-four}
+use Rattle.seq.specs.NumberLaws.{put-four}
 use Rattle.encode.proofs.number.put64.Statement.{statement}
 use Rattle.encode.proofs.number.put64.Tie as tie
 

@@ -4,7 +4,8 @@ use Prim.Native.Nat.{_≤_, _-_}
 use native.Mathlib.Omega.{arith}
 use lib.ListN.{length, length-set, replicate, length-replicate}
 use borrow.Author.Needs.{needs}
-use Rattle.seq.specs.Bytes.{put, put-none, put-zero, put-whole}
+use Rattle.seq.specs.Bytes.{put}
+use Rattle.seq.specs.BytesLaws.{put-none, put-zero, put-whole}
 use Rattle.encode.proofs.record.clear.Statement.{statement}
 use Rattle.encode.proofs.record.clear.Tie as tie
 

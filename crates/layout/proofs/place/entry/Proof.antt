@@ -2,7 +2,7 @@
 use native.Mathlib.Omega.{arith}
 use lib.Dec.{lit<}
 use borrow.Author.Needs.{needs}
-use Rattle.layout.specs.Place.{inside}
+use Rattle.layout.specs.PlaceLaws.{inside}
 use Rattle.layout.proofs.place.entry.Statement.{statement}
 use Rattle.layout.proofs.place.entry.Tie as tie
 

@@ -4,7 +4,8 @@ use mathlib.Core.Bool.{false}
 use Prim.Native.Nat.{_≤_, _-_}
 use native.Mathlib.Omega.{arith}
 use borrow.Author.Needs.{needs}
-use Rattle.seq.specs.Search.{any, any-none, any-miss, first-hit, first-none}
+use Rattle.seq.specs.Search.{any}
+use Rattle.seq.specs.SearchLaws.{any-none, any-miss, first-hit, first-none}
 use Rattle.layout.specs.View.{viewOf}
 use Rattle.paths.specs.Lookup.{isNamed, lookup}
 use Rattle.paths.proofs.find.find.Statement.{statement}

@@ -6,8 +6,9 @@ use native.Mathlib.Omega.{arith}
 use lib.ListN.{length, getD}
 use borrow.Author.Needs.{needs}
 use borrow.Author.Tests.{eq-eqb, ne-eqb}
-use Rattle.seq.specs.Search.{any, any-none, any-miss, first-hit, first-none}
-use Rattle.paths.specs.Path.{isSlash, nameBytes}
+use Rattle.seq.specs.Search.{any}
+use Rattle.seq.specs.SearchLaws.{any-none, any-miss, first-hit, first-none}
+use Rattle.paths.specs.Path.{isSlash, untilSlash}
 use Rattle.paths.proofs.path.name_bytes.Statement.{statement}
 use Rattle.paths.proofs.path.name_bytes.Tie as tie
 
@@ -24,7 +25,7 @@ shared-slice-read-if1 : tie.Need-shared-slice-read-if1 Inv-loop μ-loop
 shared-slice-read-if1 c = search needs
 
 returns : tie.Need-returns Inv-loop μ-loop
-unfolding nameBytes
+unfolding untilSlash
 returns c =
     let loop′ = c .before .before .before .loop in
     (sym (first-hit _ _ _ (c .before .before .loop-test .taken) (loop′ .inv .1) (eq-eqb _ _ (c .if1 .taken))), search needs)
@@ -39,7 +40,7 @@ loop-again : tie.Need-loop-again Inv-loop μ-loop
 loop-again c = (search needs, any-miss _ _ (c .before .before .before .loop .inv .1) (ne-eqb _ _ (c .if1 .left)))
 
 returns-2 : tie.Need-returns-2 Inv-loop μ-loop
-unfolding nameBytes
+unfolding untilSlash
 returns-2 c = let e : c .before .loop .k ≡ length (c .before .before .args .p .now) = omega arith in
     (e ∙ sym (first-none _ _ (rw e at (c .before .loop .inv .1))), search needs)
 

@@ -6,7 +6,8 @@ use native.Mathlib.Omega.{arith}
 use lib.ListN.{length, getD}
 use borrow.Author.Needs.{needs}
 use borrow.Author.Tests.{eq-eqb, ne-eqb}
-use Rattle.seq.specs.Search.{any, any-none, any-miss, first-hit, first-none}
+use Rattle.seq.specs.Search.{any}
+use Rattle.seq.specs.SearchLaws.{any-none, any-miss, first-hit, first-none}
 use Rattle.paths.specs.Path.{isSlash, slashes}
 use Rattle.paths.proofs.path.slashes.Statement.{statement}
 use Rattle.paths.proofs.path.slashes.Tie as tie

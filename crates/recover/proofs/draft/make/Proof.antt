@@ -3,7 +3,7 @@ use mathlib.Core.Path.{_≡_}
 use mathlib.Core.Bool.{true}
 use borrow.Author.Needs.{needs}
 use Rattle.seq.specs.Truth.{fails, holds}
-use Rattle.layout.specs.Record.{field-of}
+use Rattle.layout.specs.RecordLaws.{field-of}
 use Rattle.layout.specs.View.{journalAt}
 use Rattle.encode.specs.Journal.{journalOf, journalFormed}
 use Rattle.recover.specs.Fit.{draft-unformed, draft-rename, draft-other}

@@ -4,7 +4,7 @@ use borrow.Author.Tests.{eq-eqb, ne-eqb}
 use borrow.Author.Needs.{needs}
 use Rattle.layout.specs.View.{viewOf}
 use Rattle.layout.specs.Fields.{entryNameLength, entryTarget}
-use Rattle.layout.specs.Record.{field-of}
+use Rattle.layout.specs.RecordLaws.{field-of}
 use Rattle.recover.specs.Recover.{decided}
 use Rattle.recover.proofs.renames.decided.Statement.{statement}
 use Rattle.recover.proofs.renames.decided.Tie as tie

@@ -4,7 +4,7 @@ use mathlib.Core.Bool.{true}
 use borrow.Author.Needs.{needs}
 use Rattle.seq.specs.Truth.{fails, holds}
 use Rattle.layout.specs.View.{View, viewOf}
-use Rattle.plan.specs.Write.{filled-one}
+use Rattle.plan.specs.WriteLaws.{filled-one}
 use Rattle.results.specs.Results.{clearRow}
 use Rattle.recover.specs.Recover.{renameFits, decided, intoGood, moveDraft, renameDraft}
 use Rattle.recover.specs.Fit.{fits-new, move-new, move-image, rename-move, rename-unfit, move-undone, move-unfit, move-finished}

@@ -2,7 +2,7 @@
 use borrow.Author.Needs.{needs}
 use Rattle.layout.specs.View.{viewOf}
 use Rattle.layout.specs.Fields.{entryParent}
-use Rattle.layout.specs.Record.{field-of}
+use Rattle.layout.specs.RecordLaws.{field-of}
 use Rattle.recover.proofs.renames.move_from.Statement.{statement}
 use Rattle.recover.proofs.renames.move_from.Tie as tie
 

@@ -1,7 +1,7 @@
 -- `refusals::kinds::moved_denied` meets its contract. Assumes nothing.
 use borrow.Author.Tests.{eq-eqb, ne-eqb}
 use borrow.Author.Needs.{needs}
-use Rattle.layout.specs.View.{isKind-below}
+use Rattle.layout.specs.ViewLaws.{isKind-below}
 use Rattle.refusals.proofs.kinds.moved_denied.Statement.{statement}
 use Rattle.refusals.proofs.kinds.moved_denied.Tie as tie
 

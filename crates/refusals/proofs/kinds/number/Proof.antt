@@ -2,7 +2,7 @@
 use mathlib.Core.Path.{sym, _∙_}
 use native.Mathlib.Omega.{arith}
 use borrow.Author.Needs.{needs}
-use Rattle.layout.specs.View.{kind-of, other-kind}
+use Rattle.layout.specs.ViewLaws.{kind-of, other-kind}
 use Rattle.refusals.proofs.kinds.number.Statement.{statement}
 use Rattle.refusals.proofs.kinds.number.Tie as tie
 

@@ -3,7 +3,8 @@ use mathlib.Core.Path.{_≡_, sym, _∙_}
 use mathlib.Core.Bool.{true, false}
 use native.Mathlib.Omega.{arith}
 use borrow.Author.Needs.{needs}
-use Rattle.layout.specs.View.{View, viewOf, kindOf, isDirectory, kind-of, other-kind}
+use Rattle.layout.specs.View.{View, viewOf, kindOf, isDirectory}
+use Rattle.layout.specs.ViewLaws.{kind-of, other-kind}
 use Rattle.refusals.specs.Case.{exists}
 use Rattle.refusals.specs.Kinds.{TypesFit, kind-missing, kind-exists, fit-missing, fit-directories, empty-missing, empty-directory}
 use Rattle.refusals.proofs.kinds.of_directory.Statement.{statement}

@@ -1,7 +1,7 @@
 -- `refusals::parents::mounted_in` meets its contract. Assumes nothing.
 use borrow.Author.Needs.{needs}
 use Rattle.seq.specs.Truth.{fails, holds}
-use Rattle.layout.specs.View.{isKind-below}
+use Rattle.layout.specs.ViewLaws.{isKind-below}
 use Rattle.refusals.proofs.parents.mounted_in.Statement.{statement}
 use Rattle.refusals.proofs.parents.mounted_in.Tie as tie
 

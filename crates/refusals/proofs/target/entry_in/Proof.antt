@@ -4,7 +4,7 @@ use borrow.Author.Tests.{eq-eqb, ne-eqb}
 use borrow.Author.Needs.{needs}
 use Rattle.layout.specs.View.{viewOf}
 use Rattle.layout.specs.Fields.{entryNameLength, entryParent}
-use Rattle.layout.specs.Record.{field-of}
+use Rattle.layout.specs.RecordLaws.{field-of}
 use Rattle.refusals.proofs.target.entry_in.Statement.{statement}
 use Rattle.refusals.proofs.target.entry_in.Tie as tie
 

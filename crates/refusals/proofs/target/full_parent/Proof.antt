@@ -4,7 +4,7 @@ use borrow.Author.Needs.{needs}
 use Rattle.seq.specs.Truth.{fails, holds}
 use Rattle.layout.specs.View.{viewOf}
 use Rattle.layout.specs.Fields.{inodeLinks}
-use Rattle.layout.specs.Record.{field-of}
+use Rattle.layout.specs.RecordLaws.{field-of}
 use Rattle.refusals.proofs.target.full_parent.Statement.{statement}
 use Rattle.refusals.proofs.target.full_parent.Tie as tie
 

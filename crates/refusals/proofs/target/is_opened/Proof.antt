@@ -4,7 +4,8 @@ use mathlib.Core.Bool.{false}
 use Prim.Native.Nat.{_≤_, _-_}
 use native.Mathlib.Omega.{arith}
 use borrow.Author.Needs.{needs}
-use Rattle.seq.specs.Search.{any, any-none, any-miss, any-hit}
+use Rattle.seq.specs.Search.{any}
+use Rattle.seq.specs.SearchLaws.{any-none, any-miss, any-hit}
 use Rattle.layout.specs.View.{viewOf}
 use Rattle.refusals.specs.Case.{openOn, isOpened}
 use Rattle.refusals.proofs.target.is_opened.Statement.{statement}

@@ -4,7 +4,7 @@ use borrow.Author.Tests.{eq-eqb, ne-eqb}
 use borrow.Author.Needs.{needs}
 use Rattle.layout.specs.View.{viewOf}
 use Rattle.layout.specs.Fields.{handleState, handleInode}
-use Rattle.layout.specs.Record.{field-of}
+use Rattle.layout.specs.RecordLaws.{field-of}
 use Rattle.refusals.proofs.target.open_on.Statement.{statement}
 use Rattle.refusals.proofs.target.open_on.Tie as tie
 

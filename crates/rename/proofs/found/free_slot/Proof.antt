@@ -5,9 +5,10 @@ use Prim.Native.Nat.{_≤_, _-_}
 use native.Mathlib.Omega.{arith}
 use borrow.Author.Needs.{needs}
 use borrow.Author.Tests.{eq-eqb, ne-eqb}
-use Rattle.seq.specs.Search.{any, any-none, any-miss, first-hit, first-none}
+use Rattle.seq.specs.Search.{any}
+use Rattle.seq.specs.SearchLaws.{any-none, any-miss, first-hit, first-none}
 use Rattle.layout.specs.Fields.{entryNameLength}
-use Rattle.layout.specs.Record.{field-of}
+use Rattle.layout.specs.RecordLaws.{field-of}
 use Rattle.layout.specs.View.{viewOf, entryUsed}
 use Rattle.rename.specs.Order.{freeSlot}
 use Rattle.rename.proofs.found.free_slot.Statement.{statement}

@@ -2,8 +2,9 @@
 use mathlib.Core.Path.{sym, ap, _∙_}
 use Rattle.seq.specs.Truth.{fails, holds}
 use Rattle.layout.specs.Fields.{inodeField}
-use Rattle.layout.specs.Record.{field-of}
-use Rattle.layout.specs.View.{viewOf, isKind-below}
+use Rattle.layout.specs.RecordLaws.{field-of}
+use Rattle.layout.specs.View.{viewOf}
+use Rattle.layout.specs.ViewLaws.{isKind-below}
 use Rattle.results.specs.Results.{entriesAfter}
 use Rattle.rename.specs.Texts.{text-other, text-kept, text-freed}
 use borrow.Author.Needs.{needs}

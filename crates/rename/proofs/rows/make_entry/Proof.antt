@@ -1,7 +1,7 @@
 -- `rename::rows::make_entry` meets its contract. Assumes nothing.
 use mathlib.Core.Path.{sym, ap, _∙_}
 use lib.ListN.{length}
-use Rattle.seq.specs.Bytes.{put-whole}
+use Rattle.seq.specs.BytesLaws.{put-whole}
 use Rattle.rename.specs.Entries.{entry-made, entry-taken}
 use borrow.Author.Needs.{needs}
 use Rattle.rename.proofs.rows.make_entry.Statement.{statement}

@@ -1,5 +1,5 @@
 -- `rename::rows::put_journal` meets its contract. Assumes nothing.
-use Rattle.plan.specs.Write.{row-put}
+use Rattle.plan.specs.WriteLaws.{row-put}
 use Rattle.rename.specs.Plan.{journalRow}
 use borrow.Author.Needs.{needs}
 use Rattle.rename.proofs.rows.put_journal.Statement.{statement}

@@ -1,7 +1,7 @@
 -- `results::records::inode` meets its contract. Assumes nothing.
 use mathlib.Core.Path.{_∙_}
 use borrow.Author.Needs.{needs}
-use Rattle.seq.specs.Bytes.{put-whole}
+use Rattle.seq.specs.BytesLaws.{put-whole}
 use Rattle.results.proofs.records.inode.Statement.{statement}
 use Rattle.results.proofs.records.inode.Tie as tie
 

@@ -1,7 +1,7 @@
 -- `results::rows::put_always` meets its contract. Assumes nothing.
 use mathlib.Core.Path.{refl}
 use borrow.Author.Needs.{needs}
-use Rattle.plan.specs.Write.{row-put}
+use Rattle.plan.specs.WriteLaws.{row-put}
 use Rattle.results.specs.Results.{oldRow}
 use Rattle.results.specs.Rows.{always-filled}
 use Rattle.results.proofs.rows.put_always.Statement.{statement}

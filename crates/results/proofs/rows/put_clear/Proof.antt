@@ -1,6 +1,6 @@
 -- `results::rows::put_clear` meets its contract. Assumes nothing.
 use mathlib.Core.Path.{refl}
-use Rattle.plan.specs.Write.{row-put}
+use Rattle.plan.specs.WriteLaws.{row-put}
 use Rattle.results.specs.Results.{clearRow}
 use borrow.Author.Needs.{needs}
 use Rattle.results.proofs.rows.put_clear.Statement.{statement}

@@ -1,6 +1,6 @@
 -- `results::rows::put_holder` meets its contract. Assumes nothing.
 use borrow.Author.Needs.{needs}
-use Rattle.plan.specs.Write.{row-put}
+use Rattle.plan.specs.WriteLaws.{row-put}
 use Rattle.results.specs.Results.{holderRow}
 use Rattle.results.proofs.rows.put_holder.Statement.{statement}
 use Rattle.results.proofs.rows.put_holder.Tie as tie

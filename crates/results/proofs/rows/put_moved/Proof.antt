@@ -1,6 +1,6 @@
 -- `results::rows::put_moved` meets its contract. Assumes nothing.
 use borrow.Author.Needs.{needs}
-use Rattle.plan.specs.Write.{row-put}
+use Rattle.plan.specs.WriteLaws.{row-put}
 use Rattle.results.specs.Results.{movedRow}
 use Rattle.results.proofs.rows.put_moved.Statement.{statement}
 use Rattle.results.proofs.rows.put_moved.Tie as tie

@@ -1,6 +1,6 @@
 -- `results::rows::put_replaced` meets its contract. Assumes nothing.
 use borrow.Author.Needs.{needs}
-use Rattle.plan.specs.Write.{row-put}
+use Rattle.plan.specs.WriteLaws.{row-put}
 use Rattle.results.specs.Results.{replacedRow}
 use Rattle.results.specs.Rows.{replaced-one, replaced-none}
 use Rattle.results.proofs.rows.put_replaced.Statement.{statement}

@@ -4,7 +4,7 @@ use Prim.Native.Nat.{_+_}
 use borrow.Author.Needs.{needs}
 use borrow.Author.Tests.{eq-eqb, ne-eqb, lt-ltb, le-ltb, le-leb, lt-leb}
 use Rattle.layout.specs.Fields.{inodeMode, inodeLinks}
-use Rattle.layout.specs.Record.{field-of}
+use Rattle.layout.specs.RecordLaws.{field-of}
 use Rattle.layout.specs.View.{viewOf}
 use Rattle.tree.specs.Inode.{directoryGood}
 use Rattle.tree.proofs.inodes.directory_good.Statement.{statement}

@@ -2,7 +2,7 @@
 use borrow.Author.Needs.{needs}
 use Rattle.seq.specs.Truth.{fails, holds}
 use Rattle.layout.specs.Fields.{inodeField}
-use Rattle.layout.specs.Record.{field-of}
+use Rattle.layout.specs.RecordLaws.{field-of}
 use Rattle.layout.specs.View.{viewOf}
 use Rattle.tree.specs.Inode.{fileGood}
 use Rattle.tree.proofs.inodes.file_good.Statement.{statement}

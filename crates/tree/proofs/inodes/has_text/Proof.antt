@@ -2,7 +2,7 @@
 use borrow.Author.Needs.{needs}
 use Rattle.seq.specs.Truth.{fails, holds}
 use Rattle.layout.specs.Fields.{inodeField}
-use Rattle.layout.specs.Record.{field-of}
+use Rattle.layout.specs.RecordLaws.{field-of}
 use Rattle.layout.specs.View.{viewOf}
 use Rattle.tree.proofs.inodes.has_text.Statement.{statement}
 use Rattle.tree.proofs.inodes.has_text.Tie as tie

@@ -4,11 +4,12 @@ use mathlib.Core.Bool.{false}
 use Prim.Native.Nat.{_≤_, _-_}
 use native.Mathlib.Omega.{arith}
 use borrow.Author.Needs.{needs}
-use Rattle.seq.specs.Search.{any, any-none, any-miss, any-hit}
+use Rattle.seq.specs.Search.{any}
+use Rattle.seq.specs.SearchLaws.{any-none, any-miss, any-hit}
 use Rattle.layout.specs.Fields.{inodeField}
-use Rattle.layout.specs.Record.{field-of}
+use Rattle.layout.specs.RecordLaws.{field-of}
 use Rattle.layout.specs.View.{viewOf}
-use Rattle.tree.specs.Inode.{hasText, textShared}
+use Rattle.tree.specs.Tree.{hasText, textShared}
 use Rattle.tree.proofs.inodes.text_shared.Statement.{statement}
 use Rattle.tree.proofs.inodes.text_shared.Tie as tie
 

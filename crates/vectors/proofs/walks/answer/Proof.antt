@@ -1,7 +1,7 @@
 -- `vectors::walks::answer` meets its contract. Assumes nothing.
 use mathlib.Core.Path.{sym, _∙_}
 use borrow.Author.Needs.{needs}
-use Rattle.layout.specs.Contents.{contents-good}
+use Rattle.layout.specs.ContentsLaws.{contents-good}
 use Rattle.consistency.specs.Facts.{checked-readable}
 use Rattle.vectors.proofs.walks.answer.Statement.{statement}
 use Rattle.vectors.proofs.walks.answer.Tie as tie

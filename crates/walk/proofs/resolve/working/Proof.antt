@@ -2,7 +2,7 @@
 use mathlib.Core.Path.{_∙_}
 use native.Mathlib.Omega.{arith}
 use borrow.Author.Needs.{needs}
-use Rattle.seq.specs.Bytes.{put-zeros}
+use Rattle.seq.specs.BytesLaws.{put-zeros}
 use Rattle.paths.specs.Filled.{filled}
 use Rattle.walk.proofs.resolve.working.Statement.{statement}
 use Rattle.walk.proofs.resolve.working.Tie as tie

@@ -1,0 +1,151 @@
+-- Laws of the table of contents: the ways out of reading it, and what a good layout gives to a reader of records. Assumes nothing.
+use mathlib.Core.Path.{_≡_, refl, sym, subst}
+use mathlib.Core.Bool.{Bool, true, false, _&&_, and-false}
+use mathlib.Core.List.{List}
+use Prim.Native.Nat.{ℕ, _+_, _*_, _≤_, _<_}
+use lib.Dec.{eqb, leb, lit<, lit≤}
+use lib.ListN.{length, getD}
+use native.Mathlib.Nat.{mul-le-mul-right}
+use native.Mathlib.Omega.{arith}
+use borrow.Author.Tests.{leb-true, eqb-true, eq-eqb, ne-eqb, le-leb, lt-leb}
+use Rattle.seq.specs.Truth.{and-left, and-right}
+use Rattle.seq.specs.Search.{all}
+use Rattle.seq.specs.SearchLaws.{all-at, all-not}
+use Rattle.seq.specs.Number.{numberAt, span}
+use Rattle.seq.specs.Letters.{A}
+use Rattle.layout.specs.declared.Shape.{Shape}
+use Rattle.layout.specs.Limits.{entrySize, inodeLimit, entryLimit, textLimit, handleLimit, contentsBytes}
+use Rattle.layout.specs.declared.contents.Contents.the-variants.{Bad, Good}
+use Rattle.layout.specs.Place.{imageBytes}
+use Rattle.layout.specs.Contents.{contentsOf, fewest, layoutGood, most, nameIs, pickContents, rowGood, rowIs, rowsGood, shapeOf, widthOf}
+
+-- the ways out of comparing a name: three bytes agree, and the fourth decides
+pub name-last : (s : List ℕ) (at : ℕ) (name : List ℕ) → getD s at 0 ≡ getD name 0 0 → getD s (at + 1) 0 ≡ getD name 1 0 → getD s (at + 2) 0 ≡ getD name 2 0
+    → nameIs s at name ≡ eqb (getD s (at + 3) 0) (getD name 3 0)
+unfolding nameIs
+name-last s at name a b c = simp (eq-eqb _ _ a, eq-eqb _ _ b, eq-eqb _ _ c)
+
+-- the ways out of comparing a row
+module _ (s : List ℕ) (at : ℕ) (name : List ℕ) (offset least limit : ℕ) where
+  pub row-name : nameIs s at name ≡ false → rowIs s at name offset least limit ≡ false
+  unfolding rowIs
+  row-name e = rw e
+
+  pub row-offset : (numberAt 2 s (at + 4) ≡ offset → ⊥) → rowIs s at name offset least limit ≡ false
+  unfolding rowIs
+  row-offset ne = rw (ne-eqb _ _ ne, and-false (nameIs s at name))
+
+  pub row-few : numberAt 2 s (at + 6) < least → rowIs s at name offset least limit ≡ false
+  unfolding rowIs
+  row-few few = rw (lt-leb _ _ few, and-false (nameIs s at name && eqb (numberAt 2 s (at + 4)) offset))
+
+  pub row-count : nameIs s at name ≡ true → numberAt 2 s (at + 4) ≡ offset → least ≤ numberAt 2 s (at + 6)
+      → rowIs s at name offset least limit ≡ leb (numberAt 2 s (at + 6)) limit
+  unfolding rowIs
+  row-count a b c = rw (a, eq-eqb _ _ b, le-leb _ _ c)
+
+-- the ways out of reading the table of contents
+pub contents-short : (s : List ℕ) → length s < contentsBytes → contentsOf s ≡ Bad
+unfolding contentsOf layoutGood
+contents-short s l = rw (lt-leb _ _ l)
+
+module _ (s : List ℕ) (h : Shape) (long : contentsBytes ≤ length s) (shape : h ≡ shapeOf s) where
+  pub contents-right : rowsGood s h ≡ true → contentsOf s ≡ Good h
+  unfolding contentsOf layoutGood
+  contents-right e = rw (le-leb _ _ long, ← shape, e)
+
+  pub contents-wrong : rowsGood s h ≡ false → contentsOf s ≡ Bad
+  unfolding contentsOf layoutGood
+  contents-wrong e = rw (le-leb _ _ long, ← shape, e)
+
+-- the shape, field by field
+pub shape-is : (s : List ℕ) (a b c d w : ℕ) → a ≡ numberAt 2 s 6 → b ≡ numberAt 2 s 14 → c ≡ numberAt 2 s 22 → d ≡ numberAt 2 s 30 → w ≡ widthOf s
+    → _≡_ {A = Shape} (record { inodes = a; entries = b; texts = c; handles = d; width = w }) (shapeOf s)
+unfolding shapeOf
+shape-is s a b c d w p q r t u = λ i. record { inodes = p i; entries = q i; texts = r i; handles = t i; width = u i }
+
+-- A shape within the limits that the image s has: what every reader of records may rely on. It leaves the entry width open between this edition's and
+-- the next's, and holds that every place fits the two bytes of an offset.
+pub record Laid (h : Shape) (s : List ℕ) : Type 0 where
+  pub inodes-least : 1 ≤ h .inodes
+  pub inodes-most : h .inodes ≤ inodeLimit
+  pub entries-most : h .entries ≤ entryLimit
+  pub texts-most : h .texts ≤ textLimit
+  pub handles-most : h .handles ≤ handleLimit
+  pub width-least : entrySize ≤ h .width
+  pub width-most : h .width ≤ 48
+  pub small : imageBytes h ≤ span 2
+  pub long : length s ≡ imageBytes h
+
+-- the ways out of comparing the rows
+module _ (s : List ℕ) (h : Shape) where
+  pub rows-not : (k : ℕ) → k < 5 → rowGood s h k ≡ false → rowsGood s h ≡ false
+  unfolding rowsGood
+  rows-not k l e = rw (all-not (rowGood s h) 5 k l e)
+
+  pub rows-end : rowGood s h 0 ≡ true → rowGood s h 1 ≡ true → rowGood s h 2 ≡ true → rowGood s h 3 ≡ true → rowGood s h 4 ≡ true
+      → rowsGood s h ≡ eqb (length s) (imageBytes h)
+  unfolding rowsGood all
+  rows-end a b c d e = rw (a, b, c, d, e)
+
+-- the parts of a good layout
+module _ (s : List ℕ) (good : layoutGood s ≡ true) where
+  rows : all (rowGood s (shapeOf s)) 5 ≡ true
+  unfolding layoutGood rowsGood
+  rows = search (and-left, and-right)
+
+  count-within : (k : ℕ) → k < 5 → (fewest k ≤ numberAt 2 s (8 * k + 6)) × (numberAt 2 s (8 * k + 6) ≤ most (widthOf s) k)
+  unfolding rowGood rowIs shapeOf
+  count-within k l =
+      let row = all-at (rowGood s (shapeOf s)) 5 rows k l in
+      (leb-true _ _ (search (and-left, and-right)), leb-true _ _ (search (and-left, and-right)))
+
+  pub good-laid : Laid (shapeOf s) s
+  unfolding layoutGood rowsGood shapeOf
+  good-laid = record {
+    inodes-least = count-within 0 (lit< tt) .0;
+    inodes-most = count-within 0 (lit< tt) .1;
+    entries-most = count-within 1 (lit< tt) .1;
+    texts-most = count-within 2 (lit< tt) .1;
+    handles-most = count-within 3 (lit< tt) .1;
+    width-least = lit≤ tt;
+    width-most = lit≤ tt;
+    small = omega (arith, count-within 0 (lit< tt) .1, count-within 1 (lit< tt) .1, count-within 2 (lit< tt) .1, count-within 3 (lit< tt) .1);
+    long = eqb-true _ _ (search (and-left, and-right));
+  }
+
+-- a count of two bytes, of any image
+pub record Counted (h : Shape) : Type 0 where
+  pub inodes : h .inodes < 65536
+  pub entries : h .entries < 65536
+  pub texts : h .texts < 65536
+  pub handles : h .handles < 65536
+  pub width : h .width ≤ 48
+
+-- its entries end where 22 bits reach, so no sum of its places wraps
+pub product : (h : Shape) → Counted h → h .width * h .entries < 4194304
+product h c = let l = mul-le-mul-right (h .entries) (c .width) in omega (arith, c .entries)
+
+-- what a reader of the table of contents may conclude from its answer
+pub record Read (s : List ℕ) (h : Shape) : Type 0 where
+  pub good : layoutGood s ≡ true
+  pub shape : h ≡ shapeOf s
+  pub laid : Laid h s
+
+pub contents-good : (s : List ℕ) (h : Shape) → contentsOf s ≡ Good h → Read s h
+unfolding contentsOf
+contents-good s h e = go (layoutGood s) refl e
+  where
+    go : (b : Bool) → layoutGood s ≡ b → pickContents b (shapeOf s) ≡ Good h → Read s h
+    go true g q =
+        let z : h ≡ shapeOf s = cc in
+        record { good = g; shape = z; laid = subst (λ (x : Shape). Laid x s) (sym z) (good-laid s g) }
+    go false g q = let z : _≡_ {A = ℕ} 0 1 = cc in absurd (omega arith)
+
+pub contents-bad : (s : List ℕ) → contentsOf s ≡ Bad → layoutGood s ≡ false
+unfolding contentsOf
+contents-bad s e = go (layoutGood s) e
+  where
+    go : (b : Bool) → pickContents b (shapeOf s) ≡ Bad → b ≡ false
+    go true q = cc
+    go false q = refl
