@@ -27,7 +27,7 @@ use Rattle.plan.specs.Fit.{coversSection, covers, rowFits, applicable}
 use Rattle.apply.specs.Apply.{applyNumber, appliedImage}
 use Rattle.results.specs.Results.{entriesAfter, childrenAfter, linksAfter, movedBytes, holderBytes, replacedBytes, results}
 use Rattle.refusals.specs.Case.{stickyDenied, hasEntries, isOpened}
-use Rattle.rename.specs.Plan.{moveOf, renameRows, planned}
+use Rattle.moves.specs.Plan.{moveOf, renameRows, planned}
 use Rattle.rename.specs.Order.{freeSlot, order}
 use Rattle.rename.specs.Job.{renamed, planAfter}
 use Rattle.demands.specs.Line.{below, applyRows, outcome}

@@ -31,7 +31,7 @@ use Rattle.refusals.specs.Case.{exists}
 use Rattle.refusals.specs.Steps.{Rule, refuse, decide, steps}
 use Rattle.refusals.specs.Passed.{Passes, passes, Passed, planned-passed}
 use Rattle.plan.specs.Form.{planBytes}
-use Rattle.rename.specs.Plan.{moveOf}
+use Rattle.moves.specs.Plan.{moveOf}
 use Rattle.rename.specs.Order.{walks, caseOf, early, late, order}
 use Rattle.rename.specs.Job.{answer, move, called}
 use Rattle.outcome.specs.Called.{Called, move-text}

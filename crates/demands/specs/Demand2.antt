@@ -23,7 +23,7 @@ use Rattle.refusals.specs.declared.case.Answer.{Answer}
 use Rattle.refusals.specs.declared.case.Answer.the-variants.{Refused, Same, Planned}
 use Rattle.refusals.specs.Steps.{Rule, refuse, numberOf, decide}
 use Rattle.refusals.specs.Decide.{steps-same}
-use Rattle.rename.specs.Plan.{planned}
+use Rattle.moves.specs.Plan.{planned}
 use Rattle.rename.specs.Order.{walks, inodeOf, caseOf, late, order}
 use Rattle.rename.specs.Job.{answer, move, called, rowsOf, planOf, renamed, planAfter}
 use Rattle.outcome.specs.Outcome.{finished}

@@ -32,7 +32,7 @@ use Rattle.results.specs.declared.Move.{Move}
 use Rattle.refusals.specs.declared.case.Answer.{Answer}
 use Rattle.refusals.specs.declared.case.Answer.the-variants.{Refused, Same, Planned}
 use Rattle.rename.specs.Order.{walks, slotOf, inodeOf}
-use Rattle.rename.specs.Plan.{moveOf, planned as plannedBytes}
+use Rattle.moves.specs.Plan.{moveOf, planned as plannedBytes}
 use Rattle.rename.specs.Job.{answer, move, called, rowsOf, planOf, renamed, planAfter}
 use Rattle.recover.specs.Job.{recovered}
 use Rattle.outcome.specs.Outcome.{rename-planned}

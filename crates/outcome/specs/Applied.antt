@@ -19,7 +19,7 @@ use Rattle.crash.specs.Safe.{planned-whole, planned-in-order}
 use Rattle.results.specs.declared.Move.{Move}
 use Rattle.results.specs.Results.{results, clearRow}
 use Rattle.results.specs.Rows.{results-le}
-use Rattle.rename.specs.Plan.{renameRows, planned}
+use Rattle.moves.specs.Plan.{renameRows, planned}
 use Rattle.outcome.specs.Outcome.{renamePlan, finished, rename-rows, rename-planned}
 use Rattle.outcome.specs.Called.{Called}
 use Rattle.outcome.specs.Rows.{results-all, results-fit, well-formed}

@@ -37,7 +37,7 @@ use Rattle.results.specs.declared.Move.{Move}
 use Rattle.results.specs.Results.{entriesAfter, freeRecord}
 use Rattle.results.specs.InImage.{InImage}
 use Rattle.refusals.specs.declared.case.Case.{Case}
-use Rattle.rename.specs.Plan.{moveOf, newEntry}
+use Rattle.moves.specs.Plan.{moveOf, newEntry}
 
 -- the inode that slot `new` names, if it is in use
 abbrev pub replacedOf : View → ℕ → ℕ

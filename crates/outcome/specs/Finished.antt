@@ -23,7 +23,7 @@ use Rattle.crash.specs.Image.{Ok, recordOf, record-is, images}
 use Rattle.crash.specs.Safe.{after-stored}
 use Rattle.results.specs.declared.Move.{Move}
 use Rattle.results.specs.Results.{when, freeRecord, movedAfter, holderAfter, replacedAfter, oldRow, movedRow, holderRow, replacedRow, textRow, intoRows, replacedRows, results}
-use Rattle.rename.specs.Plan.{newEntry, entryRow}
+use Rattle.moves.specs.Plan.{newEntry, entryRow}
 use Rattle.outcome.specs.Outcome.{renamePlan, finished}
 use Rattle.outcome.specs.Called.{Called, in-image}
 use Rattle.outcome.specs.Rows.{results-are, section-spared, entry-spared, text-spared, inode-spared, well-formed}

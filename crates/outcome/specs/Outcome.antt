@@ -10,7 +10,7 @@ use Rattle.crash.specs.Rows.{planOf}
 use Rattle.crash.specs.Operation.{rowsIn}
 use Rattle.results.specs.declared.Move.{Move}
 use Rattle.results.specs.Results.{results, clearRow}
-use Rattle.rename.specs.Plan.{journalRow, entryRow, renameRows, planned}
+use Rattle.moves.specs.Plan.{journalRow, entryRow, renameRows, planned}
 
 module _ (h : Shape) (s : List ℕ) (m : Move) (called : List ℕ) where
   -- the rows by what they do: the journal record is set, the new entry decides, the results follow, the journal record is cleared

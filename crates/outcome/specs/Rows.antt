@@ -26,7 +26,7 @@ use Rattle.results.specs.Results.{present, when, linksAfter, oldRow, movedRow, 
 use Rattle.plan.specs.Form.{clearGroup, entryGroup}
 use Rattle.results.specs.Links.{links-le}
 use Rattle.results.specs.Owed.{results-write, clear-writes}
-use Rattle.rename.specs.Plan.{journalFor, journalRow, entryRow}
+use Rattle.moves.specs.Plan.{journalFor, journalRow, entryRow}
 use Rattle.outcome.specs.Outcome.{renamePlan}
 use Rattle.outcome.specs.Called.{Called, before-good, in-image, replaced-not-moved, replaced-not-from, replaced-not-into, entry-names, journal-zeros}
 

@@ -23,7 +23,8 @@ use Rattle.plan.specs.Form.{headerOf, rowPut, rowsPut, cleared, noRow, rowCount
 use Rattle.plan.specs.Write.{Write, entryKey, journalKey, storeAll}
 use Rattle.results.specs.declared.Move.{Move}
 use Rattle.results.specs.Results.{entriesAfter, childrenAfter, linksAfter, movedBytes, holderBytes, replacedBytes, holderRow, results}
-use Rattle.recover.specs.Recover.{renameFits, decided, intoGood, moveDraft, renameDraft, draft, pendingRows}
+use Rattle.drafts.specs.Draft.{renameFits, decided, intoGood, moveDraft, renameDraft, draft}
+use Rattle.recover.specs.Recover.{pendingRows}
 use Rattle.recover.specs.Job.{Recovered, recovered}
 
 abbrev h : Shape

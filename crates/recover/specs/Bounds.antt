@@ -20,7 +20,8 @@ use Rattle.plan.specs.Write.{Write, storeAll}
 use Rattle.results.specs.declared.Move.{Move}
 use Rattle.results.specs.Results.{results, clearRow}
 use Rattle.results.specs.Rows.{results-le}
-use Rattle.recover.specs.Recover.{renameFits, moveFrom, decided, intoGood, undoing, finishing, moveDraft, renameDraft, kindDraft, draft, ifConsistent, pendingRows, recover}
+use Rattle.drafts.specs.Draft.{renameFits, moveFrom, decided, intoGood, undoing, finishing, moveDraft, renameDraft, kindDraft, draft}
+use Rattle.recover.specs.Recover.{ifConsistent, pendingRows, recover}
 use Rattle.recover.specs.Job.{Recovered, refused, done, byRows, byJournal, recovered}
 
 -- at most nine rows

@@ -2,8 +2,6 @@ pub mod Recover
 pub mod Job
 pub mod JobLaws
 pub mod Bounds
-pub mod Drafts
-pub mod Fit
 pub mod Outcome
 pub mod Outs
 pub mod Bench

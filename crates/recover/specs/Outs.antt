@@ -24,12 +24,13 @@ use Rattle.plan.specs.Copied.{rows-copied}
 use Rattle.plan.specs.Write.{Write, storeAll, rowsFrom}
 use Rattle.plan.specs.WriteLaws.{AllWrites, Filled}
 use Rattle.recover.specs.declared.Answer.{Answer}
-use Rattle.recover.specs.declared.draft.Draft.the-variants.{Unfit, Rows}
-use Rattle.recover.specs.Recover.{draft, ifConsistent, pendingRows}
+use Rattle.drafts.specs.declared.draft.Draft.the-variants.{Unfit, Rows}
+use Rattle.drafts.specs.Draft.{draft}
+use Rattle.recover.specs.Recover.{ifConsistent, pendingRows}
 use Rattle.recover.specs.Job.{Recovered, answerOf, outcomeOf, refused, done, byRows, byJournal, recovered}
 use Rattle.recover.specs.Bounds.{draft-rows, recovered-few}
-use Rattle.recover.specs.Drafts.{Drafted}
-use Rattle.recover.specs.Fit.{draft-writes}
+use Rattle.drafts.specs.Drafted.{Drafted}
+use Rattle.drafts.specs.Fit.{draft-writes}
 use Rattle.recover.specs.Outcome.{appliedFrom, stored-length, rows-formed, rows-applied}
 
 -- a refusal

@@ -1,5 +1,6 @@
 // The job that recovers an image after a crash (the papers' repair): a plan that finishes or takes back what was interrupted.
-use draft::Draft;
+use drafts::draft;
+use drafts::draft::Draft;
 use layout::Shape;
 use layout::contents::Contents;
 use layout::errno;
@@ -12,9 +13,7 @@ ghost use Rattle.recover.specs.Recover.{pendingRows};
 ghost use Rattle.recover.specs.Job.{byRows, byJournal, recovered};
 ghost use Rattle.recover.specs.Outs.{refusedBy, Ready, Answers};
 
-pub mod draft;
 pub mod outcome;
-pub mod renames;
 
 // How the job is answered: its number, and how many rows the plan has.
 pub struct Answer {

@@ -22,7 +22,7 @@ use Rattle.refusals.specs.declared.case.Answer.{Answer}
 use Rattle.refusals.specs.declared.case.Answer.the-variants.{Refused, Same, Planned}
 use Rattle.refusals.specs.Steps.{decide}
 use Rattle.rename.specs.declared.Renamed.{Renamed}
-use Rattle.rename.specs.Plan.{renameRows}
+use Rattle.moves.specs.Plan.{renameRows}
 use Rattle.rename.specs.Order.{view, early}
 use Rattle.rename.specs.Job.{answer, move, called, rowsOf, countOf, renamed}
 use Rattle.rename.specs.Outs.{Answers}

@@ -10,7 +10,7 @@ use Rattle.refusals.specs.declared.case.Answer.{Answer}
 use Rattle.refusals.specs.declared.case.Answer.the-variants.{Refused, Same, Planned}
 use Rattle.refusals.specs.Steps.{numberOf, decide}
 use Rattle.rename.specs.declared.Renamed.{Renamed}
-use Rattle.rename.specs.Plan.{moveOf, renameRows, planned}
+use Rattle.moves.specs.Plan.{moveOf, renameRows, planned}
 use Rattle.rename.specs.Order.{view, walks, caseOf, nameOf, early, order}
 
 module _ (s plan : List ℕ) (q : Request) (old new : List ℕ) where

@@ -23,7 +23,7 @@ use Rattle.refusals.specs.Case.{exists, noSlot}
 use Rattle.refusals.specs.CaseIn.{CaseIn}
 use Rattle.results.specs.Results.{entriesAfter}
 use Rattle.results.specs.InImage.{InImage}
-use Rattle.rename.specs.Plan.{moveWith, freedText, moveOf}
+use Rattle.moves.specs.Plan.{moveWith, freedText, moveOf}
 use Rattle.rename.specs.Order.{freeSlot, directoryOf, slotOf, inodeOf, slashOf, nameOf, caseOf}
 
 -- old's walk has found an entry

@@ -29,7 +29,7 @@ use Rattle.refusals.specs.Steps.{decide, steps}
 use Rattle.refusals.specs.Passed.{planned-passed}
 use Rattle.results.specs.InImage.{InImage}
 use Rattle.rename.specs.declared.Renamed.{Renamed}
-use Rattle.rename.specs.Plan.{moveOf, renameRows, planned}
+use Rattle.moves.specs.Plan.{moveOf, renameRows, planned}
 use Rattle.rename.specs.Order.{nameOf, caseOf}
 use Rattle.rename.specs.Outs.{Answers, answers-as, walked-old, answers-walk, answers-steps}
 use Rattle.rename.specs.Known.{case-in, called-fits, move-in}

@@ -19,13 +19,11 @@ ghost use Rattle.component.specs.State.{Ranged};
 ghost use Rattle.walk.specs.Answer.{endOf};
 ghost use Rattle.plan.specs.Form.{planBytes};
 ghost use Rattle.results.specs.InImage.{InImage};
-ghost use Rattle.rename.specs.Plan.{moveOf, renameRows, planned};
+ghost use Rattle.moves.specs.Plan.{moveOf, renameRows, planned};
 ghost use Rattle.rename.specs.Order.{nameOf};
 ghost use Rattle.rename.specs.Outs.{refusedBy, Answers};
 
 pub mod found;
-pub mod moves;
-pub mod rows;
 
 // How the job is answered: its number, how many rows the plan has, and the component checks that the walks of old and new began.
 pub struct Renamed {
@@ -62,15 +60,15 @@ fn write(plan: &mut [u8], s: &[u8], h: Shape, c: Case, time: u64, new: Walked) -
             slash: _,
         } => {
             let path = new.path;
-            rows::put(plan, s, h, m, &path[from..to])
+            moves::rows::put(plan, s, h, m, &path[from..to])
         }
         Found::Existing {
             directory: _,
             slot: _,
             inode: _,
             slash: _,
-        } => rows::put(plan, s, h, m, b""),
-        Found::Nothing => rows::put(plan, s, h, m, b""),
+        } => moves::rows::put(plan, s, h, m, b""),
+        Found::Nothing => moves::rows::put(plan, s, h, m, b""),
     }
 }
 

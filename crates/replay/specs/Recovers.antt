@@ -34,9 +34,10 @@ use Rattle.journal.specs.Planned.{clear-settles, behind-all, reached, decided-r
 use Rattle.crash.specs.Image.{Fits, recordOf, record-is, images, puts-store}
 use Rattle.results.specs.declared.Move.{Move}
 use Rattle.results.specs.Results.{holderAfter, results, clearRow}
-use Rattle.rename.specs.Plan.{journalFor, newEntry}
-use Rattle.recover.specs.Recover.{belowOrAbsent, renameFits, moveFrom, decided, intoGood, undoing, finishing, moveDraft, renameDraft, kindDraft, draft, ifConsistent, pendingRows, recover}
-use Rattle.recover.specs.Fit.{move-undone, move-finished}
+use Rattle.moves.specs.Plan.{journalFor, newEntry}
+use Rattle.drafts.specs.Draft.{belowOrAbsent, renameFits, moveFrom, decided, intoGood, undoing, finishing, moveDraft, renameDraft, kindDraft, draft}
+use Rattle.recover.specs.Recover.{ifConsistent, pendingRows, recover}
+use Rattle.drafts.specs.Fit.{move-undone, move-finished}
 use Rattle.outcome.specs.Outcome.{renamePlan, finished}
 use Rattle.outcome.specs.Called.{Called, before-good, in-image, replaced-not-moved, replaced-not-from, replaced-not-into, entry-names}
 use Rattle.outcome.specs.Rows.{results-fit, well-formed}

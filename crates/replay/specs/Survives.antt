@@ -21,7 +21,7 @@ use Rattle.crash.specs.Job.{Job, jobs}
 use Rattle.crash.specs.Rows.{jobsIn}
 use Rattle.crash.specs.Buffers.{Buffers, enough}
 use Rattle.results.specs.declared.Move.{Move}
-use Rattle.rename.specs.Plan.{planned}
+use Rattle.moves.specs.Plan.{planned}
 use Rattle.recover.specs.Job.{recovered}
 use Rattle.outcome.specs.Outcome.{finished}
 use Rattle.outcome.specs.Called.{Called}

@@ -2,9 +2,9 @@
 use mathlib.Core.Path.{refl, subst}
 use lib.ListN.{replicate}
 use Rattle.plan.specs.Form.{planBytes}
-use Rattle.recover.specs.declared.draft.Draft.{Draft}
-use Rattle.recover.specs.Recover.{draft}
-use Rattle.recover.specs.Drafts.{Drafted}
+use Rattle.drafts.specs.declared.draft.Draft.{Draft}
+use Rattle.drafts.specs.Draft.{draft}
+use Rattle.drafts.specs.Drafted.{Drafted}
 use Rattle.recover.specs.Outs.{answers-as, answers-none, unfit-none}
 use borrow.Author.Needs.{needs}
 use Rattle.recover.proofs.pending.Statement.{statement}

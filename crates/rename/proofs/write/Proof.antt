@@ -7,7 +7,7 @@ use Rattle.seq.specs.Bytes.{part}
 use Rattle.component.specs.State.{findingOf, missing-range}
 use Rattle.results.specs.InImage.{InImage}
 use Rattle.rename.specs.Order.{nameOf}
-use Rattle.rename.specs.Rows.{planned-as}
+use Rattle.moves.specs.Filled.{planned-as}
 use borrow.Author.Needs.{needs}
 use Rattle.rename.proofs.write.Statement.{statement}
 use Rattle.rename.proofs.write.Tie as tie

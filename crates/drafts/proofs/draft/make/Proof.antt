@@ -1,0 +1,67 @@
+-- `drafts::draft::make` meets its contract. Assumes nothing.
+use mathlib.Core.Path.{_≡_}
+use mathlib.Core.Bool.{true}
+use borrow.Author.Needs.{needs}
+use Rattle.seq.specs.Truth.{fails, holds}
+use Rattle.layout.specs.RecordLaws.{field-of}
+use Rattle.layout.specs.View.{journalAt}
+use Rattle.encode.specs.Journal.{journalOf, journalFormed}
+use Rattle.drafts.specs.Fit.{draft-unformed, draft-rename, draft-other}
+use Rattle.drafts.proofs.draft.make.Statement.{statement}
+use Rattle.drafts.proofs.draft.make.Tie as tie
+
+abbrev start : tie.After-formed → tie.Start
+start c = c .before .before .before .before
+
+formed : (c : tie.Else1) → journalFormed (journalAt (start (c .before) .args .h) (start (c .before) .args .s .now)) ≡ true
+formed c = holds (field-of journalFormed (c .before .before .journal .ensures) (c .before .formed .ensures)) (c .if1 .left)
+
+-- what was read is what the image's journal record says
+says : (c : tie.After-read) → c .read .result ≡ journalOf (journalAt (start (c .before .before) .args .h) (start (c .before .before) .args .s .now))
+says c = field-of journalOf (c .before .before .before .journal .ensures) (c .read .ensures .0)
+
+journal-requires : tie.Need-journal-requires
+journal-requires c κs = search needs
+
+formed-requires : tie.Need-formed-requires
+formed-requires c κs = search needs
+
+returns : tie.Need-returns
+returns c =
+    let args = start (c .before) .args in
+    let unformed = fails (field-of journalFormed (c .before .before .journal .ensures) (c .before .formed .ensures)) (c .if1 .taken) in
+    rw (draft-unformed (args .h) (args .s .now) unformed) tt
+
+read-requires : tie.Need-read-requires
+read-requires c κs = search needs
+
+draft-requires : tie.Need-draft-requires
+draft-requires c κs = search needs
+
+same-length : tie.Need-same-length
+same-length c = search needs
+
+returns-2 : tie.Need-returns-2
+returns-2 c =
+    let drafted = c .before .before in
+    let arm = drafted .before .before in
+    let args = start (arm .before .before .before) .args in
+    rw (draft-rename (args .h) (args .s .now) (formed (arm .before .before)) _ (says (arm .before)) (arm .match .keys1)) (drafted .draft .ensures)
+
+returns-3 : tie.Need-returns-3
+returns-3 c =
+    let args = start (c .before .before .before) .args in
+    rw (draft-other (args .h) (args .s .now) (formed (c .before .before)) _ (says (c .before)) (c .match .rest .1)) tt
+
+pub make-spec : {M : Type 1} → statement M
+make-spec =
+    tie.close
+    (tie.spec
+    journal-requires
+    formed-requires
+    returns
+    read-requires
+    draft-requires
+    same-length
+    returns-2
+    returns-3)

@@ -1,0 +1,38 @@
+-- `drafts::renames::decided` meets its contract. Assumes nothing.
+use mathlib.Core.Path.{sym, _∙_}
+use borrow.Author.Tests.{eq-eqb, ne-eqb}
+use borrow.Author.Needs.{needs}
+use Rattle.layout.specs.View.{viewOf}
+use Rattle.layout.specs.Fields.{entryNameLength, entryTarget}
+use Rattle.layout.specs.RecordLaws.{field-of}
+use Rattle.drafts.specs.Draft.{decided}
+use Rattle.drafts.proofs.renames.decided.Statement.{statement}
+use Rattle.drafts.proofs.renames.decided.Tie as tie
+
+entry-requires : tie.Need-entry-requires
+entry-requires c κs = search needs
+
+name-length-requires : tie.Need-name-length-requires
+name-length-requires c κs = search needs
+
+returns : tie.Need-returns
+unfolding decided viewOf
+returns c =
+    let l = field-of entryNameLength (c .before .before .entry .ensures) (c .before .name-length .ensures .0) in
+    simp (eq-eqb _ _ (sym l ∙ c .if1 .taken))
+
+target-requires : tie.Need-target-requires
+target-requires c κs = search needs
+
+returns-2 : tie.Need-returns-2
+unfolding decided viewOf
+returns-2 c =
+    let asked = c .before in
+    let entry = asked .before .before .before .entry .ensures in
+    let l = field-of entryNameLength entry (asked .before .before .name-length .ensures .0) in
+    let t = field-of entryTarget entry (asked .target .ensures .0) in
+    simp (ne-eqb _ _ (λ e. asked .before .if1 .left (l ∙ e)), t)
+
+pub decided-spec : {M : Type 1} → statement M
+decided-spec =
+    tie.close (tie.spec entry-requires name-length-requires returns target-requires returns-2)

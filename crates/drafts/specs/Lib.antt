@@ -1,0 +1,3 @@
+pub mod Draft
+pub mod Drafted
+pub mod Fit

@@ -1,0 +1,31 @@
+// The draft of a recovery: the rows that a journal record leads to, before their outcome is checked.
+use layout::Shape;
+ghost use Prim.Native.Nat.{_≤_};
+ghost use lib.ListN.{length};
+ghost use Rattle.layout.specs.ContentsLaws.{Laid};
+ghost use Rattle.plan.specs.Form.{planBytes};
+ghost use Rattle.drafts.specs.Draft.{draft};
+ghost use Rattle.drafts.specs.Drafted.{Drafted};
+
+// The record does not fit, or so many rows stand in the plan.
+pub enum Draft {
+    Unfit,
+    Rows(usize),
+}
+
+// Puts the rows into a plan of none. The kind of the operation says who makes them; a rename is of kind 0.
+pub fn make(plan: &mut [u8], s: &[u8], h: Shape) -> Draft
+    requires { ⌜ (planBytes ≤ length (now plan)) × Laid h (now s) ⌝ }
+    ensures { λ r. ⌜ Drafted h (now (plan .entry)) (draft h (now (s .entry))) r (now (plan .exit)) ⌝ }
+{
+    let r = layout::records::journal(s, h);
+    if !encode::journal::formed(r) {
+        return Draft::Unfit;
+    }
+    let j = encode::journal::read(r);
+    let kind = j.kind;
+    match kind {
+        0 => crate::renames::draft(plan, s, h, j),
+        _ => Draft::Unfit,
+    }
+}

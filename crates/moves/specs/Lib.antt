@@ -1,0 +1,4 @@
+pub mod Plan
+pub mod Texts
+pub mod Entries
+pub mod Filled

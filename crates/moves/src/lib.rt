@@ -1,0 +1,51 @@
+// The move that a rename makes: what is taken from where to where, the text that goes with what is replaced, and its rows in a plan.
+use layout::Shape;
+use layout::limits;
+use refusals::case::Case;
+use results::Move;
+ghost use mathlib.Core.Path.{_≡_};
+ghost use Rattle.layout.specs.ContentsLaws.{Laid};
+ghost use Rattle.layout.specs.View.{viewOf};
+ghost use Rattle.moves.specs.Plan.{moveWith, freedText, moveOf};
+
+pub mod rows;
+
+fn move_with(c: Case, time: u64, text: usize) -> Move
+    ensures { λ r. ⌜ r ≡ moveWith c time text ⌝ }
+{
+    Move {
+        old: c.old,
+        new: c.new,
+        moved: c.moved,
+        from: c.from,
+        into: c.into,
+        replaced: c.replaced,
+        text,
+        now: time,
+    }
+}
+
+// The text of a replaced symlink that has no entry left, or limits::ABSENT.
+fn freed_text(s: &[u8], h: Shape, c: Case, time: u64) -> usize
+    requires { ⌜ Laid h (now s) ⌝ }
+    ensures { λ r. ⌜ r ≡ freedText (viewOf h (now (s .entry))) c time ⌝ }
+{
+    let replaced = c.replaced;
+    if !layout::lookup::is_symlink(s, h, replaced) {
+        return limits::ABSENT;
+    }
+    let m = move_with(c, time, limits::ABSENT);
+    if results::recount::entries_after(s, h, m, replaced) != 0 {
+        return limits::ABSENT;
+    }
+    let r = layout::records::inode(s, h, replaced);
+    layout::inode::field(r)
+}
+
+pub fn move_of(s: &[u8], h: Shape, c: Case, time: u64) -> Move
+    requires { ⌜ Laid h (now s) ⌝ }
+    ensures { λ r. ⌜ r ≡ moveOf (viewOf h (now (s .entry))) c time ⌝ }
+{
+    let text = freed_text(s, h, c, time);
+    move_with(c, time, text)
+}
