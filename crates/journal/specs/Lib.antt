@@ -11,6 +11,8 @@ pub mod Invariant
 pub mod Finish
 pub mod Crash
 pub mod Order
+pub mod Form
+pub mod FormLaws
 pub mod Plan
 pub mod Planned
 pub mod Queue
