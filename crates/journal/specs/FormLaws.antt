@@ -4,12 +4,14 @@ use mathlib.Core.Logic.{inl, inr, ⊎-elim, _≢_}
 use mathlib.Core.Bool.{Bool, true, false}
 use mathlib.Core.List.{[], _∷_, _++_}
 use Prim.Native.Nat.{_≤_, _<_}
+use native.Mathlib.Omega.{arith}
+use lib.ListN.{length}
 use Rattle.journal.specs.Pick.{All, Any, all-map}
 use Rattle.journal.specs.Store.{Store, Rows}
 use Rattle.journal.specs.Change.{Change, plan, goal}
 use Rattle.journal.specs.Obligations.{OnTheWay, Opens, Settles, Cover, Ahead, Behind, Orderly, Obligations}
 use Rattle.journal.specs.Order.{Sorted}
-use Rattle.journal.specs.Form.{Form, storeOf, Does, Do, inForm, Carries, Follows}
+use Rattle.journal.specs.Form.{Form, storeOf, Do, inForm, Carries, Follows}
 
 -- ---- rows that do what others say
 
@@ -49,9 +51,23 @@ module _ {𝓢 : Store} (F : Form 𝓢) where
   do-join (q ∷ qs) rs [] vs d e = absurd d
   do-join (q ∷ qs) rs (u ∷ us) vs d e = (d .0, do-join qs rs us vs (d .1) e)
 
+  -- rows that do what two lists say, in two parts
+  pub do-split : (qs rs : Rows (storeOf F)) (us vs : Rows 𝓢) → length qs ≡ length us → Do F (qs ++ rs) (us ++ vs) → Do F qs us × Do F rs vs
+  do-split [] rs [] vs e d = (tt, d)
+  do-split [] rs (u ∷ us) vs e d = absurd (omega (arith, e))
+  do-split (q ∷ qs) rs [] vs e d = absurd (omega (arith, e))
+  do-split (q ∷ qs) rs (u ∷ us) vs e d = let p = do-split qs rs us vs (omega (arith, e)) (d .1) in ((d .0, p .0), p .1)
+
+  -- a change whose plan does what that of 𝓒 says, with as many rows ahead of the deciding one, is 𝓒 in rows of this form
+  pub carries-of : (𝓒 : Change 𝓢) (𝓙 : Change (storeOf F)) → inForm F 𝓒 (𝓙 .ahead) (𝓙 .decide) (𝓙 .behind) (𝓙 .recover) ≡ 𝓙
+      → length (𝓙 .ahead) ≡ length (𝓒 .ahead) → Do F (plan 𝓙) (plan 𝓒) → Carries F 𝓒 𝓙
+  carries-of 𝓒 𝓙 same n d =
+      let q = do-split (𝓙 .ahead) (𝓙 .decide ∷ 𝓙 .behind) (𝓒 .ahead) (𝓒 .decide ∷ 𝓒 .behind) n d in
+      record { same = same; ahead = q .0; decide = q .1 .0; behind = q .1 .1 }
+
 -- ---- the change with other rows
 
-module _ {𝓢 : Store} (F : Form 𝓢) (𝓒 : Change 𝓢) (𝓖 : Change (storeOf F)) (𝓓 : Carries F 𝓒 𝓖) where
+module _ {𝓢 : Store} {F : Form 𝓢} {𝓒 : Change 𝓢} {𝓖 : Change (storeOf F)} (𝓓 : Carries F 𝓒 𝓖) where
   -- 𝓖 by the images and the journal record of 𝓒
   abbrev 𝓙 : Change (storeOf F)
   𝓙 = inForm F 𝓒 (𝓖 .ahead) (𝓖 .decide) (𝓖 .behind) (𝓖 .recover)

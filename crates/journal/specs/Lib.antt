@@ -19,3 +19,4 @@ pub mod Queue
 pub mod Chain
 pub mod Place
 pub mod Example
+pub mod FormExample
