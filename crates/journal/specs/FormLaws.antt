@@ -21,8 +21,7 @@ module _ {𝓢 : Store} (F : Form 𝓢) where
       → Do F rs ws
       → All P ws
       → All Q rs
-  do-all P Q f [] [] d a = tt
-  do-all P Q f [] (w ∷ ws) d a = absurd d
+  do-all P Q f [] ws d a = tt
   do-all P Q f (r ∷ rs) [] d a = absurd d
   do-all P Q f (r ∷ rs) (w ∷ ws) d a = (f r (d .0 .takes) (subst P (sym (d .0 .row)) (a .0)), do-all P Q f rs ws (d .1) (a .1))
 
@@ -36,8 +35,7 @@ module _ {𝓢 : Store} (F : Form 𝓢) where
 
   -- they stand in the order of their groups if those said do
   pub do-sorted : (rs : Rows (storeOf F)) (ws : Rows 𝓢) → Do F rs ws → Sorted 𝓢 ws → Sorted (storeOf F) rs
-  do-sorted [] [] d a = tt
-  do-sorted [] (w ∷ ws) d a = absurd d
+  do-sorted [] ws d a = tt
   do-sorted (r ∷ rs) [] d a = absurd d
   do-sorted (r ∷ rs) (w ∷ ws) d a = (
     do-all (λ x. 𝓢 .group w ≤ 𝓢 .group x) (λ q. 𝓢 .group (F .says r) ≤ 𝓢 .group (F .says q))
