@@ -29,16 +29,16 @@ jobsFrom plan i (suc n) = record { plan = plan; number = i } ∷ jobsFrom plan (
 abbrev pub jobsIn : List ℕ → List Job
 jobsIn plan = jobsFrom plan 0 (rowCount plan)
 
-pub jobs-length : (plan : List ℕ) (i n : ℕ) → length (jobsFrom plan i n) ≡ n
-jobs-length plan i zero = refl
-jobs-length plan i (suc n) = ap suc (jobs-length plan (i + 1) n)
-
 pub jobs-append : (plan : List ℕ) (us vs : List Write) (i : ℕ)
     → jobsFrom plan i (length (us ++ vs)) ≡ jobsFrom plan i (length us) ++ jobsFrom plan (i + length us) (length vs)
 jobs-append plan [] vs i = rw add-zero
 jobs-append plan (u ∷ us) vs i =
     let e : i + suc (length us) ≡ i + 1 + length us = omega arith in
     rw e (ap (λ (js : List Job). record { plan = plan; number = i } ∷ js) (jobs-append plan us vs (i + 1)))
+
+pub jobs-length : (plan : List ℕ) (i n : ℕ) → length (jobsFrom plan i n) ≡ n
+jobs-length plan i zero = refl
+jobs-length plan i (suc n) = ap suc (jobs-length plan (i + 1) n)
 
 -- ---- the plan that an operation fills
 
