@@ -1,6 +1,5 @@
 -- Apply as the writer of that store: a row is a plan's bytes and a number. Assumes nothing.
 use mathlib.Core.Path.{_≡_, refl, sym, ap, _∙_, subst}
-use mathlib.Core.Logic.{_≢_}
 use mathlib.Core.Bool.{not}
 use mathlib.Core.List.{List}
 use Prim.Native.Nat.{ℕ, _≤_, _<_}
@@ -20,7 +19,8 @@ use Rattle.apply.specs.Apply.{applyNumber, appliedImage}
 use Rattle.apply.specs.Laws.{Applies, applies-zero, refused-same, applied-done, applied-store}
 use Rattle.journal.specs.Store.{Store}
 use Rattle.journal.specs.Pick.{All, all-map}
-use Rattle.crash.specs.Image.{Ok, Fits, same-key, recordOf, putWrite, put-is, put-ok, get-same, get-other, image-ext}
+use Rattle.journal.specs.Form.{Form, storeOf, Does}
+use Rattle.crash.specs.Image.{Ok, Fits, putWrite, put-is, images}
 use Rattle.crash.specs.Covered.{keyAt, key-covered, key-is}
 use Rattle.crash.specs.Buffers.{Buffers, enough}
 
@@ -75,43 +75,28 @@ module _ (h : Shape) (s₀ s : List ℕ) (j : Job) (o : Ok h s₀ s) (t : Takes 
   takes-puts =
       applied-done s (j .plan) (j .number) takes-applies ∙ applied-store h s (rowAt (j .plan) (j .number)) found ∙ sym (put-is h s (write h j) takes-fits)
 
-  -- ---- the laws
-
-  pub job-ok : Ok h s₀ (appliedImage s (j .plan) (j .number))
-  job-ok = subst (λ (x : List ℕ). Ok h s₀ x) (sym takes-puts) (put-ok h s₀ s (write h j) o takes-fits)
-
-  pub job-same : recordOf h (appliedImage s (j .plan) (j .number)) (write h j .key) ≡ write h j .body
-  job-same = ap (λ (x : List ℕ). recordOf h x (write h j .key)) takes-puts ∙ get-same h s₀ s (write h j) o takes-fits
-
-  pub job-other : (k : Key) → k ≢ write h j .key → recordOf h (appliedImage s (j .plan) (j .number)) k ≡ recordOf h s k
-  job-other k n = ap (λ (x : List ℕ). recordOf h x k) takes-puts ∙ get-other h s₀ s (write h j) o takes-fits k n
-
--- The same images, written by apply alone: a row is accepted where apply answers 0, and leaves the image that apply leaves.
-abbrev pub jobs : Shape → List ℕ → Store
-jobs h s₀ = record {
-  Img = List ℕ;
-  Key = Key;
-  Body = List ℕ;
+-- Rows as apply is given them, as a form of rows by record: one is accepted where apply answers 0, and leaves the image that apply leaves.
+abbrev pub jobForm : (h : Shape) (s₀ : List ℕ) → Form (images h s₀)
+jobForm h s₀ = record {
   Row = Job;
   Lent = Buffers;
+  says = write h;
+  lends = λ b. tt;
   enough = enough;
-  group = λ j. write h j .group;
-  key = λ j. write h j .key;
-  body = λ j. write h j .body;
-  get = λ s k. recordOf h s k;
   put = λ s j. appliedImage s (j .plan) (j .number);
   accepts = λ s j. eqb (applyNumber s (j .plan) (j .number)) 0;
-  Ok = Ok h s₀;
-  Fits = Takes h;
-  same = same-key;
+  Takes = Takes h;
+  fits = λ {X} {r} o t. takes-fits h s₀ X r o t;
   takes = λ {X} {r} o t. to-T (eqb (applyNumber X (r .plan) (r .number)) 0) (eq-eqb _ _ (takes-zero h s₀ X r o t));
+  puts = λ {X} {r} o t. takes-puts h s₀ X r o t;
   refuses = λ X r t. refused-same X (r .plan) (r .number)
       (eqb-false _ _ (not-true (eqb (applyNumber X (r .plan) (r .number)) 0) (of-T (not (eqb (applyNumber X (r .plan) (r .number)) 0)) t)));
-  put-ok = λ {X} {r} o t. job-ok h s₀ X r o t;
-  get-same = λ {X} {r} o t. job-same h s₀ X r o t;
-  get-other = λ {X} {r} o t k n. job-other h s₀ X r o t k n;
-  ext = λ {X} {Y} o p e. image-ext h s₀ X Y o p e;
+  suffices = λ b X t. tt;
 }
+
+-- The same images, written by apply alone.
+abbrev pub jobs : Shape → List ℕ → Store
+jobs h s₀ = storeOf (jobForm h s₀)
 
 -- so "each waiting row is accepted" says that apply answers 0 for each
 pub answers-zero : (h : Shape) (s₀ s : List ℕ) (js : List Job) → All (λ j. T (jobs h s₀ .accepts s j)) js
@@ -121,16 +106,11 @@ answers-zero h s₀ s js a =
 
 -- ---- rows that an operation wrote
 
--- Apply takes the job, which does what the row w says.
-pub record Does (h : Shape) (j : Job) (w : Write) : Type 0 where
-  pub takes : Takes h j
-  pub row : write h j ≡ w
-
--- a row that an operation wrote, and that stands in a plan, is such
-pub written-does : (h : Shape) → 1 ≤ h .width → (plan : List ℕ) (i : ℕ) (w : Write) → planBytes ≤ length plan → i < planRows → Fits h w
+-- one that stands in a plan is there a job that does what it says
+pub written-does : (h : Shape) (s₀ : List ℕ) → 1 ≤ h .width → (plan : List ℕ) (i : ℕ) (w : Write) → planBytes ≤ length plan → i < planRows → Fits h w
     → Stands plan i (rowFrom h w)
-    → Does h (record { plan = plan; number = i }) w
-written-does h some plan i w long below f stands = record {
+    → Does (jobForm h s₀) (record { plan = plan; number = i }) w
+written-does h s₀ some plan i w long below f stands = record {
   takes = record {
     long = long;
     row = applicable-is h plan i (stands-applicable h plan i _ below stands ∙ written-fits h (w .group) (w .key) (w .body) (f .writes));

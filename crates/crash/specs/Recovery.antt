@@ -11,11 +11,12 @@ use lib.ListN.{length}
 use Rattle.layout.specs.declared.Shape.{Shape}
 use Rattle.plan.specs.Form.{planRows}
 use Rattle.plan.specs.Write.{Write}
-use Rattle.journal.specs.Pick.{All}
-use Rattle.crash.specs.Image.{Ok, Fits}
+use Rattle.journal.specs.Form.{Follows}
+use Rattle.journal.specs.Plan.{lending}
+use Rattle.crash.specs.Image.{Ok, images}
 use Rattle.crash.specs.Buffers.{Buffers, enough, enough-is}
-use Rattle.crash.specs.Job.{Job}
-use Rattle.crash.specs.Rows.{jobsIn, Do, planOf, plan-does}
+use Rattle.crash.specs.Job.{Job, jobForm}
+use Rattle.crash.specs.Rows.{jobsIn, planOf, plan-does}
 
 -- The job as a crash calls it: for the buffers and the image, its number, and its plan buffer afterwards. Nobody reads its scratch.
 pub record RecoveryJob : Type 0 where
@@ -51,11 +52,15 @@ pub record Answers (h : Shape) (s₀ : List ℕ) (recover : List ℕ → Option 
   -- and with buffers that are too short it refuses
   pub refuses : (b : Buffers) (s : List ℕ) → Ok h s₀ s → T (not (enough b s)) → 𝓡 .number b s ≢ 0
 
-module _ (h : Shape) (𝓡 : RecoveryJob) (b : Buffers) (s : List ℕ) (ws : List Write) (f : Fills h 𝓡 b s ws) where
-  -- its answer is the rows of that plan
-  pub fills-answer : answered 𝓡 b s ≡ some (jobsIn (planOf h (b .plan) ws))
-  fills-answer = ap (λ (n : ℕ). answer n (𝓡 .plan b s)) (f .success) ∙ ap (λ (plan : List ℕ). some (jobsIn plan)) (f .filled)
-
-  -- which do what the rows by record say
-  pub fills-does : (s₀ : List ℕ) → Ok h s₀ s → T (enough b s) → All (Fits h) ws → Do h (jobsIn (planOf h (b .plan) ws)) ws
-  fills-does s₀ o t fits = plan-does h s (o .read) (b .plan) ws (enough-is b s t .0) (f .room) fits
+-- So it follows that recovery in jobs, as the crash theorem asks.
+pub answers-follow : (h : Shape) (s₀ : List ℕ) (recover : List ℕ → Option (List Write)) (𝓡 : RecoveryJob) → Answers h s₀ recover 𝓡
+    → Follows (jobForm h s₀) (lending (images h s₀) recover) (answered 𝓡)
+answers-follow h s₀ recover 𝓡 𝓐 = record {
+  answers = λ b s o t ws fits e.
+      let f = 𝓐 .fills b s o t ws e in (
+        jobsIn (planOf h (b .plan) ws),
+        ap (λ (n : ℕ). answer n (𝓡 .plan b s)) (f .success) ∙ ap (λ (plan : List ℕ). some (jobsIn plan)) (f .filled),
+        plan-does h s (o .read) (b .plan) ws (enough-is b s t .0) (f .room) fits s₀,
+      );
+  refuses = λ b s o t. answer-none (𝓡 .number b s) (𝓡 .plan b s) (𝓐 .refuses b s o t);
+}

@@ -21,13 +21,14 @@ use Rattle.journal.specs.Crash.{Safe, crash-safe}
 use Rattle.journal.specs.Order.{Permitted, Sorted, sorted-permitted, any-order}
 use Rattle.journal.specs.Plan.{Plan, WellFormed, Recovers, ByRow, createdOf, decideRow, writes, afterOf, change}
 use Rattle.journal.specs.Planned.{decided-record, undecided-record}
+use Rattle.journal.specs.FormLaws.{do-sorted, way-said}
 use Rattle.crash.specs.Image.{recordOf, images, puts-store}
 use Rattle.crash.specs.Buffers.{Buffers, enough}
-use Rattle.crash.specs.Job.{Job, jobs, answers-zero}
-use Rattle.crash.specs.Rows.{jobsIn, do-sorted, planOf, plan-does}
+use Rattle.crash.specs.Job.{Job, jobForm, jobs, answers-zero}
+use Rattle.crash.specs.Rows.{jobsIn, planOf}
 use Rattle.crash.specs.Recovery.{RecoveryJob, Answers, answer-zero}
 use Rattle.crash.specs.Operation.{rowsIn, planned, stateAfter}
-use Rattle.crash.specs.Owed.{rows-fit, first-waiting, orderly-jobs, way-of, obligations-jobs}
+use Rattle.crash.specs.Owed.{rows-do, first-waiting, carries, orderly-jobs, obligations-jobs}
 
 module _ (h : Shape) (s₀ : List ℕ) (p : Plan (images h s₀)) (𝓦 : WellFormed (images h s₀) p) where
   -- the image after is the one before with every record stored that the rows write
@@ -52,10 +53,9 @@ module _ (h : Shape) (s₀ : List ℕ) (p : Plan (images h s₀)) (𝓦 : WellFo
     pub planned-in-order : Sorted (images h s₀) (rowsIn h s₀ p)
         → putAll (jobs h s₀) (p .before) (jobsIn (planOf h buffer (rowsIn h s₀ p))) ≡ storeAll h (p .before) (writes (images h s₀) p)
     planned-in-order sorted =
-        let fits = rows-fit h s₀ p (λ s. none) buffer idle 𝓦 long room in
-        let does = plan-does h (p .before) (𝓦 .ok .read) buffer (rowsIn h s₀ p) long room fits in
+        let does = rows-do h s₀ p (λ s. none) buffer idle 𝓦 long room in
         let js = jobsIn (planOf h buffer (rowsIn h s₀ p)) in
-        planned-whole js (sorted-permitted (jobs h s₀) js (do-sorted h s₀ js (rowsIn h s₀ p) does sorted))
+        planned-whole js (sorted-permitted (jobs h s₀) js (do-sorted (jobForm h s₀) js (rowsIn h s₀ p) does sorted))
 
     -- ---- with crashes: what recovery does is the one thing left to supply
 
@@ -94,7 +94,7 @@ module _ (h : Shape) (s₀ : List ℕ) (p : Plan (images h s₀)) (𝓦 : WellFo
         -- the image is on the way, by rows as by jobs
         pub planned-way : (d : Bool) → decided 𝓙 (after es) ≡ d → OnTheWay (change (images h s₀) p recover) d (after es .img)
         planned-way d e =
-            way-of h s₀ p recover buffer 𝓡 𝓦 long room d (after es .img)
+            way-said (carries h s₀ p recover buffer 𝓡 𝓦 long room) d (after es .img)
             (subst (λ (d : Bool). OnTheWay 𝓙 d (after es .img)) e (planned-safe es .on-the-way))
 
         -- once decided, the deciding record is as its row writes it;

@@ -11,9 +11,12 @@ pub mod Invariant
 pub mod Finish
 pub mod Crash
 pub mod Order
+pub mod Form
+pub mod FormLaws
 pub mod Plan
 pub mod Planned
 pub mod Queue
 pub mod Chain
 pub mod Place
 pub mod Example
+pub mod FormExample

@@ -28,7 +28,7 @@ use Rattle.crash.specs.Rows.{jobsIn, planOf}
 use Rattle.crash.specs.Buffers.{Buffers, enough, enough-is, too-short}
 use Rattle.crash.specs.Recovery.{RecoveryJob, Fills, Answers}
 use Rattle.crash.specs.Operation.{rowsIn, planned, stateAfter}
-use Rattle.crash.specs.Owed.{decide-does}
+use Rattle.crash.specs.Owed.{carries}
 use Rattle.crash.specs.Safe.{planned-first, planned-owed, planned-safe, planned-zero, planned-recovers, planned-refuses, planned-decided, planned-undecided}
 use Rattle.edits.specs.Kinds.{EntryUsed}
 use Rattle.results.specs.declared.Move.{Move}
@@ -112,7 +112,7 @@ module _ {h : Shape} {s : List ℕ} {m : Move} {called : List ℕ} (c : Called h
 
   -- the deciding one is the new entry's
   pub rename-group : jobs h s .group (𝓙 .decide) ≡ entryGroup
-  rename-group = ap (λ (w : Write). w .group) (decide-does h s p (recover h) buffer recoveryJob 𝓦 long few .row)
+  rename-group = ap (λ (w : Write). w .group) (carries h s p (recover h) buffer recoveryJob 𝓦 long few .decide .row)
 
   pub rename-owed : Obligations 𝓙
   rename-owed = planned-owed h s p 𝓦 buffer long few (recover h) ρ recoveryJob 𝓐
