@@ -6,12 +6,11 @@ use native.Mathlib.Nat.{add-zero}
 use native.Mathlib.Omega.{arith}
 use lib.ListN.{length, getD, length-map}
 use Rattle.layout.specs.declared.Shape.{Shape}
-use Rattle.layout.specs.Place.{imageBytes}
 use Rattle.layout.specs.ContentsLaws.{Read}
 use Rattle.plan.specs.Form.{Row, planRows, planBytes, rowsPut, cleared, rowCount}
 use Rattle.plan.specs.Rows.{Formed, Stands}
 use Rattle.plan.specs.Many.{Each, rows-length, rows-stand, cleared-length, rows-count}
-use Rattle.plan.specs.FitLaws.{image-small, written-formed}
+use Rattle.plan.specs.FitLaws.{written-formed}
 use Rattle.plan.specs.Write.{Write, rowsFrom}
 use Rattle.journal.specs.Pick.{All}
 use Rattle.journal.specs.Form.{Do}
@@ -62,10 +61,7 @@ module _ (h : Shape) where
   module _ (s : List ℕ) (read : Read s h) where
     formed : (ws : List Write) → All (Fits h) ws → Each Formed (rowsFrom h ws)
     formed [] f = tt
-    formed (w ∷ ws) f = (written-formed h s (read .laid) small (w .group) (w .key) (w .body) (f .0 .writes), formed ws (f .1))
-      where
-        small : imageBytes h ≤ 65536
-        small = rw (read .shape) (image-small s (read .good))
+    formed (w ∷ ws) f = (written-formed h s (read .laid) (w .group) (w .key) (w .body) (f .0 .writes), formed ws (f .1))
 
     grouped : (ws : List Write) → All (Fits h) ws → Each (λ r. 1 ≤ r .group) (rowsFrom h ws)
     grouped [] f = tt

@@ -10,8 +10,7 @@ use borrow.Author.Tests.{eq-eqb, eqb-true, lt-ltb, ltb-true, le-leb, leb-true}
 use Rattle.seq.specs.Truth.{and-left, and-right, and-both}
 use Rattle.seq.specs.SearchLaws.{any-hit, any-at}
 use Rattle.layout.specs.declared.Shape.{Shape}
-use Rattle.layout.specs.Contents.{layoutGood, shapeOf}
-use Rattle.layout.specs.ContentsLaws.{Laid, good-laid}
+use Rattle.layout.specs.ContentsLaws.{Laid}
 use Rattle.layout.specs.Place.{Key, recordBytes, records, place, imageBytes}
 use Rattle.layout.specs.PlaceLaws.{Valid, inside}
 use Rattle.plan.specs.Form.{Row, planRows, bodyBytes, planBytes, bodyAt, rowGroup, rowBlank, rowLength, rowOffset, rowPosition, rowAt, rowPut, lastGroup}
@@ -121,20 +120,13 @@ unfolding applicable
 stands-applicable h plan i r below stands =
     rw (lt-ltb _ _ below, eq-eqb _ _ (stands .blank), eq-eqb _ _ (stands .position), stands .row)
 
--- the offset of a record fits two bytes
-pub image-small : (s : List ℕ) → layoutGood s ≡ true → imageBytes (shapeOf s) ≤ 65536
-unfolding shapeOf
-image-small s good =
-    let l = good-laid s good in
-    omega (arith, l .inodes-most, l .entries-most, l .texts-most, l .handles-most)
-
-module _ (h : Shape) (s : List ℕ) (laid : Laid h s) (small : imageBytes h ≤ 65536) (group : ℕ) (k : Key) (body : List ℕ) (w : Writes h group k body) where
+module _ (h : Shape) (s : List ℕ) (laid : Laid h s) (group : ℕ) (k : Key) (body : List ℕ) (w : Writes h group k body) where
   pub written-formed : Formed (rowFor h group k body)
   written-formed =
       let some = record-some h (omega (arith, laid .width-least)) (k .section) in
       let room = record-room h (laid .width-most) (k .section) in
       let ends = inside h (k .section) (k .index) (w .valid .in-image) (w .valid .in-section) in
-      record { offset-small = omega arith; body-fits = omega (arith, w .whole); whole = refl }
+      record { offset-small = omega (arith, laid .small); body-fits = omega (arith, w .whole); whole = refl }
 
   -- put into a plan, it can be applied from there
   pub written-applicable : (plan : List ℕ) (i : ℕ) → planBytes ≤ length plan → i < planRows → applicable h (rowPut plan i (rowFor h group k body)) i ≡ true

@@ -7,14 +7,14 @@ use native.Mathlib.Omega.{arith}
 use lib.ListN.{length, getD, length-map}
 use Rattle.seq.specs.BytesLaws.{put-length}
 use Rattle.layout.specs.declared.Shape.{Shape}
-use Rattle.layout.specs.Place.{Key, place, imageBytes}
+use Rattle.layout.specs.Place.{Key, place}
 use Rattle.layout.specs.ContentsLaws.{Laid, Read, good-laid}
 use Rattle.layout.specs.Record.{store}
 use Rattle.layout.specs.Commute.{store-shape, store-layout}
 use Rattle.plan.specs.Form.{Row, planRows, planBytes, rowsPut}
 use Rattle.plan.specs.Rows.{Formed, Stands}
 use Rattle.plan.specs.Many.{Each, rows-length, rows-stand}
-use Rattle.plan.specs.FitLaws.{Writes, image-small, written-formed}
+use Rattle.plan.specs.FitLaws.{Writes, written-formed}
 use Rattle.plan.specs.Write.{Write, storeAll, rowFrom, rowsFrom}
 use Rattle.plan.specs.WriteLaws.{AllWrites}
 use Rattle.apply.specs.Apply.{appliedImage}
@@ -62,10 +62,7 @@ module _ (h : Shape) where
   pub rows-formed : (x : List ℕ) → Read x h → (ws : List Write) → AllWrites h ws → Each Formed (rowsFrom h ws)
   rows-formed x read [] a = tt
   rows-formed x read (w ∷ ws) a =
-      (written-formed h x (read .laid) small (w .group) (w .key) (w .body) (a .0), rows-formed x read ws (a .1))
-    where
-      small : imageBytes h ≤ 65536
-      small = rw (read .shape) (image-small x (read .good))
+      (written-formed h x (read .laid) (w .group) (w .key) (w .body) (a .0), rows-formed x read ws (a .1))
 
   module _ (plan : List ℕ) (long : planBytes ≤ length plan) where
     -- one that stands in the plan
