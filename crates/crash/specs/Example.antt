@@ -33,7 +33,8 @@ use Rattle.journal.specs.Planned.{clear-settles, behind-all}
 use Rattle.crash.specs.Image.{Fits, isValid, recordOf, read-of, first-ok, accepted, putWrite, images}
 use Rattle.crash.specs.Buffers.{Buffers, enough, enough-is, is-enough, too-short}
 use Rattle.crash.specs.Job.{jobs}
-use Rattle.crash.specs.Rows.{jobsIn, planOf}
+use Rattle.crash.specs.Rows.{planOf}
+use Rattle.plan.specs.Jobs.{jobsIn}
 use Rattle.crash.specs.Recovery.{RecoveryJob, Answers}
 use Rattle.crash.specs.Operation.{rowsIn, planned}
 use Rattle.crash.specs.Safe.{planned-in-order, planned-owed, planned-recovers}

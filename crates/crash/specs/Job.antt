@@ -18,16 +18,13 @@ use Rattle.plan.specs.Write.{Write, rowFrom}
 use Rattle.apply.specs.Apply.{applyNumber, appliedImage}
 use Rattle.apply.specs.Laws.{Applies, applies-zero, refused-same, applied-done, applied-store}
 use Rattle.journal.specs.Store.{Store}
-use Rattle.journal.specs.Pick.{All, all-map}
+use Rattle.journal.specs.Pick.{All}
+use Rattle.journal.specs.PickLaws.{all-map}
 use Rattle.journal.specs.Form.{Form, storeOf, Does}
 use Rattle.crash.specs.Image.{Ok, Fits, putWrite, put-is, images}
 use Rattle.crash.specs.Covered.{keyAt, key-covered, key-is}
 use Rattle.crash.specs.Buffers.{Buffers, enough}
-
--- A row as apply (the papers' landing) is given it: a plan's bytes, and which of its rows.
-pub record Job : Type 0 where
-  pub plan : List ℕ
-  pub number : ℕ
+use Rattle.plan.specs.Jobs.{Job}
 
 -- what a row of a plan writes, on images of shape h
 abbrev pub writeOf : Shape → Row → Write

@@ -9,8 +9,9 @@ use Rattle.journal.specs.Change.{Change}
 use Rattle.journal.specs.Events.{EventOf, State, start, run}
 use Rattle.journal.specs.Plan.{Plan, aheadOf, decideRow, behindOf, afterOf, pendingOf}
 use Rattle.crash.specs.Image.{images}
-use Rattle.crash.specs.Job.{Job, jobs}
-use Rattle.crash.specs.Rows.{jobsFrom, planOf}
+use Rattle.crash.specs.Job.{jobs}
+use Rattle.plan.specs.Jobs.{Job, jobsFrom}
+use Rattle.crash.specs.Rows.{planOf}
 use Rattle.crash.specs.Recovery.{RecoveryJob, answered}
 
 module _ (h : Shape) (s₀ : List ℕ) (p : Plan (images h s₀)) where

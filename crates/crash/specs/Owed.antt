@@ -19,7 +19,8 @@ use Rattle.journal.specs.Form.{Do, Carries}
 use Rattle.journal.specs.FormLaws.{carries-of, orderly-in, owed-in}
 use Rattle.crash.specs.Image.{Fits, images}
 use Rattle.crash.specs.Job.{jobForm, jobs}
-use Rattle.crash.specs.Rows.{jobsIn, jobs-length, jobs-append, planOf, plan-jobs, plan-does}
+use Rattle.crash.specs.Rows.{jobs-length, jobs-append, planOf, plan-jobs, plan-does}
+use Rattle.plan.specs.Jobs.{jobsIn}
 use Rattle.crash.specs.Recovery.{RecoveryJob, Answers, answers-follow}
 use Rattle.crash.specs.Operation.{rowsIn, planned}
 

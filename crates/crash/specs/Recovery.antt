@@ -15,8 +15,9 @@ use Rattle.journal.specs.Form.{Follows}
 use Rattle.journal.specs.Plan.{lending}
 use Rattle.crash.specs.Image.{Ok, images}
 use Rattle.crash.specs.Buffers.{Buffers, enough, enough-is}
-use Rattle.crash.specs.Job.{Job, jobForm}
-use Rattle.crash.specs.Rows.{jobsIn, planOf, plan-does}
+use Rattle.crash.specs.Job.{jobForm}
+use Rattle.plan.specs.Jobs.{Job, jobsIn}
+use Rattle.crash.specs.Rows.{planOf, plan-does}
 
 -- The job as a crash calls it: for the buffers and the image, its number, and its plan buffer afterwards. Nobody reads its scratch.
 pub record RecoveryJob : Type 0 where

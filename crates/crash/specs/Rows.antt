@@ -15,18 +15,9 @@ use Rattle.plan.specs.Write.{Write, rowsFrom}
 use Rattle.journal.specs.Pick.{All}
 use Rattle.journal.specs.Form.{Do}
 use Rattle.crash.specs.Image.{Fits}
-use Rattle.crash.specs.Job.{Job, jobForm, written-does}
-
--- ---- jobs of a plan
-
--- n rows of a plan, from number i on
-abbrev pub jobsFrom : List ℕ → ℕ → ℕ → List Job
-jobsFrom plan i zero = []
-jobsFrom plan i (suc n) = record { plan = plan; number = i } ∷ jobsFrom plan (i + 1) n
-
--- all rows of a plan, as many as its bytes say (rule 83)
-abbrev pub jobsIn : List ℕ → List Job
-jobsIn plan = jobsFrom plan 0 (rowCount plan)
+use Rattle.crash.specs.Job.{jobForm, written-does}
+use Rattle.plan.specs.Jobs.{Job}
+use Rattle.plan.specs.Jobs.{jobsFrom, jobsIn}
 
 pub jobs-append : (plan : List ℕ) (us vs : List Write) (i : ℕ)
     → jobsFrom plan i (length (us ++ vs)) ≡ jobsFrom plan i (length us) ++ jobsFrom plan (i + length us) (length vs)

@@ -24,8 +24,9 @@ use Rattle.journal.specs.Planned.{decided-record, undecided-record}
 use Rattle.journal.specs.FormLaws.{do-sorted, way-said}
 use Rattle.crash.specs.Image.{recordOf, images, puts-store}
 use Rattle.crash.specs.Buffers.{Buffers, enough}
-use Rattle.crash.specs.Job.{Job, jobForm, jobs, answers-zero}
-use Rattle.crash.specs.Rows.{jobsIn, planOf}
+use Rattle.crash.specs.Job.{jobForm, jobs, answers-zero}
+use Rattle.plan.specs.Jobs.{Job, jobsIn}
+use Rattle.crash.specs.Rows.{planOf}
 use Rattle.crash.specs.Recovery.{RecoveryJob, Answers, answer-zero}
 use Rattle.crash.specs.Operation.{rowsIn, planned, stateAfter}
 use Rattle.crash.specs.Owed.{rows-do, first-waiting, carries, orderly-jobs, obligations-jobs}

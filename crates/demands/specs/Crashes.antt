@@ -9,8 +9,7 @@ use Rattle.plan.specs.Form.{rowGroup, entryGroup}
 use Rattle.apply.specs.Apply.{applyNumber, appliedImage}
 use Rattle.journal.specs.Pick.{Picked, pick, null}
 use Rattle.journal.specs.Turn.{lowest}
-use Rattle.crash.specs.Job.{Job}
-use Rattle.crash.specs.Rows.{jobsIn}
+use Rattle.plan.specs.Jobs.{Job, jobsIn}
 use Rattle.recover.specs.Job.{recovered}
 
 -- What can happen.

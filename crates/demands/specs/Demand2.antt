@@ -16,8 +16,8 @@ use Rattle.paths.specs.declared.request.Request.{Request}
 use Rattle.paths.specs.Request.{requestGood}
 use Rattle.journal.specs.Store.{putAll}
 use Rattle.journal.specs.Order.{Permitted}
-use Rattle.crash.specs.Job.{Job, jobs}
-use Rattle.crash.specs.Rows.{jobsIn}
+use Rattle.crash.specs.Job.{jobs}
+use Rattle.plan.specs.Jobs.{Job, jobsIn}
 use Rattle.plan.specs.Form.{planBytes, cleared}
 use Rattle.refusals.specs.declared.case.Answer.{Answer}
 use Rattle.refusals.specs.declared.case.Answer.the-variants.{Refused, Same, Planned}

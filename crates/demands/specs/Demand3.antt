@@ -24,8 +24,8 @@ use Rattle.journal.specs.Pick.{All, Empty, Has}
 use Rattle.journal.specs.Turn.{Turn}
 use Rattle.journal.specs.Change.{Change}
 use Rattle.journal.specs.Events as theory
-use Rattle.crash.specs.Job.{Job, jobs}
-use Rattle.crash.specs.Rows.{jobsIn}
+use Rattle.crash.specs.Job.{jobs}
+use Rattle.plan.specs.Jobs.{Job, jobsIn}
 use Rattle.crash.specs.Buffers.{Buffers, enough, is-enough}
 use Rattle.edits.specs.Kinds.{EntryUsed}
 use Rattle.results.specs.declared.Move.{Move}
@@ -35,7 +35,7 @@ use Rattle.rename.specs.Order.{walks, slotOf, inodeOf}
 use Rattle.moves.specs.Plan.{moveOf, planned as plannedBytes}
 use Rattle.rename.specs.Job.{answer, move, called, rowsOf, planOf, renamed, planAfter}
 use Rattle.recover.specs.Job.{recovered}
-use Rattle.outcome.specs.Outcome.{rename-planned}
+use Rattle.outcome.specs.RenamePlan.{rename-planned}
 use Rattle.outcome.specs.Called.{Called}
 use Rattle.replay.specs.Safe.{Kept, renameJobs, rename-first, rename-group}
 use Rattle.replay.specs.Survives.{state, Survives, rename-survives}

@@ -12,7 +12,8 @@ use Rattle.journal.specs.Pick.{All, Picked, pick}
 use Rattle.journal.specs.Turn.{lowest}
 use Rattle.journal.specs.Change.{Change}
 use Rattle.journal.specs.Finish.{Applies}
-use Rattle.crash.specs.Job.{Job, jobs}
+use Rattle.crash.specs.Job.{jobs}
+use Rattle.plan.specs.Jobs.{Job}
 use Rattle.crash.specs.Buffers.{Buffers}
 use Rattle.crash.specs.Recovery.{answer}
 use Rattle.recover.specs.Job.{recovered}

@@ -6,7 +6,8 @@ use mathlib.Core.Option.{Option, none, some}
 use Prim.Native.Nat.{ℕ, suc, _+_, _≤_}
 use native.Mathlib.Omega.{arith}
 use lib.Dec.{T}
-use Rattle.journal.specs.Pick.{All, Empty, empty-null, Picked, pick}
+use Rattle.journal.specs.Pick.{All, Empty, Picked, pick}
+use Rattle.journal.specs.PickLaws.{empty-null}
 use Rattle.journal.specs.Turn.{lowest}
 use Rattle.journal.specs.Store.{Store, Rows}
 use Rattle.journal.specs.Change.{RecoverOf, Change, goal}

@@ -5,8 +5,10 @@ use mathlib.Core.Bool.{not}
 use mathlib.Core.List.{List}
 use mathlib.Core.Option.{none, some}
 use lib.Dec.{T}
-use Rattle.journal.specs.Pick.{All, Has, Empty, all-map}
-use Rattle.journal.specs.Turn.{Turn, has-turn}
+use Rattle.journal.specs.Pick.{All, Has, Empty}
+use Rattle.journal.specs.PickLaws.{all-map}
+use Rattle.journal.specs.Turn.{Turn}
+use Rattle.journal.specs.TurnLaws.{has-turn}
 use Rattle.journal.specs.Store.{Store, Rows}
 use Rattle.journal.specs.Change.{Change, goal}
 use Rattle.journal.specs.Events.{EventOf, crash, St, decided, start, step, run}

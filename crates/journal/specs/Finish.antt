@@ -8,8 +8,10 @@ use Prim.Native.Nat.{ℕ, zero, suc, _≤_}
 use native.Mathlib.Omega.{arith}
 use lib.Dec.{T}
 use lib.ListN.{length}
-use Rattle.journal.specs.Pick.{All, null, empty-null, Pick, here, there, Picked, pick}
-use Rattle.journal.specs.Turn.{lowest, has-turn}
+use Rattle.journal.specs.Pick.{All, null, Pick, here, there, Picked, pick}
+use Rattle.journal.specs.PickLaws.{empty-null}
+use Rattle.journal.specs.Turn.{lowest}
+use Rattle.journal.specs.TurnLaws.{has-turn}
 use Rattle.journal.specs.Store.{Store, Rows}
 use Rattle.journal.specs.Change.{Change}
 use Rattle.journal.specs.Events.{Event, EventOf, apply, stray, crash, recovering, St, decided, turned, turn, step, run}

@@ -6,7 +6,8 @@ use mathlib.Core.List.{[], _∷_, _++_}
 use Prim.Native.Nat.{_≤_, _<_}
 use native.Mathlib.Omega.{arith}
 use lib.ListN.{length}
-use Rattle.journal.specs.Pick.{All, Any, all-map}
+use Rattle.journal.specs.Pick.{All, Any}
+use Rattle.journal.specs.PickLaws.{all-map}
 use Rattle.journal.specs.Store.{Store, Rows}
 use Rattle.journal.specs.Change.{Change, plan, goal}
 use Rattle.journal.specs.Obligations.{OnTheWay, Opens, Settles, Cover, Ahead, Behind, Orderly, Obligations}

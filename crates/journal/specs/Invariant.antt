@@ -7,8 +7,10 @@ use mathlib.Core.Option.{Option, none, some}
 use Prim.Native.Nat.{_≤_, _<_}
 use native.Mathlib.Omega.{arith}
 use lib.Dec.{T, eqb→eq, eqb-refl}
-use Rattle.journal.specs.Pick.{All, Has, Empty, Pick, Picked, pick, Part, ahead, middle, behind, part-pick, all-pick, all-map, all-has, all-join}
-use Rattle.journal.specs.Turn.{lowest, Low, lowest-low}
+use Rattle.journal.specs.Pick.{All, Has, Empty, Pick, Picked, pick, Part, ahead, middle, behind}
+use Rattle.journal.specs.PickLaws.{part-pick, all-pick, all-map, all-has, all-join}
+use Rattle.journal.specs.Turn.{lowest, Low}
+use Rattle.journal.specs.TurnLaws.{lowest-low}
 use Rattle.journal.specs.Store.{Store, Rows}
 use Rattle.journal.specs.Change.{Change, goal}
 use Rattle.journal.specs.Events.{EventOf, apply, stray, crash, Phase, own, recovering, stopped, logged, finished, through, St, deciding, decides, decided, start, took, turned, turn, tried, answered, step, run}

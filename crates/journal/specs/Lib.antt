@@ -1,6 +1,8 @@
 -- The laws, each file below those that it uses.
 pub mod Pick
+pub mod PickLaws
 pub mod Turn
+pub mod TurnLaws
 pub mod Store
 pub mod Change
 pub mod Events

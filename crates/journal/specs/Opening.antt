@@ -5,7 +5,8 @@ use mathlib.Core.Bool.{true, false}
 use mathlib.Core.List.{[], _∷_, _++_}
 use Prim.Native.Nat.{_≤_, _<_}
 use native.Mathlib.Omega.{arith}
-use Rattle.journal.specs.Pick.{All, Pick, all-pick, any-pick, all-left, all-map, all-zip, all-any, any-split}
+use Rattle.journal.specs.Pick.{All, Pick}
+use Rattle.journal.specs.PickLaws.{all-pick, any-pick, all-left, all-map, all-zip, all-any, any-split}
 use Rattle.journal.specs.Turn.{Low}
 use Rattle.journal.specs.Store.{Store, Rows, Covers, after-put}
 use Rattle.journal.specs.Change.{Change}

@@ -4,7 +4,8 @@ use mathlib.Core.Bool.{false}
 use mathlib.Core.List.{[], _∷_}
 use lib.Dec.{T}
 use Rattle.journal.specs.Pick.{Pick, here}
-use Rattle.journal.specs.Turn.{lowest, Low, lowest-low, low-lowest}
+use Rattle.journal.specs.Turn.{lowest, Low}
+use Rattle.journal.specs.TurnLaws.{lowest-low, low-lowest}
 use Rattle.journal.specs.Store.{Store, Rows, putAll}
 use Rattle.journal.specs.Change.{Change, plan}
 use Rattle.journal.specs.Events.{own, St}

@@ -7,7 +7,8 @@ use mathlib.Core.Option.{Option, none, some}
 use Prim.Native.Nat.{ℕ, zero, suc, _<_}
 use native.Mathlib.Omega.{arith}
 use lib.Dec.{T, eqb, ltb, leb, eqb→eq, ltb→lt, nltb→le, leb→le, lt→ltb, le→leb, not-T}
-use Rattle.journal.specs.Pick.{All, Has, Empty, empty-null, Pick, here, there, Picked, pick, further, all-has, all-join}
+use Rattle.journal.specs.Pick.{All, Has, Empty, Pick, here, there, Picked, pick, further}
+use Rattle.journal.specs.PickLaws.{empty-null, all-has, all-join}
 use Rattle.journal.specs.Turn.{lowest}
 use Rattle.journal.specs.Store.{Store, Rows}
 use Rattle.journal.specs.Change.{RecoverOf, Change, plan}

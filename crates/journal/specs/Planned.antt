@@ -7,7 +7,8 @@ use mathlib.Core.Option.{Option, none, some}
 use Prim.Native.Nat.{_<_}
 use native.Mathlib.Omega.{arith}
 use lib.Dec.{T}
-use Rattle.journal.specs.Pick.{All, Any, Has, all-map, any-map, all-zip, all-has, has-all, all-right, all-join, any-left, any-right, any-split}
+use Rattle.journal.specs.Pick.{All, Any, Has}
+use Rattle.journal.specs.PickLaws.{all-map, any-map, all-zip, all-has, has-all, all-right, all-join, any-left, any-right, any-split}
 use Rattle.journal.specs.Store.{Store, Rows, Covers, Spares, Distinct, putAll, covers?, spares-not, all-ok, all-other, all-same}
 use Rattle.journal.specs.Change.{Change, goal}
 use Rattle.journal.specs.Obligations.{OnTheWay, MayMark, Opens, Settles, Cover, Ahead, Behind, Recovery, Orderly, Obligations}

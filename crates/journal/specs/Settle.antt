@@ -6,7 +6,8 @@ use mathlib.Core.List.{[], _∷_}
 use Prim.Native.Nat.{_≤_, _<_}
 use native.Mathlib.Omega.{arith}
 use lib.Dec.{T}
-use Rattle.journal.specs.Pick.{All, Empty, Pick, here, pick-full, all-pick, any-pick, all-zip, all-any}
+use Rattle.journal.specs.Pick.{All, Empty, Pick, here}
+use Rattle.journal.specs.PickLaws.{pick-full, all-pick, any-pick, all-zip, all-any}
 use Rattle.journal.specs.Turn.{Low}
 use Rattle.journal.specs.Store.{Store, Rows, Covers, putAll, after-put}
 use Rattle.journal.specs.Change.{Change, goal}

@@ -8,19 +8,22 @@ use lib.ListN.{length, length-append}
 use Rattle.layout.specs.declared.Shape.{Shape}
 use Rattle.plan.specs.Form.{planRows, planBytes, rowCount, resultGroup}
 use Rattle.plan.specs.Write.{Write}
-use Rattle.journal.specs.Pick.{All, all-join, all-map}
+use Rattle.journal.specs.Pick.{All}
+use Rattle.journal.specs.PickLaws.{all-join, all-map}
 use Rattle.journal.specs.Store.{putAll}
 use Rattle.journal.specs.Order.{Permitted, Sorted}
 use Rattle.crash.specs.Image.{Fits, images}
-use Rattle.crash.specs.Job.{Job, jobs}
-use Rattle.crash.specs.Rows.{jobsIn, plan-count}
+use Rattle.crash.specs.Job.{jobs}
+use Rattle.plan.specs.Jobs.{Job, jobsIn}
+use Rattle.crash.specs.Rows.{plan-count}
 use Rattle.crash.specs.Operation.{rowsIn}
 use Rattle.crash.specs.Safe.{planned-whole, planned-in-order}
 use Rattle.results.specs.declared.Move.{Move}
 use Rattle.results.specs.Results.{results, clearRow}
 use Rattle.results.specs.Rows.{results-le}
 use Rattle.moves.specs.Plan.{renameRows, planned}
-use Rattle.outcome.specs.Outcome.{renamePlan, finished, rename-rows, rename-planned}
+use Rattle.outcome.specs.Outcome.{finished}
+use Rattle.outcome.specs.RenamePlan.{renamePlan, rename-rows, rename-planned}
 use Rattle.outcome.specs.Called.{Called}
 use Rattle.outcome.specs.Rows.{results-all, results-fit, well-formed}
 

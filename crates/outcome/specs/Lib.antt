@@ -1,4 +1,5 @@
 pub mod Outcome
+pub mod RenamePlan
 pub mod Called
 pub mod Rows
 pub mod Finished

@@ -17,7 +17,8 @@ use Rattle.layout.specs.Limits.{absent}
 use Rattle.edits.specs.Finished.{slots-differ, moved-not-from, moved-not-into}
 use Rattle.plan.specs.Write.{Write, inodeKey, entryKey, textKey}
 use Rattle.plan.specs.WriteLaws.{AllWrites, other-section, other-index}
-use Rattle.journal.specs.Pick.{All, all-join}
+use Rattle.journal.specs.Pick.{All}
+use Rattle.journal.specs.PickLaws.{all-join}
 use Rattle.journal.specs.Store.{Distinct, Spares}
 use Rattle.journal.specs.Plan.{WellFormed}
 use Rattle.crash.specs.Image.{Fits, first-ok, images}
@@ -27,7 +28,7 @@ use Rattle.plan.specs.Form.{clearGroup, entryGroup}
 use Rattle.results.specs.Links.{links-le}
 use Rattle.results.specs.Owed.{results-write, clear-writes}
 use Rattle.moves.specs.Plan.{journalFor, journalRow, entryRow}
-use Rattle.outcome.specs.Outcome.{renamePlan}
+use Rattle.outcome.specs.RenamePlan.{renamePlan}
 use Rattle.outcome.specs.Called.{Called, before-good, in-image, replaced-not-moved, replaced-not-from, replaced-not-into, entry-names, journal-zeros}
 
 -- rows that an operation may write fit

@@ -1,4 +1,5 @@
 pub mod Form
+pub mod Jobs
 pub mod Rows
 pub mod Many
 pub mod Unused

@@ -25,7 +25,8 @@ use Rattle.edits.specs.Tests.{is-kind}
 use Rattle.edits.specs.Finished.{slots-differ, from-directory, moved-below-root, moved-not-from, moved-not-into}
 use Rattle.plan.specs.Write.{Write, entryKey, journalKey, storeAll}
 use Rattle.plan.specs.WriteLaws.{other-section}
-use Rattle.journal.specs.Pick.{All, all-join}
+use Rattle.journal.specs.Pick.{All}
+use Rattle.journal.specs.PickLaws.{all-join}
 use Rattle.journal.specs.Store.{putAll}
 use Rattle.journal.specs.Change.{Change}
 use Rattle.journal.specs.Obligations.{OnTheWay}
@@ -38,7 +39,8 @@ use Rattle.moves.specs.Plan.{journalFor, newEntry}
 use Rattle.drafts.specs.Draft.{belowOrAbsent, renameFits, moveFrom, decided, intoGood, undoing, finishing, moveDraft, renameDraft, kindDraft, draft}
 use Rattle.recover.specs.Recover.{ifConsistent, pendingRows, recover}
 use Rattle.drafts.specs.Fit.{move-undone, move-finished}
-use Rattle.outcome.specs.Outcome.{renamePlan, finished}
+use Rattle.outcome.specs.Outcome.{finished}
+use Rattle.outcome.specs.RenamePlan.{renamePlan}
 use Rattle.outcome.specs.Called.{Called, before-good, in-image, replaced-not-moved, replaced-not-from, replaced-not-into, entry-names}
 use Rattle.outcome.specs.Rows.{results-fit, well-formed}
 use Rattle.outcome.specs.Finished.{finished-after, from-written, into-written}

@@ -23,8 +23,9 @@ use Rattle.journal.specs.Obligations.{Obligations}
 use Rattle.journal.specs.Crash.{Safe}
 use Rattle.journal.specs.Plan.{Plan, WellFormed, Recovers}
 use Rattle.crash.specs.Image.{Ok, recordOf, record-is, images}
-use Rattle.crash.specs.Job.{Job, jobs}
-use Rattle.crash.specs.Rows.{jobsIn, planOf}
+use Rattle.crash.specs.Job.{jobs}
+use Rattle.plan.specs.Jobs.{Job, jobsIn}
+use Rattle.crash.specs.Rows.{planOf}
 use Rattle.crash.specs.Buffers.{Buffers, enough, enough-is, too-short}
 use Rattle.crash.specs.Recovery.{RecoveryJob, Fills, Answers}
 use Rattle.crash.specs.Operation.{rowsIn, planned, stateAfter}
@@ -38,7 +39,8 @@ use Rattle.recover.specs.Job.{Recovered, recovered}
 use Rattle.recover.specs.JobLaws.{recovered-short, recovered-done}
 use Rattle.layout.specs.Errno.{shortBuffer}
 use Rattle.recover.specs.Bounds.{recover-few}
-use Rattle.outcome.specs.Outcome.{renamePlan, finished, rename-planned}
+use Rattle.outcome.specs.Outcome.{finished}
+use Rattle.outcome.specs.RenamePlan.{renamePlan, rename-planned}
 use Rattle.outcome.specs.Called.{Called, in-image, entry-names}
 use Rattle.outcome.specs.Rows.{well-formed}
 use Rattle.outcome.specs.Finished.{finished-after}

@@ -17,8 +17,8 @@ use Rattle.journal.specs.Turn.{Turn}
 use Rattle.journal.specs.Change.{Change, plan, goal}
 use Rattle.journal.specs.Events.{EventOf, crash, State, step, decided}
 use Rattle.journal.specs.Finish.{Finishes}
-use Rattle.crash.specs.Job.{Job, jobs}
-use Rattle.crash.specs.Rows.{jobsIn}
+use Rattle.crash.specs.Job.{jobs}
+use Rattle.plan.specs.Jobs.{Job, jobsIn}
 use Rattle.crash.specs.Buffers.{Buffers, enough}
 use Rattle.results.specs.declared.Move.{Move}
 use Rattle.moves.specs.Plan.{planned}
