@@ -93,8 +93,8 @@ run x [] = x
 run x (e ∷ es) = run (step x e) es
 
 -- rule 112: at first the rows of the rename's plan wait, on the image that it was planned on
-abbrev pub first : List ℕ → List ℕ → State
-first s plan = record { image = s; waiting = jobsIn plan; whose = rename; applied = []; done = false }
+abbrev pub begun : List ℕ → List ℕ → State
+begun s plan = record { image = s; waiting = jobsIn plan; whose = rename; applied = []; done = false }
 
 abbrev pub hasEntry : List Job → Bool
 hasEntry [] = false
@@ -102,3 +102,8 @@ hasEntry (r ∷ rs) = eqb (groupOf r) entryGroup || hasEntry rs
 
 abbrev pub entryApplied : State → Bool
 entryApplied x = hasEntry (x .applied)
+
+-- all rows of a list applied by the job land, one after another
+abbrev pub appliedAll : List ℕ → List Job → List ℕ
+appliedAll s [] = s
+appliedAll s (r ∷ rs) = appliedAll (appliedImage s (r .plan) (r .number)) rs

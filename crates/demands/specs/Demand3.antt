@@ -1,48 +1,25 @@
--- Demand 3: a rename survives every list of applied rows, refusals, crashes and recoveries. One claim over the whole list, on bytes. A reader has to believe the
--- statements of this file. Assumes nothing.
-use mathlib.Core.Path.{_≡_, refl, sym, ap, _∙_, subst}
-use mathlib.Core.Logic.{_⊎_, _↔_, inl, inr, ⊎-elim}
+-- Demand 3: a rename survives every list of applied rows, refusals, crashes and recoveries. One claim over the whole list, on bytes. A reader has to believe this file. Assumes nothing.
+use mathlib.Core.Path.{_≡_}
+use mathlib.Core.Logic.{_⊎_, _↔_}
 use mathlib.Core.Bool.{Bool, true, false}
-use mathlib.Core.List.{List, [], map}
+use mathlib.Core.List.{List, map}
 use Prim.Native.Nat.{ℕ, _≤_, _<_}
-use native.Mathlib.Omega.{arith}
-use lib.Dec.{T}
 use lib.ListN.{length}
-use borrow.Author.Tests.{eqb-false, not-true}
-use Rattle.seq.specs.Truth.{to-T, of-T}
 use Rattle.seq.specs.Number.{span}
-use Rattle.layout.specs.declared.Shape.{Shape}
 use Rattle.layout.specs.Contents.{shapeOf}
-use Rattle.layout.specs.View.{View, viewOf}
+use Rattle.layout.specs.View.{View, viewOf, entryUsed}
 use Rattle.consistency.specs.Consistent.{checkNumber}
 use Rattle.paths.specs.declared.request.Request.{Request}
 use Rattle.component.specs.Step.{existing}
-use Rattle.walk.specs.Ends.{Existing}
-use Rattle.plan.specs.Form.{planBytes, rowAt}
+use Rattle.plan.specs.Form.{planBytes}
 use Rattle.apply.specs.Apply.{applyNumber}
 use Rattle.journal.specs.Pick.{All, Empty, Has}
 use Rattle.journal.specs.Turn.{Turn}
-use Rattle.journal.specs.Change.{Change}
-use Rattle.journal.specs.Events as theory
-use Rattle.crash.specs.Job.{jobs}
-use Rattle.plan.specs.Jobs.{Job, jobsIn}
-use Rattle.crash.specs.Buffers.{Buffers, enough, is-enough}
-use Rattle.edits.specs.Kinds.{EntryUsed}
-use Rattle.results.specs.declared.Move.{Move}
-use Rattle.refusals.specs.declared.case.Answer.{Answer}
-use Rattle.refusals.specs.declared.case.Answer.the-variants.{Refused, Same, Planned}
-use Rattle.rename.specs.Order.{walks, slotOf, inodeOf}
-use Rattle.moves.specs.Plan.{moveOf, planned as plannedBytes}
-use Rattle.rename.specs.Job.{answer, move, called, rowsOf, planOf, renamed, planAfter}
+use Rattle.rename.specs.Order.{walks, inodeOf}
+use Rattle.rename.specs.Job.{renamed}
 use Rattle.recover.specs.Job.{recovered}
-use Rattle.outcome.specs.RenamePlan.{rename-planned}
-use Rattle.outcome.specs.Called.{Called}
-use Rattle.replay.specs.Safe.{Kept, renameJobs, rename-first, rename-group}
-use Rattle.replay.specs.Survives.{state, Survives, rename-survives}
-use Rattle.demands.specs.Called.{planned-long, planned-new, planned-called}
-use Rattle.demands.specs.Demand2.{finishedImage}
-use Rattle.demands.specs.Crashes.{Event, apply, crash, State, groupOf, step, run, first, entryApplied}
-use Rattle.demands.specs.Retold.{stateOf, eventOf, same-step, same-run, same-decision, places}
+use Rattle.demands.specs.Demand2.{finishedImage, thePlan, after}
+use Rattle.demands.specs.Crashes.{Event, apply, crash, groupOf, step, run, entryApplied}
 
 -- What is given: a consistent image (check answers 0 on it), and a rename on it that answered 0 with rows. A time fits its eight bytes.
 pub record Renamed (s plan : List ℕ) (q : Request) (old new : List ℕ) : Type 0 where
@@ -52,14 +29,6 @@ pub record Renamed (s plan : List ℕ) (q : Request) (old new : List ℕ) : Type
   pub time : q .now < span 8
 
 module _ (s plan : List ℕ) (q : Request) (old new : List ℕ) where
-  -- the plan as the rename left it
-  abbrev pub planned : List ℕ
-  planned = planAfter s plan q old new
-
-  -- where things stand after a list of events
-  abbrev pub after : List Event → State
-  after es = run (first s planned) es
-
   -- the inode that old's walk found (the papers' S)
   abbrev pub moved : ℕ
   moved = inodeOf (walks s plan q old new .old .found)
@@ -69,184 +38,29 @@ module _ (s plan : List ℕ) (q : Request) (old new : List ℕ) where
   before = viewOf (shapeOf s) s
 
   abbrev pub now : List Event → View
-  now es = viewOf (shapeOf s) (after es .image)
+  now es = viewOf (shapeOf s) (after s plan q old new es .image)
 
   -- What holds after a list of events.
   pub record Demand3 (es : List Event) : Type 0 where
     -- a recovery with buffers that are long enough answers 0
-    pub recovery-answers : (p c : List ℕ) → planBytes ≤ length p → length (after es .image) ≤ length c → recovered p c (after es .image) .number ≡ 0
+    pub recovery-answers : (p c : List ℕ) → planBytes ≤ length p → length (after s plan q old new es .image) ≤ length c → recovered p c (after s plan q old new es .image) .number ≡ 0
     -- each waiting row is taken: the job land answers 0 for it
-    pub apply-takes : All (λ r. applyNumber (after es .image) (r .plan) (r .number) ≡ 0) (after es .waiting)
+    pub apply-takes : All (λ r. applyNumber (after s plan q old new es .image) (r .plan) (r .number) ≡ 0) (after s plan q old new es .waiting)
     -- and while any waits, the turn of one has come
-    pub apply-goes : Empty (after es .waiting) ⊎ Turn groupOf (after es .waiting)
+    pub apply-goes : Empty (after s plan q old new es .waiting) ⊎ Turn groupOf (after s plan q old new es .waiting)
     -- once a recovery has answered 0 and its rows have all been applied: the image before, if the new entry was not applied in the list,
-    pub taken-back : after es .done ≡ true → entryApplied (after es) ≡ false → after es .image ≡ s
+    pub taken-back : after s plan q old new es .done ≡ true → entryApplied (after s plan q old new es) ≡ false → after s plan q old new es .image ≡ s
     -- and the finished one, if it was
-    pub finished : after es .done ≡ true → entryApplied (after es) ≡ true → after es .image ≡ finishedImage s plan q old new
+    pub finished : after s plan q old new es .done ≡ true → entryApplied (after s plan q old new es) ≡ true → after s plan q old new es .image ≡ finishedImage s plan q old new
     -- either is consistent
-    pub sound-again : after es .done ≡ true → checkNumber (after es .image) ≡ 0
+    pub sound-again : after s plan q old new es .done ≡ true → checkNumber (after s plan q old new es .image) ≡ 0
     -- the new entry was applied exactly if row 1 of the rename's plan was: no other of its rows is of group 2
-    pub entry-is : (entryApplied (after es) ≡ true) ↔ Has (after es .applied) (record { plan = planned; number = 1 })
+    pub entry-is : (entryApplied (after s plan q old new es) ≡ true) ↔ Has (after s plan q old new es .applied) (record { plan = thePlan s plan q old new; number = 1 })
     -- the moved inode has a name
-    pub moved-named : (j : ℕ) × EntryUsed (now es) j × (now es .target j ≡ moved)
+    pub moved-named : (j : ℕ) × (j < now es .entries) × (entryUsed (now es) j ≡ true) × (now es .target j ≡ moved)
     -- where new's walk found an entry, in slot n and for inode t, that slot keeps parent and name, and names t or the moved inode
     pub new-names : (d n t : ℕ) (slash : Bool) → walks s plan q old new .new .found ≡ existing d n t slash
         → (now es .parent n ≡ before .parent n) × (now es .name n ≡ before .name n) × ((now es .target n ≡ t) ⊎ (now es .target n ≡ moved))
     -- a crash, a recovery with buffers that are long enough, and then some rows applied, end with a recovery done
-    pub can-finish : (p c : List ℕ) → planBytes ≤ length p → length (after es .image) ≤ length c
-        → (is : List ℕ) × (run (step (after es) (crash p c)) (map apply is) .done ≡ true)
-
--- rows are planned only where the answer is so
-planned-answer : (s plan : List ℕ) (q : Request) (old new : List ℕ) → 1 ≤ renamed s plan q old new .rows → answer s plan q old new ≡ Planned
-unfolding renamed
-planned-answer s plan q old new rows = go (answer s plan q old new) refl rows
-  where
-    go : (a : Answer) → answer s plan q old new ≡ a → 1 ≤ rowsOf s plan q old new a → answer s plan q old new ≡ Planned
-    go (Refused n) e l = absurd (omega arith)
-    go Same e l = absurd (omega arith)
-    go Planned e l = e
-
-module _ {s plan : List ℕ} {q : Request} {old new : List ℕ} (given : Renamed s plan q old new) where
-  abbrev h : Shape
-  h = shapeOf s
-
-  abbrev m : Move
-  m = move s plan q old new
-
-  abbrev name : List ℕ
-  name = called s plan q old new
-
-  is-planned : answer s plan q old new ≡ Planned
-  is-planned = planned-answer s plan q old new (given .rows)
-
-  abbrev c : Called h s m name
-  c = planned-called s plan q old new is-planned (given .time)
-
-  abbrev long : planBytes ≤ length plan
-  long = planned-long s plan q old new is-planned
-
-  abbrev 𝓒 : Change (jobs h s)
-  𝓒 = renameJobs h s m name plan
-
-  -- ---- the events are those of the crash theorem
-
-  bytes : planned s plan q old new ≡ plannedBytes h s m name plan
-  unfolding planAfter
-  bytes = ap (λ (a : Answer). planOf s plan q old new a) is-planned
-
-  waits : jobsIn (planned s plan q old new) ≡ theory.start 𝓒 .waiting
-  waits = ap jobsIn bytes ∙ sym (rename-first c plan long)
-
-  same-first : stateOf (first s (planned s plan q old new)) ≡ theory.start 𝓒
-  same-first = λ i. record { img = s; waiting = waits i; phase = theory.own; applied = []; done = false }
-
-  module _ (es : List Event) where
-    abbrev x : State
-    x = after s plan q old new es
-
-    -- as the theorem sees it
-    abbrev y : theory.State (List ℕ) Job
-    y = state h s m name plan (map eventOf es)
-
-    same : stateOf x ≡ y
-    same = same-run h s m name plan (first s (planned s plan q old new)) es ∙ ap (λ (z : theory.State (List ℕ) Job). theory.run 𝓒 z (map eventOf es)) same-first
-
-    survives : Survives h s m name plan (map eventOf es)
-    survives = rename-survives c plan long (map eventOf es)
-
-    image-same : x .image ≡ y .img
-    image-same = ap (λ (z : theory.State (List ℕ) Job). z .img) same
-
-    done-same : x .done ≡ true → T (y .done)
-    done-same d = to-T _ (sym (ap (λ (z : theory.State (List ℕ) Job). z .done) same) ∙ d)
-
-    decision-same : theory.decided 𝓒 y ≡ entryApplied x
-    decision-same = ap (λ (z : theory.State (List ℕ) Job). theory.decided 𝓒 z) (sym same) ∙ same-decision h s m name plan (rename-group c plan long) (x .applied)
-
-    -- ---- buffers
-
-    module _ (p t : List ℕ) (l : planBytes ≤ length p) (r : length (x .image) ≤ length t) where
-      abbrev lent : Buffers
-      lent = record { plan = p; scratch = t }
-
-      suffices : T (enough lent (y .img))
-      suffices = subst (λ (z : List ℕ). T (enough lent z)) image-same (is-enough lent (x .image) l r)
-
-      answers : recovered p t (x .image) .number ≡ 0
-      answers = ap (λ (z : List ℕ). recovered p t z .number) image-same ∙ survives .recovers lent suffices
-
-      crashed : stateOf (step x (crash p t)) ≡ theory.step 𝓒 y (theory.crash lent)
-      crashed = same-step h s m name plan x (crash p t) ∙ ap (λ (z : theory.State (List ℕ) Job). theory.step 𝓒 z (theory.crash lent)) same
-
-      finishes : (is : List ℕ) × (run (step x (crash p t)) (map apply is) .done ≡ true)
-      finishes =
-          let (fs, a, d) = survives .can-finish lent suffices in
-          let (is, e) = places h s m name plan fs a in
-          let same-end : stateOf (run (step x (crash p t)) (map apply is)) ≡ theory.run 𝓒 (theory.step 𝓒 y (theory.crash lent)) fs =
-          same-run h s m name plan (step x (crash p t)) (map apply is)
-          ∙ ap (λ (z : theory.State (List ℕ) Job). theory.run 𝓒 z (map eventOf (map apply is))) crashed
-          ∙ ap (λ (gs : List (theory.EventOf (jobs h s))). theory.run 𝓒 (theory.step 𝓒 y (theory.crash lent)) gs) e in
-          (is, ap (λ (z : theory.State (List ℕ) Job). z .done) same-end ∙ of-T _ d)
-
-    -- ---- rows
-
-    turns : Empty (x .waiting) ⊎ Turn groupOf (x .waiting)
-    unfolding rowAt
-    turns = subst (λ (z : theory.State (List ℕ) Job). Empty (z .waiting) ⊎ Turn (jobs h s .group) (z .waiting)) (sym same) (survives .turn)
-
-    decides-by : 𝓒 .decide ≡ record { plan = planned s plan q old new; number = 1 }
-    decides-by = λ i. record { plan = (rename-planned h s m name plan ∙ sym bytes) i; number = 1 }
-
-    entry : (entryApplied x ≡ true) ↔ Has (x .applied) (record { plan = planned s plan q old new; number = 1 })
-    entry =
-        let by : T (theory.decided 𝓒 y) ↔ Has (x .applied) (𝓒 .decide) =
-        subst (λ (z : theory.State (List ℕ) Job). T (theory.decided 𝓒 y) ↔ Has (z .applied) (𝓒 .decide)) (sym same) (survives .entry) in (
-          λ e. subst (Has (x .applied)) decides-by (by .0 (to-T _ (decision-same ∙ e))),
-          λ k. sym decision-same ∙ of-T _ (by .1 (subst (Has (x .applied)) (sym decides-by) k)),
-        )
-
-    -- ---- names
-
-    kept : Kept h s (x .image) m
-    kept = subst (λ (z : List ℕ). Kept h s z m) (sym image-same) (survives .names)
-
-    named : (j : ℕ) × EntryUsed (now s plan q old new es) j × (now s plan q old new es .target j ≡ moved s plan q old new)
-    unfolding moveOf
-    named = kept .name
-
-    module _ (d n t : ℕ) (slash : Bool) (e : walks s plan q old new .new .found ≡ existing d n t slash) where
-      slot : m .new ≡ n
-      unfolding moveOf
-      slot = ap (slotOf (before s plan q old new)) e
-
-      found : Existing (before s plan q old new) d n t slash
-      found = planned-new s plan q old new is-planned d n t slash e
-
-      in-use : EntryUsed (before s plan q old new) (m .new)
-      in-use = subst (EntryUsed (before s plan q old new)) (sym slot) (found .below, eqb-false _ _ (not-true _ (found .used)))
-
-      slot-kept : (now s plan q old new es .parent n ≡ before s plan q old new .parent n) × (now s plan q old new es .name n ≡ before s plan q old new .name n)
-          × ((now s plan q old new es .target n ≡ t) ⊎ (now s plan q old new es .target n ≡ moved s plan q old new))
-      unfolding moveOf
-      slot-kept =
-          let at : (P : ℕ → Type 0) → P (m .new) → P n = λ P k. subst P slot k in (
-            at (λ j. now s plan q old new es .parent j ≡ before s plan q old new .parent j) (kept .parent in-use),
-            at (λ j. now s plan q old new es .name j ≡ before s plan q old new .name j) (kept .called in-use),
-            ⊎-elim (λ k. inl (k ∙ found .target)) inr
-                (at (λ j. (now s plan q old new es .target j ≡ before s plan q old new .target j) ⊎ (now s plan q old new es .target j ≡ m .moved)) (kept .target in-use)),
-          )
-
-  -- The claim.
-  pub demand-3 : (es : List Event) → Demand3 s plan q old new es
-  demand-3 es = record {
-    recovery-answers = answers es;
-    apply-takes = subst (λ (z : theory.State (List ℕ) Job). All (λ r. applyNumber (z .img) (r .plan) (r .number) ≡ 0) (z .waiting)) (sym (same es)) (survives es .applies);
-    apply-goes = turns es;
-    taken-back = λ d e. image-same es ∙ survives es .undone (done-same es d) (decision-same es ∙ e);
-    finished = λ d e. image-same es ∙ survives es .done (done-same es d) (decision-same es ∙ e);
-    sound-again = λ d. ap checkNumber (image-same es) ∙ survives es .checked (done-same es d);
-    entry-is = entry es;
-    moved-named = named es;
-    new-names = slot-kept es;
-    can-finish = finishes es;
-  }
+    pub can-finish : (p c : List ℕ) → planBytes ≤ length p → length (after s plan q old new es .image) ≤ length c
+        → (is : List ℕ) × (run (step (after s plan q old new es) (crash p c)) (map apply is) .done ≡ true)

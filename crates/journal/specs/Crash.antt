@@ -11,9 +11,9 @@ use Rattle.journal.specs.Turn.{Turn}
 use Rattle.journal.specs.TurnLaws.{has-turn}
 use Rattle.journal.specs.Store.{Store, Rows}
 use Rattle.journal.specs.Change.{Change, goal}
-use Rattle.journal.specs.Events.{EventOf, crash, St, decided, start, step, run}
+use Rattle.journal.specs.Events.{EventOf, crash, through, St, decided, start, step, run}
 use Rattle.journal.specs.Obligations.{OnTheWay, Obligations}
-use Rattle.journal.specs.Invariant.{Inv, inside-of, ended-of, logged-of, decision-of, fits-of, start-inv, run-inv}
+use Rattle.journal.specs.Invariant.{Inv, whole, inside-of, ended-of, logged-of, decision-of, fits-of, start-inv, run-inv}
 use Rattle.journal.specs.Finish.{Finishes, finish-of}
 
 module _ {𝓢 : Store} (𝓒 : Change 𝓢) where
@@ -33,6 +33,8 @@ module _ {𝓢 : Store} (𝓒 : Change 𝓢) where
     pub progress : Empty (s .waiting) ⊎ Turn (𝓢 .group) (s .waiting)
     -- once the rows of a recovery have all been applied, the image is the one before or the one after, by the decision
     pub outcome : T (s .done) → s .img ≡ goal 𝓒 (decided 𝓒 s)
+    -- once the call's own rows have all been applied, and no crash came, it is the one after
+    pub whole : T (through (s .phase) (s .waiting)) → s .img ≡ 𝓒 .after
     -- and the decision is whether the deciding row itself was applied in the list
     pub decision : T (decided 𝓒 s) ↔ Has (s .applied) (𝓒 .decide)
 
@@ -49,6 +51,7 @@ module _ {𝓢 : Store} (𝓒 : Change 𝓢) where
               (fits-of 𝓒 (𝓞 .orderly) s h);
           progress = has-turn (𝓢 .group) (s .waiting);
           outcome = ended-of 𝓒 s h;
+          whole = λ t. whole 𝓒 (𝓞 .orderly) (s .phase) (s .waiting) t h .1;
           decision = decision-of 𝓒 (s .applied) (logged-of 𝓒 s h);
         }
 

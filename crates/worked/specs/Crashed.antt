@@ -41,7 +41,7 @@ use Rattle.demands.specs.Line.{dirty}
 use Rattle.demands.specs.Table.{owner, /a/f, /b/g}
 use Rattle.demands.specs.Crashes.{Event, apply, refused, crash, State, groupOf, entryApplied}
 use Rattle.demands.specs.Demand2.{finishedImage}
-use Rattle.demands.specs.Demand3.{after}
+use Rattle.demands.specs.Demand2.{after}
 
 -- a crash, with buffers of these lengths filled with a byte
 abbrev crashed : ℕ → ℕ → ℕ → Event

@@ -1,0 +1,62 @@
+-- A rename that was planned, and what befalls it, as the crash theorem sees them. Assumes nothing.
+use mathlib.Core.Path.{_≡_, sym, ap, _∙_}
+use mathlib.Core.List.{List, [], map}
+use Prim.Native.Nat.{ℕ, _≤_, _<_}
+use lib.ListN.{length}
+use Rattle.seq.specs.Number.{span}
+use Rattle.layout.specs.declared.Shape.{Shape}
+use Rattle.layout.specs.Contents.{shapeOf}
+use Rattle.paths.specs.declared.request.Request.{Request}
+use Rattle.plan.specs.Form.{planBytes}
+use Rattle.plan.specs.Jobs.{Job, jobsIn}
+use Rattle.journal.specs.Change.{Change}
+use Rattle.journal.specs.Events as theory
+use Rattle.crash.specs.Job.{jobs}
+use Rattle.results.specs.declared.Move.{Move}
+use Rattle.refusals.specs.declared.case.Answer.{Answer}
+use Rattle.refusals.specs.declared.case.Answer.the-variants.{Planned}
+use Rattle.moves.specs.Plan.{planned}
+use Rattle.rename.specs.Job.{answer, move, called, planOf, planAfter}
+use Rattle.outcome.specs.Called.{Called}
+use Rattle.replay.specs.Safe.{renameJobs, rename-first}
+use Rattle.replay.specs.Survives.{state}
+use Rattle.demands.specs.Called.{planned-long, planned-called}
+use Rattle.demands.specs.Crashes.{Event, begun}
+use Rattle.demands.specs.Retold.{stateOf, eventOf, same-run}
+use Rattle.demands.specs.Demand2.{thePlan, after}
+
+module _ {s plan : List ℕ} {q : Request} {old new : List ℕ} (e : answer s plan q old new ≡ Planned) (time : q .now < span 8) where
+  abbrev h : Shape
+  h = shapeOf s
+
+  abbrev m : Move
+  m = move s plan q old new
+
+  abbrev name : List ℕ
+  name = called s plan q old new
+
+  abbrev pub planned-move : Called h s m name
+  planned-move = planned-called s plan q old new e time
+
+  abbrev pub planned-room : planBytes ≤ length plan
+  planned-room = planned-long s plan q old new e
+
+  abbrev pub change : Change (jobs h s)
+  change = renameJobs h s m name plan
+
+  -- the plan's bytes
+  pub planned-bytes : thePlan s plan q old new ≡ planned h s m name plan
+  unfolding planAfter
+  planned-bytes = ap (λ (a : Answer). planOf s plan q old new a) e
+
+  waits : jobsIn (thePlan s plan q old new) ≡ theory.start change .waiting
+  waits = ap jobsIn planned-bytes ∙ sym (rename-first planned-move plan planned-room)
+
+  same-first : stateOf (begun s (thePlan s plan q old new)) ≡ theory.start change
+  same-first = λ i. record { img = s; waiting = waits i; phase = theory.own; applied = []; done = false }
+
+  -- after a list of events
+  pub planned-state : (es : List Event) → stateOf (after s plan q old new es) ≡ state h s m name plan (map eventOf es)
+  planned-state es =
+      same-run h s m name plan (begun s (thePlan s plan q old new)) es
+      ∙ ap (λ (z : theory.State (List ℕ) Job). theory.run change z (map eventOf es)) same-first
