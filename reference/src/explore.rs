@@ -1,12 +1,13 @@
 //! Every crash of a rename: all the states that landings and crashes can lead to, and what must hold in each of them.
 
-mod story;
+mod planned_rename;
 
-pub use story::Story;
+pub use planned_rename::PlannedRename;
 
-use crate::land::{land, BUFFER_TOO_SHORT, LANDED};
-use crate::plan::{Row, PLAN_LEN, ROWS};
-use crate::repair::{Answer, REPAIRED};
+use crate::model::land::land;
+use crate::model::numbers::{BUFFER_TOO_SHORT, DONE};
+use crate::model::plan::{Row, PLAN_LEN, ROWS};
+use crate::model::repair::Answer;
 use std::collections::{HashMap, HashSet, VecDeque};
 
 pub type Repair = fn(&[u8], &mut [u8], &mut [u8]) -> Answer;
@@ -87,7 +88,7 @@ impl Pool {
 }
 
 struct Explorer<'a> {
-    story: &'a Story,
+    planned: &'a PlannedRename,
     repair: Repair,
     images: Pool,
     /// What plans and scratches hold.
@@ -101,9 +102,9 @@ struct Explorer<'a> {
 }
 
 /// Goes through every state; gives the breach that the fewest landings and crashes lead to.
-pub fn explore(story: &Story, repair: Repair) -> Result<Explored, Breach> {
+pub fn explore(planned: &PlannedRename, repair: Repair) -> Result<Explored, Breach> {
     let mut explorer = Explorer {
-        story,
+        planned,
         repair,
         images: Pool::default(),
         buffers: Pool::default(),
@@ -125,9 +126,9 @@ pub fn explore(story: &Story, repair: Repair) -> Result<Explored, Breach> {
 
 impl Explorer<'_> {
     fn start(&mut self) -> Result<(), Breach> {
-        let image = self.image(self.story.before.clone())?;
-        let plan = self.buffers.number(self.story.plan.clone()).0;
-        let waiting = all_of(self.story.rows);
+        let image = self.image(self.planned.before.clone())?;
+        let plan = self.buffers.number(self.planned.plan.clone()).0;
+        let waiting = all_of(self.planned.rows);
         let waited = Waited::Rename;
         self.enter(State { image, plan, waiting, waited, new_name_landed: false, done: false });
         Ok(())
@@ -145,7 +146,7 @@ impl Explorer<'_> {
         let (number, new) = self.images.number(bytes);
         if new {
             let bytes = &self.images.all[number];
-            self.story.names_hold(bytes)?;
+            self.planned.names_hold(bytes)?;
             short_buffers_are_refused(bytes, self.repair)?;
         }
         Ok(number)
@@ -154,8 +155,8 @@ impl Explorer<'_> {
     /// The image before, or the finished one.
     fn outcome(&self, state: State) -> &[u8] {
         match state.new_name_landed {
-            true => &self.story.finished,
-            false => &self.story.before,
+            true => &self.planned.finished,
+            false => &self.planned.before,
         }
     }
 
@@ -191,7 +192,7 @@ impl Explorer<'_> {
         let bytes = &self.images.all[image];
         let (mut plan, mut scratch) = (vec![0xa5; PLAN_LEN], vec![0x5a; bytes.len()]);
         let Answer { number, rows } = (self.repair)(bytes, &mut plan, &mut scratch);
-        if number != REPAIRED {
+        if number != DONE {
             return Err(Breach::RepairRefused(number));
         }
         let known = (self.buffers.number(plan).0, rows, self.buffers.number(scratch).0);
@@ -212,7 +213,7 @@ impl Explorer<'_> {
             Some(&known) => known,
             None => self.land_anew(state, row)?,
         };
-        let decides = state.waited == Waited::Rename && row == self.story.new_entry;
+        let decides = state.waited == Waited::Rename && row == self.planned.new_entry;
         let new_name_landed = state.new_name_landed || decides;
         self.enter(State { image, waiting: state.waiting & !(1 << row), new_name_landed, ..state });
         Ok(())
@@ -223,7 +224,7 @@ impl Explorer<'_> {
         let mut bytes = self.images.all[state.image].clone();
         refused_landings_change_nothing(&mut bytes, plan)?;
         match land(&mut bytes, plan, row as u64) {
-            LANDED => {
+            DONE => {
                 let image = self.image(bytes)?;
                 self.landed.insert((state.image, state.plan, row), image);
                 Ok(image)
@@ -257,7 +258,7 @@ fn refused_landings_change_nothing(image: &mut [u8], plan: &[u8]) -> Result<(), 
     let mut answers: Vec<u8> = numbers.iter().map(|&number| land(image, plan, number)).collect();
     answers.push(land(image, &[0; PLAN_LEN], 0));
     answers.push(land(image, &plan[..PLAN_LEN - 1], 0));
-    match answers.contains(&LANDED) || image != before {
+    match answers.contains(&DONE) || image != before {
         true => Err(Breach::RefusedLanding),
         false => Ok(()),
     }
