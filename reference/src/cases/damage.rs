@@ -12,7 +12,7 @@ mod records;
 pub mod subject;
 mod symlinks;
 
-use crate::model::check::Rule;
+use crate::model::check::{is_layout_rule, JOURNAL_RULE};
 use crate::model::numbers::{DONE, INCONSISTENT, JOURNAL_PENDING};
 
 use subject::Subject;
@@ -25,15 +25,26 @@ pub enum Breaks {
     Nothing,
     Layout,
     Journal,
-    Rule(Rule),
+    /// Of these rules, one at least.
+    Rules(&'static [u8]),
 }
 
 impl Breaks {
     pub fn answer(self) -> u8 {
         match self {
             Breaks::Nothing => DONE,
-            Breaks::Layout | Breaks::Rule(_) => INCONSISTENT,
+            Breaks::Layout | Breaks::Rules(_) => INCONSISTENT,
             Breaks::Journal => JOURNAL_PENDING,
+        }
+    }
+
+    /// Whether the rules that an image breaks are as they should be.
+    pub fn is_among(self, broken: &[u8]) -> bool {
+        match self {
+            Breaks::Nothing => broken.is_empty(),
+            Breaks::Layout => broken.iter().any(|&rule| is_layout_rule(rule)),
+            Breaks::Journal => broken.contains(&JOURNAL_RULE),
+            Breaks::Rules(rules) => rules.iter().any(|rule| broken.contains(rule)),
         }
     }
 }
@@ -49,8 +60,8 @@ pub const fn clause(name: &'static str, breaks: Breaks, images: fn(&Subject) -> 
     Clause { name, breaks, images }
 }
 
-const fn rule(name: &'static str, broken: Rule, images: fn(&Subject) -> Images) -> Clause {
-    clause(name, Breaks::Rule(broken), images)
+const fn rule(name: &'static str, broken: &'static [u8], images: fn(&Subject) -> Images) -> Clause {
+    clause(name, Breaks::Rules(broken), images)
 }
 
 /// The table of contents and the length.
@@ -69,64 +80,64 @@ pub const LAYOUT_CLAUSES: &[Clause] = &[
     clause("length far from the right one", Breaks::Layout, contents::far_lengths),
 ];
 
-/// The rules of the records, in the order in which the format tells them.
+/// The rules of the records. Their order is that of the stored cases, and stays.
 pub const RECORD_CLAUSES: &[Clause] = &[
-    rule("inode type unknown", Rule::InodeTypes, records::inode_types),
-    rule("file with a field", Rule::FileField, records::file_fields),
-    rule("root with another parent", Rule::RootField, records::root_field),
-    rule("entry pad", Rule::EntryPad, records::entry_pads),
-    rule("name fill", Rule::NameFill, records::name_fill),
-    rule("text length over 63", Rule::TextLength, records::text_lengths),
-    rule("text fill", Rule::TextFill, records::text_fill),
-    rule("handle state unknown", Rule::HandleStates, handles::states),
-    rule("handle's second byte", Rule::HandleSecondByte, handles::second_bytes),
-    rule("handle pad", Rule::HandlePad, handles::pads),
-    rule("free inode, one byte", Rule::FreeInodes, records::free_inodes),
-    rule("inode freed without clearing", Rule::FreeInodes, records::freed_inodes),
-    rule("free entry, one byte", Rule::FreeEntries, records::free_entries),
-    rule("entry freed without clearing", Rule::FreeEntries, records::freed_entries),
-    rule("free text, one byte", Rule::FreeTexts, records::free_texts),
-    rule("text freed without clearing", Rule::FreeTexts, records::freed_texts),
-    rule("closed handle, one byte", Rule::ClosedHandles, handles::closed),
-    rule("handle closed without clearing", Rule::ClosedHandles, handles::freed),
-    rule("mode over 4095", Rule::Modes, records::modes),
-    rule("root no directory", Rule::RootDirectory, directories::root_kinds),
-    rule("entry that targets root", Rule::RootUntargeted, directories::root_targeted),
-    rule("entry parent no directory", Rule::EntryParents, entries::parents_no_directory),
-    rule("entry parent free", Rule::EntryParents, entries::parents_free),
-    rule("entry parent beyond the count", Rule::EntryParents, entries::parents_beyond),
-    rule("entry target free", Rule::EntryTargets, entries::targets_free),
-    rule("new entry with target free", Rule::EntryTargets, entries::new_targets_free),
-    rule("entry target beyond the count", Rule::EntryTargets, entries::targets_beyond),
-    rule("new entry with target beyond", Rule::EntryTargets, entries::new_targets_beyond),
-    rule("name length over 24", Rule::NameLength, entries::name_lengths),
-    rule("name with byte 0", Rule::NameBytes, entries::names_with_zero),
-    rule("name with a slash", Rule::NameBytes, entries::names_with_slash),
-    rule("name dot or dot-dot", Rule::NameDots, entries::dot_names),
-    rule("name twice in a directory", Rule::DistinctNames, entries::same_names),
-    rule("name twice, first and last slot", Rule::DistinctNames, entries::same_names_at_the_ends),
-    rule("directory without entry", Rule::OneEntryPerDirectory, directories::no_entry),
-    rule("directory with two entries", Rule::OneEntryPerDirectory, directories::two_entries),
-    rule("directory in two directories", Rule::OneEntryPerDirectory, directories::two_parents),
-    rule("parent field of another", Rule::ParentFields, directories::parent_fields),
-    rule("directory inside itself", Rule::ParentsLeadToRoot, directories::cycles_of_one),
-    rule("cycle of two directories", Rule::ParentsLeadToRoot, directories::cycles_of_two),
-    rule("cycle of three directories", Rule::ParentsLeadToRoot, directories::cycles_of_three),
-    rule("directory link count", Rule::DirectoryLinks, links::directory_counts),
-    rule("other link count", Rule::OtherLinks, links::other_counts),
-    rule("file without a name", Rule::AtLeastOneLink, links::nameless_files),
-    rule("last name removed", Rule::AtLeastOneLink, links::last_names_removed),
-    rule("65 names", Rule::LinksLimit, links::too_many_names),
-    rule("63 subdirectories", Rule::LinksLimit, links::too_many_subdirectories),
-    rule("file system of a non-directory", Rule::FileSystems, file_systems::of_non_directories),
-    rule("file system of one directory", Rule::FileSystems, file_systems::of_directories),
-    rule("symlink with text free", Rule::SymlinkTextUsed, symlinks::texts_free),
-    rule("symlink with text beyond", Rule::SymlinkTextUsed, symlinks::texts_beyond),
-    rule("text shared by two symlinks", Rule::SymlinkTextOwn, symlinks::texts_shared),
-    rule("text with byte 0", Rule::SymlinkTextBytes, symlinks::texts_with_zero),
-    rule("text without symlink", Rule::TextsHaveSymlinks, symlinks::texts_alone),
-    rule("handle on a free inode", Rule::HandleInodes, handles::on_free),
-    rule("handle beyond the count", Rule::HandleInodes, handles::beyond),
+    rule("inode type unknown", &[6], records::inode_types),
+    rule("file with a field", &[8], records::file_fields),
+    rule("root with another parent", &[9], records::root_field),
+    rule("entry pad", &[10], records::entry_pads),
+    rule("name fill", &[10], records::name_fill),
+    rule("text length over 63", &[11], records::text_lengths),
+    rule("text fill", &[12], records::text_fill),
+    rule("handle state unknown", &[7], handles::states),
+    rule("handle's second byte", &[13], handles::second_bytes),
+    rule("handle pad", &[13], handles::pads),
+    rule("free inode, one byte", &[15], records::free_inodes),
+    rule("inode freed without clearing", &[15], records::freed_inodes),
+    rule("free entry, one byte", &[16], records::free_entries),
+    rule("entry freed without clearing", &[16], records::freed_entries),
+    rule("free text, one byte", &[17], records::free_texts),
+    rule("text freed without clearing", &[17], records::freed_texts),
+    rule("closed handle, one byte", &[18], handles::closed),
+    rule("handle closed without clearing", &[18], handles::freed),
+    rule("mode over 4095", &[19], records::modes),
+    rule("root no directory", &[20, 6], directories::root_kinds),
+    rule("entry that targets root", &[21], directories::root_targeted),
+    rule("entry parent no directory", &[22], entries::parents_no_directory),
+    rule("entry parent free", &[22], entries::parents_free),
+    rule("entry parent beyond the count", &[22], entries::parents_beyond),
+    rule("entry target free", &[23], entries::targets_free),
+    rule("new entry with target free", &[23], entries::new_targets_free),
+    rule("entry target beyond the count", &[23], entries::targets_beyond),
+    rule("new entry with target beyond", &[23], entries::new_targets_beyond),
+    rule("name length over 24", &[24], entries::name_lengths),
+    rule("name with byte 0", &[25], entries::names_with_zero),
+    rule("name with a slash", &[25], entries::names_with_slash),
+    rule("name dot or dot-dot", &[26], entries::dot_names),
+    rule("name twice in a directory", &[27], entries::same_names),
+    rule("name twice, first and last slot", &[27], entries::same_names_at_the_ends),
+    rule("directory without entry", &[28], directories::no_entry),
+    rule("directory with two entries", &[28], directories::two_entries),
+    rule("directory in two directories", &[28], directories::two_parents),
+    rule("parent field of another", &[29], directories::parent_fields),
+    rule("directory inside itself", &[30], directories::cycles_of_one),
+    rule("cycle of two directories", &[30], directories::cycles_of_two),
+    rule("cycle of three directories", &[30], directories::cycles_of_three),
+    rule("directory link count", &[31], links::directory_counts),
+    rule("other link count", &[32], links::other_counts),
+    rule("file without a name", &[33], links::nameless_files),
+    rule("last name removed", &[33], links::last_names_removed),
+    rule("65 names", &[34], links::too_many_names),
+    rule("63 subdirectories", &[34], links::too_many_subdirectories),
+    rule("file system of a non-directory", &[35], file_systems::of_non_directories),
+    rule("file system of one directory", &[35], file_systems::of_directories),
+    rule("symlink with text free", &[36], symlinks::texts_free),
+    rule("symlink with text beyond", &[36], symlinks::texts_beyond),
+    rule("text shared by two symlinks", &[37], symlinks::texts_shared),
+    rule("text with byte 0", &[38], symlinks::texts_with_zero),
+    rule("text without symlink", &[39], symlinks::texts_alone),
+    rule("handle on a free inode", &[40], handles::on_free),
+    rule("handle beyond the count", &[40], handles::beyond),
 ];
 
 /// The journal record, which is looked at after the layout and ahead of the other records.
@@ -163,8 +174,7 @@ mod tests {
     fn every_record_damage_breaks_its_rule() {
         for clause in RECORD_CLAUSES {
             for image in subjects().flat_map(|subject| (clause.images)(&subject)) {
-                let broken = broken_rules(&image).expect("the layout is right");
-                assert!(broken.iter().any(|&rule| Breaks::Rule(rule) == clause.breaks), "{}", clause.name);
+                assert!(clause.breaks.is_among(&broken_rules(&image)), "{}", clause.name);
             }
         }
     }

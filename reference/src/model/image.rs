@@ -11,6 +11,10 @@ pub const FILE: u8 = 1;
 pub const DIRECTORY: u8 = 2;
 pub const SYMLINK: u8 = 3;
 
+pub const CLOSED: u8 = 0;
+const OPEN: u8 = 1;
+pub const OPENED_FOR_SEARCH: u8 = 2;
+
 fn u32_at(bytes: &[u8], at: usize) -> u32 {
     u32::from(u16_at(bytes, at)) | u32::from(u16_at(bytes, at + 2)) << 16
 }
@@ -176,6 +180,10 @@ pub struct Handle<'a>(pub &'a [u8]);
 impl<'a> Handle<'a> {
     pub fn state(self) -> u8 {
         self.0[0]
+    }
+
+    pub fn is_open(self) -> bool {
+        matches!(self.state(), OPEN | OPENED_FOR_SEARCH)
     }
 
     pub fn second_byte(self) -> u8 {

@@ -1,5 +1,6 @@
 //! Where the records of an image lie: the table of contents, and rules 1 to 5, which are about it.
 
+use super::fault::Fault;
 use std::ops::{Range, RangeInclusive};
 
 /// What the format fixes about one section.
@@ -42,13 +43,14 @@ pub struct Layout {
 impl Layout {
     /// The layout of an image whose table of contents is right; nothing where any part of it is wrong.
     pub fn read(bytes: &[u8]) -> Option<Layout> {
+        let layout = Layout::as_counted(bytes)?;
+        layout_faults(bytes).next().is_none().then_some(layout)
+    }
+
+    /// What the counts lead to as they stand, right or wrong; nothing where the rows themselves are cut.
+    fn as_counted(bytes: &[u8]) -> Option<Layout> {
         let contents = bytes.get(..CONTENTS_LEN)?;
-        let layout = Layout::of_counts(std::array::from_fn(|i| u16_at(contents, i * ROW_LEN + 6).into()));
-        let right = names_stand_in_order(contents)
-            && layout.counts_are_in_range()
-            && layout.offsets_leave_no_gap(contents)
-            && layout.image_len() == bytes.len();
-        right.then_some(layout)
+        Some(Layout::of_counts(std::array::from_fn(|section| u16_at(contents, section * ROW_LEN + 6).into())))
     }
 
     pub fn of_counts(counts: [usize; 5]) -> Layout {
@@ -72,18 +74,56 @@ impl Layout {
     pub fn position(&self, section: usize, record: usize) -> usize {
         self.offsets[section] + record * SECTIONS[section].record_len
     }
-
-    fn counts_are_in_range(&self) -> bool {
-        (SECTIONS.iter().zip(&self.counts)).all(|(rule, count)| rule.counts.contains(count))
-    }
-
-    fn offsets_leave_no_gap(&self, contents: &[u8]) -> bool {
-        (0..5).all(|i| usize::from(u16_at(contents, i * ROW_LEN + 4)) == self.offsets[i])
-    }
 }
 
-fn names_stand_in_order(contents: &[u8]) -> bool {
-    (SECTIONS.iter().zip(contents.chunks_exact(ROW_LEN))).all(|(rule, row)| row.starts_with(rule.name))
+/// A rule about the table of contents: its number, the sections of which it is asked, and whether one breaks it.
+pub struct LayoutRule {
+    pub number: u8,
+    sections: Range<usize>,
+    broken: fn(&[u8], usize) -> bool,
+}
+
+const fn rule(number: u8, sections: Range<usize>, broken: fn(&[u8], usize) -> bool) -> LayoutRule {
+    LayoutRule { number, sections, broken }
+}
+
+/// Rules 1 to 5. Without the rows of rule 1 the others have no meaning, and none of them is broken.
+pub const LAYOUT_RULES: [LayoutRule; 5] = [
+    rule(1, INODES..INODES + 1, rows_are_cut),
+    rule(2, 0..SECTIONS.len(), is_named_otherwise),
+    rule(3, 0..SECTIONS.len(), is_said_to_begin_elsewhere),
+    rule(4, JOURNAL..JOURNAL + 1, ends_elsewhere),
+    rule(5, 0..SECTIONS.len(), count_is_out_of_range),
+];
+
+/// What is wrong with the layout, each fault at record 0 of its section.
+pub fn layout_faults(bytes: &[u8]) -> impl Iterator<Item = Fault> + '_ {
+    LAYOUT_RULES.iter().flat_map(move |rule| {
+        let sections = rule.sections.clone().filter(move |&section| (rule.broken)(bytes, section));
+        sections.map(move |section| Fault { section, record: 0, rule: rule.number })
+    })
+}
+
+fn rows_are_cut(bytes: &[u8], _: usize) -> bool {
+    bytes.len() < CONTENTS_LEN
+}
+
+fn is_named_otherwise(bytes: &[u8], section: usize) -> bool {
+    let contents = bytes.get(..CONTENTS_LEN);
+    contents.is_some_and(|contents| !contents[section * ROW_LEN..].starts_with(SECTIONS[section].name))
+}
+
+fn is_said_to_begin_elsewhere(bytes: &[u8], section: usize) -> bool {
+    let said = |bytes: &[u8]| usize::from(u16_at(bytes, section * ROW_LEN + 4));
+    Layout::as_counted(bytes).is_some_and(|layout| layout.offsets[section] != said(bytes))
+}
+
+fn ends_elsewhere(bytes: &[u8], _: usize) -> bool {
+    Layout::as_counted(bytes).is_some_and(|layout| layout.image_len() != bytes.len())
+}
+
+fn count_is_out_of_range(bytes: &[u8], section: usize) -> bool {
+    Layout::as_counted(bytes).is_some_and(|layout| !SECTIONS[section].counts.contains(&layout.counts[section]))
 }
 
 pub(super) fn u16_at(bytes: &[u8], at: usize) -> u16 {

@@ -17,7 +17,7 @@ fn any_records_are_answered() {
         let mask = [1, 3, 15, 255][round % 4];
         image[CONTENTS_LEN..journal].fill_with(|| random.byte() & mask);
         assert_eq!(check(&image), INCONSISTENT);
-        assert!(broken_rules(&image).is_some_and(|broken| !broken.is_empty()));
+        assert!(!broken_rules(&image).is_empty());
     }
 }
 

@@ -1,7 +1,7 @@
 //! Repair on the bench tree: told answers, all journal records in range, damaged images and any bytes.
 
 use crate::cases::damage::subject::Subject;
-use crate::cases::damage::{random_changes, Breaks, LAYOUT_CLAUSES, RECORD_CLAUSES};
+use crate::cases::damage::{random_changes, LAYOUT_CLAUSES, RECORD_CLAUSES};
 use crate::cases::random::Random;
 use crate::cases::trees::bench::bench_tree;
 use crate::cases::trees::samples::samples;
@@ -178,7 +178,7 @@ fn broken_images_are_refused_under_every_journal_record() {
     for clause in RECORD_CLAUSES {
         for mut image in (clause.images)(&subject) {
             assert_eq!(answer(&image).0.number, INCONSISTENT, "{}", clause.name);
-            assert!(matches!(clause.breaks, Breaks::Rule(_)) && broken_rules(&image).is_some());
+            assert!(clause.breaks.is_among(&broken_rules(&image)));
             image[journal] = 1;
             assert_eq!(check(&image), JOURNAL_PENDING);
             assert_eq!(answer(&image).0.number, NOT_REPAIRABLE, "{}", clause.name);

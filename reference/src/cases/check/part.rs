@@ -2,7 +2,7 @@
 
 use crate::cases::check::variants::VARIANT_CLAUSES;
 use crate::cases::damage::subject::Subject;
-use crate::cases::damage::{random_changes, Breaks, Clause, JOURNAL_CLAUSES, LAYOUT_CLAUSES, RECORD_CLAUSES};
+use crate::cases::damage::{random_changes, Clause, JOURNAL_CLAUSES, LAYOUT_CLAUSES, RECORD_CLAUSES};
 use crate::cases::random::Random;
 use crate::cases::trees::bench::{bench_tree, full_bench_tree};
 use crate::cases::trees::builder::Tree;
@@ -102,10 +102,8 @@ impl Collection {
         random.shuffle(&mut images);
         for image in images.iter().take(quota.per_clause) {
             assert_eq!(check(image), clause.breaks.answer(), "{class}: {}", clause.name);
-            if let Breaks::Rule(rule) = clause.breaks {
-                let broken = broken_rules(image).expect("damaged records leave the layout as it is");
-                assert!(broken.contains(&rule), "{class}: {} breaks {broken:?}", clause.name);
-            }
+            let broken = broken_rules(image);
+            assert!(clause.breaks.is_among(&broken), "{class}: {} breaks {broken:?}", clause.name);
             self.add(class, subject, image);
         }
     }
@@ -120,7 +118,6 @@ impl Collection {
 #[cfg(test)]
 mod tests {
     use super::*;
-    use crate::model::check::{Rule, RULES};
     use crate::vectors::{read, Case};
 
     fn images(collection: &Collection) -> Vec<Vec<u8>> {
@@ -137,15 +134,5 @@ mod tests {
         assert!((4_000..=8_000).contains(&collection.lines.len()));
         let answers: Vec<String> = images(&collection).iter().map(|image| check(image).to_string()).collect();
         assert_eq!(answers, collection.lines);
-    }
-
-    /// A root that is no directory always breaks another rule too, since its link count cannot be right.
-    #[test]
-    fn every_other_rule_is_broken_alone() {
-        let broken = images(&all()).into_iter().filter_map(|image| broken_rules(&image));
-        let alone: Vec<Rule> = broken.filter(|broken| broken.len() == 1).map(|broken| broken[0]).collect();
-        for (rule, _) in RULES.iter().filter(|(rule, _)| *rule != Rule::RootDirectory) {
-            assert!(alone.contains(rule), "{rule:?} is never broken alone");
-        }
     }
 }
