@@ -80,25 +80,3 @@ impl Collection {
         table
     }
 }
-
-#[cfg(test)]
-mod tests {
-    use super::*;
-
-    #[test]
-    fn the_document_counts_every_class() {
-        let document = include_str!("../../docs/VECTORS.md");
-        for part in PARTS {
-            for row in (part.make)().table() {
-                assert!(document.lines().any(|line| line == row), "{}: docs/VECTORS.md lacks the row {row}", part.name);
-            }
-        }
-    }
-
-    #[test]
-    fn every_file_stays_small() {
-        for part in PARTS {
-            assert!((part.make)().writer.data.len() < 1_000_000, "{}", part.name);
-        }
-    }
-}

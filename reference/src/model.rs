@@ -10,6 +10,7 @@ pub mod layout;
 pub mod numbers;
 pub mod permission;
 pub mod plan;
+pub mod refusal;
 pub mod rename;
 pub mod repair;
 pub mod request;

@@ -1,7 +1,7 @@
-//! Tests of the model that need trees or cases, of which the model itself knows nothing.
+//! Tests that need both the model, which knows of no case, and the cases.
 
-mod check;
-mod finished;
-mod land;
-mod rename;
-mod repair;
+mod effects;
+mod made;
+mod model;
+mod rules;
+mod vectors;

@@ -1,6 +1,6 @@
-//! Who may do what with an inode.
+//! Who may do what with an inode (rule 43).
 
-use crate::model::image::Inode;
+use super::image::Inode;
 
 /// On whose behalf a job is done.
 #[derive(Clone, Copy, Debug, PartialEq, Eq)]

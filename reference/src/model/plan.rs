@@ -1,11 +1,11 @@
-//! The form of a plan: nine rows, then a body for each of them.
+//! The form of a plan: nine rows, then a body for each of them (rules 79 to 84).
 
 pub const PLAN_LEN: usize = 648;
 pub const ROWS: usize = 9;
 pub const ROW_LEN: usize = 8;
 pub const BODY_LEN: usize = 64;
 
-/// One row as it stands in a plan, right or wrong.
+/// Rule 81: one row as it stands in a plan, right or wrong.
 #[derive(Clone, Copy, Debug, PartialEq, Eq)]
 pub struct Row {
     pub group: u8,
@@ -15,7 +15,7 @@ pub struct Row {
     pub body: u16,
 }
 
-/// Where the body of a row has to stand; also for numbers that no plan has.
+/// Rule 80: where the body of a row has to stand; also for numbers that no plan has.
 pub fn body_position(number: usize) -> usize {
     ROWS * ROW_LEN + number * BODY_LEN
 }

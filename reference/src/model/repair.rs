@@ -1,15 +1,29 @@
-//! Repair: after a crash, a rename whose new name has landed is carried to its end, and any other is taken back.
+//! Repair: after a crash, a rename whose new name has landed is carried to its end, and any other is taken back (rules
+//! 102 to 111).
 
 mod journal;
 mod redo;
 
-use crate::model::check::check;
-use crate::model::image::Image;
-use crate::model::layout::{Layout, JOURNAL};
-use crate::model::numbers::{BUFFER_TOO_SHORT, DONE, INCONSISTENT, NOT_REPAIRABLE};
-use crate::model::plan::PLAN_LEN;
+use super::check::broken_rules;
+use super::image::Image;
+use super::layout::{Layout, JOURNAL};
+use super::numbers::{BUFFER_TOO_SHORT, DONE, INCONSISTENT, NOT_REPAIRABLE};
+use super::plan::PLAN_LEN;
+use super::refusal::Refusal;
 use journal::Journal;
 use redo::Redo;
+
+const SHORT_PLAN: Refusal = Refusal::new(102, "short plan", BUFFER_TOO_SHORT);
+const SHORT_SCRATCH: Refusal = Refusal::new(102, "short scratch", BUFFER_TOO_SHORT);
+const BAD_LAYOUT: Refusal = Refusal::new(102, "bad layout", INCONSISTENT);
+const BROKEN_RECORDS: Refusal = Refusal::new(103, "broken records", INCONSISTENT);
+const BAD_OUTCOME: Refusal = Refusal::new(109, "outcome", NOT_REPAIRABLE);
+
+/// Every reason to refuse, in the order in which they are asked.
+pub fn refusals() -> Vec<Refusal> {
+    let ahead = [SHORT_PLAN, SHORT_SCRATCH, BAD_LAYOUT, BROKEN_RECORDS];
+    ahead.into_iter().chain(journal::refusals()).chain([BAD_OUTCOME]).collect()
+}
 
 /// What a repair answers: its number, and the rows in the plan.
 #[derive(Clone, Copy, Debug, PartialEq, Eq)]
@@ -19,53 +33,55 @@ pub struct Answer {
 }
 
 /// Answers for any bytes. Where the number is 0, the plan's first 648 bytes and as much of the scratch as the image
-/// is long are written; where it is 204, that much of the scratch is cleared; all else stays.
+/// is long are written (rule 111); where it is 204, that much of the scratch is cleared (rule 110); all else stays.
 pub fn repair(bytes: &[u8], plan: &mut [u8], scratch: &mut [u8]) -> Answer {
-    let refused = |number| Answer { number, rows: 0 };
-    if plan.len() < PLAN_LEN || scratch.len() < bytes.len() {
-        return refused(BUFFER_TOO_SHORT);
-    }
-    let scratch = &mut scratch[..bytes.len()];
-    match recovered(bytes) {
+    let recovered = recovered(bytes, plan.len(), scratch.len());
+    match recovered {
         Ok(redo) => {
             redo.write(plan);
-            scratch.copy_from_slice(&redo.bytes);
+            scratch[..bytes.len()].copy_from_slice(&redo.bytes);
             Answer { number: DONE, rows: redo.rows() }
         }
-        Err(number) => {
+        Err(Refusal { number, .. }) => {
             if number == NOT_REPAIRABLE {
-                scratch.fill(0);
+                scratch[..bytes.len()].fill(0);
             }
-            refused(number)
+            Answer { number, rows: 0 }
         }
     }
 }
 
-/// The layout and, where the journal record is clear, the check; then whether the record fits and what it leads to.
-fn recovered(bytes: &[u8]) -> Result<Redo, u8> {
-    let (layout, image) = Layout::read(bytes).zip(Image::read(bytes)).ok_or(INCONSISTENT)?;
-    if image.journal.iter().all(|&byte| byte == 0) {
-        return match check(bytes) {
-            DONE => Ok(Redo::new(bytes, layout)),
-            number => Err(number),
-        };
+/// Why a repair with buffers of these lengths is refused, if it is.
+pub fn refusal(bytes: &[u8], plan_len: usize, scratch_len: usize) -> Option<Refusal> {
+    recovered(bytes, plan_len, scratch_len).err()
+}
+
+/// Rules 102, 103 and 109, with those of the journal record between them.
+fn recovered(bytes: &[u8], plan_len: usize, scratch_len: usize) -> Result<Redo, Refusal> {
+    if plan_len < PLAN_LEN {
+        return Err(SHORT_PLAN);
     }
-    let redo = with_journal(&image, Redo::new(bytes, layout)).ok_or(NOT_REPAIRABLE)?;
-    match check(&redo.bytes) {
-        DONE => Ok(redo),
-        _ => Err(NOT_REPAIRABLE),
+    if scratch_len < bytes.len() {
+        return Err(SHORT_SCRATCH);
+    }
+    let (layout, image) = Layout::read(bytes).zip(Image::read(bytes)).ok_or(BAD_LAYOUT)?;
+    let redo = Redo::new(bytes, layout);
+    let (redo, inconsistent) = match image.journal.iter().all(|&byte| byte == 0) {
+        true => (redo, BROKEN_RECORDS),
+        false => (with_journal(&image, redo)?, BAD_OUTCOME),
+    };
+    match broken_rules(&redo.bytes).is_empty() {
+        true => Ok(redo),
+        false => Err(inconsistent),
     }
 }
 
-/// What the journal record asks for; nothing where it does not fit the image.
-fn with_journal(image: &Image, mut redo: Redo) -> Option<Redo> {
-    let journal = Journal::read(image.journal).filter(|journal| journal.fits(&redo.layout, image))?;
-    if let Some(new_parent) = journal.new_parent(image) {
-        if !journal.takes(image, new_parent) {
-            return None;
-        }
+/// What the journal record asks for. Where the new name has not landed, that is only to clear the record (rule 107).
+fn with_journal(image: &Image, mut redo: Redo) -> Result<Redo, Refusal> {
+    let journal = Journal::read(image, &redo.layout)?;
+    if let Some(new_parent) = journal.new_parent(image)? {
         redo.finish(&journal, new_parent);
     }
     redo.clear(redo::JOURNAL_LAST, JOURNAL, 0);
-    Some(redo)
+    Ok(redo)
 }

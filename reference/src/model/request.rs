@@ -1,7 +1,9 @@
-//! What a caller asks for, and the check of it ahead of both walks.
+//! What a caller asks for (rule 41), and the check of it ahead of both walks (rule 42).
 
-use crate::model::image::Image;
-use crate::model::permission::Credentials;
+use super::image::Image;
+use super::numbers::BAD_REQUEST;
+use super::permission::Credentials;
+use super::refusal::Refusal;
 
 /// The start that means the current directory.
 pub const CURRENT: u8 = 255;
@@ -27,9 +29,16 @@ pub struct Request {
     pub new: Operand,
 }
 
+/// What can be wrong with a request itself.
+pub const REFUSALS: [(Refusal, fn(&Request, &Image) -> bool); 3] = [
+    (Refusal::new(42, "current directory is none", BAD_REQUEST), |request, image| !image.is_directory(request.current)),
+    (Refusal::new(42, "byte 0 in old", BAD_REQUEST), |request, _| request.old.path.contains(&0)),
+    (Refusal::new(42, "byte 0 in new", BAD_REQUEST), |request, _| request.new.path.contains(&0)),
+];
+
 impl Request {
     /// Asked of both paths, whatever else is wrong with them and whether or not the current directory matters.
-    pub fn is_right(&self, image: &Image) -> bool {
-        image.is_directory(self.current) && !self.old.path.contains(&0) && !self.new.path.contains(&0)
+    pub fn refusal(&self, image: &Image) -> Option<Refusal> {
+        REFUSALS.iter().find(|(_, applies)| applies(self, image)).map(|(refusal, _)| *refusal)
     }
 }

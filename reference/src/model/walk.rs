@@ -1,16 +1,48 @@
-//! The walks of a request's two paths, from the directory each starts in to its final name.
+//! The walks of a request's two paths, from the directory each starts in to its final name (rules 44 to 61).
 
-use crate::model::image::{Image, NAME_MAX, SYMLINK};
-use crate::model::numbers::{BAD_REQUEST, DONE, EACCES, EBADF, EBUSY, EINVAL, ELOOP, ENAMETOOLONG, ENOENT, ENOTDIR};
-use crate::model::permission::{may_search, Credentials};
-use crate::model::request::{Operand, Request, CURRENT};
+use super::image::{Image, NAME_MAX, OPENED_FOR_SEARCH, SYMLINK};
+use super::numbers::{DONE, EACCES, EBADF, EBUSY, EINVAL, ELOOP, ENAMETOOLONG, ENOENT, ENOTDIR};
+use super::permission::{may_search, Credentials};
+use super::refusal::Refusal;
+use super::request::{Operand, Request, CURRENT};
 
 pub const PATH_MAX: usize = 255;
 
 /// Symlinks that one path may lead through.
 pub const FOLLOWED_MAX: usize = 8;
 
-const SEARCH_HANDLE: u8 = 2;
+/// What a walk is refused for, in the order in which it is asked: of the path, of each component, of a name that is
+/// passed through, and of the final one.
+const EMPTY: Refusal = Refusal::new(46, "empty path", ENOENT);
+const LONG_PATH: Refusal = Refusal::new(47, "long path", ENAMETOOLONG);
+const NO_HANDLE: Refusal = Refusal::new(48, "no open handle", EBADF);
+const SLASHES: Refusal = Refusal::new(49, "slashes only", EBUSY);
+const NO_DIRECTORY: Refusal = Refusal::new(50, "component in no directory", ENOTDIR);
+const NO_SEARCH: Refusal = Refusal::new(51, "search denied", EACCES);
+const LONG_NAME: Refusal = Refusal::new(52, "long component", ENAMETOOLONG);
+const FINAL_DOT: Refusal = Refusal::new(53, "final dot", EINVAL);
+const MISSING: Refusal = Refusal::new(54, "missing before the final one", ENOENT);
+const NINTH_SYMLINK: Refusal = Refusal::new(56, "ninth symlink", ELOOP);
+const LONG_JOIN: Refusal = Refusal::new(57, "long joined path", ENAMETOOLONG);
+const FINAL_MISSING: Refusal = Refusal::new(59, "final one missing", ENOENT);
+const SLASH_BEHIND: Refusal = Refusal::new(60, "slash behind no directory", ENOTDIR);
+
+/// Every one of them.
+pub const REFUSALS: [Refusal; 13] = [
+    EMPTY,
+    LONG_PATH,
+    NO_HANDLE,
+    SLASHES,
+    NO_DIRECTORY,
+    NO_SEARCH,
+    LONG_NAME,
+    FINAL_DOT,
+    MISSING,
+    NINTH_SYMLINK,
+    LONG_JOIN,
+    FINAL_MISSING,
+    SLASH_BEHIND,
+];
 
 /// The two paths differ in one point: new's final name may be missing.
 #[derive(Clone, Copy, Debug, PartialEq, Eq)]
@@ -36,11 +68,11 @@ pub struct Found {
     pub slash: bool,
 }
 
-/// A walk's end or refusal, and the component checks begun by then.
+/// A walk's end or refusal, and the component checks begun by then (rule 61).
 #[derive(Clone, Debug, PartialEq, Eq)]
 pub struct Walk {
     pub steps: u16,
-    pub end: Result<Found, u8>,
+    pub end: Result<Found, Refusal>,
 }
 
 /// Both walks of a request: new's is taken only after a whole one of old.
@@ -53,31 +85,35 @@ pub struct Walks {
 }
 
 pub fn walk_both(image: &Image, request: &Request) -> Walks {
-    let refused = |number, steps| Walks { number, steps, found: None };
-    if !request.is_right(image) {
-        return refused(BAD_REQUEST, [0, 0]);
+    let refused = |refusal: Refusal, steps| Walks { number: refusal.number, steps, found: None };
+    if let Some(refusal) = request.refusal(image) {
+        return refused(refusal, [0, 0]);
     }
-    let old = walk(image, request, &request.old, Role::Old);
+    let old = walk(image, request, Role::Old);
     let first = match old.end {
         Ok(found) => found,
-        Err(number) => return refused(number, [old.steps, 0]),
+        Err(refusal) => return refused(refusal, [old.steps, 0]),
     };
-    let new = walk(image, request, &request.new, Role::New);
+    let new = walk(image, request, Role::New);
     let steps = [old.steps, new.steps];
     match new.end {
         Ok(second) => Walks { number: DONE, steps, found: Some([first, second]) },
-        Err(number) => refused(number, steps),
+        Err(refusal) => refused(refusal, steps),
     }
 }
 
 /// One walk of a consistent image.
-pub fn walk(image: &Image, request: &Request, operand: &Operand, role: Role) -> Walk {
+pub fn walk(image: &Image, request: &Request, role: Role) -> Walk {
+    let operand = match role {
+        Role::Old => &request.old,
+        Role::New => &request.new,
+    };
     match Walker::start(image, request, operand) {
         Ok(mut walker) => {
             let end = walker.run(role);
             Walk { steps: walker.steps, end }
         }
-        Err(number) => Walk { steps: 0, end: Err(number) },
+        Err(refusal) => Walk { steps: 0, end: Err(refusal) },
     }
 }
 
@@ -99,30 +135,23 @@ fn is_slash(byte: &u8) -> bool {
 }
 
 impl<'a> Walker<'a> {
-    /// What can be refused before any component is looked at.
-    fn start(image: &'a Image<'a>, request: &Request, operand: &Operand) -> Result<Walker<'a>, u8> {
+    /// Rules 46 to 49, before any component is looked at.
+    fn start(image: &'a Image<'a>, request: &Request, operand: &Operand) -> Result<Walker<'a>, Refusal> {
         let path = &operand.path;
         if path.is_empty() {
-            return Err(ENOENT);
+            return Err(EMPTY);
         }
         if path.len() > PATH_MAX {
-            return Err(ENAMETOOLONG);
+            return Err(LONG_PATH);
         }
-        let (directory, search_granted) = match path[0] {
-            b'/' => (0, false),
-            _ if operand.start == CURRENT => (request.current, false),
-            _ => {
-                let handle = image.handle(operand.start).filter(|handle| handle.state() != 0).ok_or(EBADF)?;
-                (handle.inode(), handle.state() == SEARCH_HANDLE)
-            }
-        };
+        let (directory, search_granted) = start_of(image, request, operand)?;
         if path.iter().all(is_slash) {
-            return Err(EBUSY);
+            return Err(SLASHES);
         }
         Ok(Walker { image, who: request.who, rest: path.clone(), directory, search_granted, followed: 0, steps: 0 })
     }
 
-    fn run(&mut self, role: Role) -> Result<Found, u8> {
+    fn run(&mut self, role: Role) -> Result<Found, Refusal> {
         loop {
             let (name, after) = self.next_component();
             self.may_look_up(&name)?;
@@ -133,52 +162,54 @@ impl<'a> Walker<'a> {
         }
     }
 
-    /// The next component, and what follows it, which is nothing or begins with a slash.
+    /// Rule 44: the next component, and what follows it, which is nothing or begins with a slash.
     fn next_component(&self) -> (Vec<u8>, Vec<u8>) {
         let start = self.rest.iter().take_while(|byte| is_slash(byte)).count();
         let name = self.rest[start..].split(is_slash).next().unwrap_or(&[]);
         (name.to_vec(), self.rest[start + name.len()..].to_vec())
     }
 
-    /// The checks that every component has to pass, dots too.
-    fn may_look_up(&mut self, name: &[u8]) -> Result<(), u8> {
+    /// Rules 50 to 52, asked of every component, dots too. Here is where they are counted (rule 61).
+    fn may_look_up(&mut self, name: &[u8]) -> Result<(), Refusal> {
         self.steps += 1;
         let granted = std::mem::replace(&mut self.search_granted, false);
         let inode = self.image.inode(self.directory).filter(|_| self.image.is_directory(self.directory));
-        let inode = inode.ok_or(ENOTDIR)?;
+        let inode = inode.ok_or(NO_DIRECTORY)?;
         if !granted && !may_search(self.who, inode) {
-            return Err(EACCES);
+            return Err(NO_SEARCH);
         }
         if name.len() > NAME_MAX {
-            return Err(ENAMETOOLONG);
+            return Err(LONG_NAME);
         }
         Ok(())
     }
 
+    /// Rule 45.
     fn look_up(&self, name: &[u8]) -> Option<Existing> {
         let slots = (0..).zip(self.image.entries());
         let mut named = slots.filter(|(_, entry)| entry.parent() == self.directory && entry.name() == name);
         named.next().map(|(slot, entry)| Existing { slot, inode: entry.target() })
     }
 
-    fn finish(&self, role: Role, name: Vec<u8>, slash: bool) -> Result<Found, u8> {
+    /// Rules 53, 59 and 60; and rule 58, since a final symlink is like any other name here.
+    fn finish(&self, role: Role, name: Vec<u8>, slash: bool) -> Result<Found, Refusal> {
         if name == b"." || name == b".." {
-            return Err(EINVAL);
+            return Err(FINAL_DOT);
         }
         let existing = self.look_up(&name);
         match existing {
-            None if role == Role::Old => Err(ENOENT),
-            Some(Existing { inode, .. }) if slash && !self.image.is_directory(inode) => Err(ENOTDIR),
+            None if role == Role::Old => Err(FINAL_MISSING),
+            Some(Existing { inode, .. }) if slash && !self.image.is_directory(inode) => Err(SLASH_BEHIND),
             _ => Ok(Found { directory: self.directory, name, existing, slash }),
         }
     }
 
-    /// Goes on to what a component before the final one stands for.
-    fn pass(&mut self, name: &[u8], after: Vec<u8>) -> Result<(), u8> {
+    /// Goes on to what a component before the final one stands for: rules 53 and 54.
+    fn pass(&mut self, name: &[u8], after: Vec<u8>) -> Result<(), Refusal> {
         let inode = match name {
             b"." => self.directory,
             b".." => self.image.inode(self.directory).map_or(0, |inode| inode.field()),
-            _ => self.look_up(name).ok_or(ENOENT)?.inode,
+            _ => self.look_up(name).ok_or(MISSING)?.inode,
         };
         match self.text_of(inode) {
             Some(text) => self.follow(text, &after),
@@ -195,14 +226,14 @@ impl<'a> Walker<'a> {
         self.image.text(symlink.field()).map(|text| text.bytes())
     }
 
-    /// Puts a symlink's text in place of its name. A relative text goes on in the directory of that name.
-    fn follow(&mut self, text: &[u8], after: &[u8]) -> Result<(), u8> {
+    /// Rules 55 to 57: a symlink's text takes the place of its name. A relative one goes on in the name's directory.
+    fn follow(&mut self, text: &[u8], after: &[u8]) -> Result<(), Refusal> {
         self.followed += 1;
         if self.followed > FOLLOWED_MAX {
-            return Err(ELOOP);
+            return Err(NINTH_SYMLINK);
         }
         if text.len() + after.len() > PATH_MAX {
-            return Err(ENAMETOOLONG);
+            return Err(LONG_JOIN);
         }
         if text.first().is_some_and(is_slash) {
             self.directory = 0;
@@ -210,4 +241,16 @@ impl<'a> Walker<'a> {
         self.rest = [text, after].concat();
         Ok(())
     }
+}
+
+/// Rules 41 and 48: where a path begins, and whether it may be searched unasked.
+fn start_of(image: &Image, request: &Request, operand: &Operand) -> Result<(u16, bool), Refusal> {
+    if operand.path.first().is_some_and(is_slash) {
+        return Ok((0, false));
+    }
+    if operand.start == CURRENT {
+        return Ok((request.current, false));
+    }
+    let handle = image.handle(operand.start).filter(|handle| handle.is_open()).ok_or(NO_HANDLE)?;
+    Ok((handle.inode(), handle.state() == OPENED_FOR_SEARCH))
 }

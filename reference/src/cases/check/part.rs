@@ -114,25 +114,3 @@ impl Collection {
         self.count(class, answer, answer.to_string());
     }
 }
-
-#[cfg(test)]
-mod tests {
-    use super::*;
-    use crate::vectors::{read, Case};
-
-    fn images(collection: &Collection) -> Vec<Vec<u8>> {
-        let image = |case: Case| match case {
-            Case::Check(image) => image,
-            other => panic!("a case of another job: {other:?}"),
-        };
-        read(&collection.writer.data).expect("the format is kept").into_iter().map(image).collect()
-    }
-
-    #[test]
-    fn the_stored_images_have_the_stored_answers() {
-        let collection = all();
-        assert!((4_000..=8_000).contains(&collection.lines.len()));
-        let answers: Vec<String> = images(&collection).iter().map(|image| check(image).to_string()).collect();
-        assert_eq!(answers, collection.lines);
-    }
-}

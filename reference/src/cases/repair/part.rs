@@ -72,79 +72,9 @@ impl Collection {
 }
 
 /// The answer, and the line with the checksums of both buffers after it.
-fn answer(repairing: &Repairing) -> (Answer, String) {
+pub fn answer(repairing: &Repairing) -> (Answer, String) {
     let (mut plan, mut scratch) = (repairing.plan.bytes(), repairing.scratch.bytes());
     let answer = repair(&repairing.image, &mut plan, &mut scratch);
     let Answer { number, rows } = answer;
     (answer, format!("{number} {rows} {} {}", checksum(&plan), checksum(&scratch)))
-}
-
-#[cfg(test)]
-mod tests {
-    use super::*;
-    use crate::model::check::check;
-    use crate::model::land::land;
-    use crate::model::numbers::{BUFFER_TOO_SHORT, DONE, INCONSISTENT, NOT_REPAIRABLE};
-    use crate::model::plan::PLAN_LEN;
-    use crate::vectors::{read, Case};
-    use std::collections::BTreeSet;
-    use std::sync::LazyLock;
-
-    static ALL: LazyLock<(Vec<Repairing>, Vec<String>)> = LazyLock::new(|| {
-        let collection = all();
-        let repairing = |case: Case| match case {
-            Case::Repair(repairing) => repairing,
-            other => panic!("a case of another job: {other:?}"),
-        };
-        let cases = read(&collection.writer.data).expect("the format is kept");
-        (cases.into_iter().map(repairing).collect(), collection.lines)
-    });
-
-    #[test]
-    fn the_stored_repairs_have_the_stored_answers() {
-        let (cases, lines) = &*ALL;
-        assert!((3_000..=6_000).contains(&lines.len()));
-        assert_eq!(cases.iter().map(|repairing| answer(repairing).1).collect::<Vec<_>>(), *lines);
-    }
-
-    /// Nothing to do, taken back, and finished with or without another parent, a replaced inode, a freed text.
-    #[test]
-    fn every_number_of_rows_is_planned() {
-        let rows: BTreeSet<u8> = ALL.0.iter().map(|repairing| answer(repairing).0.rows).collect();
-        assert_eq!(rows, BTreeSet::from([0, 1, 4, 5, 6, 7]));
-    }
-
-    #[test]
-    fn buffers_change_only_where_they_may() {
-        for Repairing { image, plan, scratch } in &ALL.0 {
-            let (mut plan_after, mut scratch_after) = (plan.bytes(), scratch.bytes());
-            let number = repair(image, &mut plan_after, &mut scratch_after).number;
-            let (of_plan, of_scratch) = match number {
-                DONE => (PLAN_LEN, image.len()),
-                NOT_REPAIRABLE => (0, image.len()),
-                number => {
-                    assert!([INCONSISTENT, BUFFER_TOO_SHORT].contains(&number));
-                    (0, 0)
-                }
-            };
-            assert_eq!(plan_after[of_plan..], plan.bytes()[of_plan..]);
-            assert_eq!(scratch_after[of_scratch..], scratch.bytes()[of_scratch..]);
-            assert!(number != NOT_REPAIRABLE || scratch_after[..of_scratch].iter().all(|&byte| byte == 0));
-        }
-    }
-
-    #[test]
-    fn whole_plans_lead_to_the_image_that_is_shown() {
-        for Repairing { image, plan, scratch } in &ALL.0 {
-            let (mut plan, mut scratch) = (plan.bytes(), scratch.bytes());
-            let Answer { number, rows } = repair(image, &mut plan, &mut scratch);
-            if number != DONE {
-                continue;
-            }
-            let mut landed = image.clone();
-            assert!((0..rows.into()).all(|row| land(&mut landed, &plan, row) == DONE));
-            assert_eq!(landed, scratch[..image.len()]);
-            assert_eq!(check(&landed), DONE);
-        }
-    }
 }

@@ -79,13 +79,13 @@ impl Collection {
     }
 }
 
-fn walks_of(walking: &Walking) -> Walks {
+pub fn walks_of(walking: &Walking) -> Walks {
     let image = Image::read(&walking.image).expect("the layout is right");
     walk_both(&image, &walking.request)
 }
 
 /// Number and counts, and where both walks end if neither is refused.
-fn line(walks: &Walks) -> String {
+pub fn line(walks: &Walks) -> String {
     let ends: String = walks.found.iter().flatten().map(end).collect();
     format!("{} {} {}{ends}", walks.number, walks.steps[0], walks.steps[1])
 }
@@ -95,47 +95,5 @@ fn end(found: &Found) -> String {
     match found.existing {
         Some(existing) => format!(" {directory} {} {} {slash}", existing.slot, existing.inode),
         None => format!(" {directory} {NONE} {NONE} {slash} {} {}", found.name.len(), checksum(&found.name)),
-    }
-}
-
-#[cfg(test)]
-mod tests {
-    use super::*;
-    use crate::model::numbers::{EACCES, EBADF, EBUSY, EINVAL, ELOOP, ENAMETOOLONG, ENOENT, ENOTDIR};
-    use crate::model::walk::{walk, Role};
-    use crate::vectors::{read, Case};
-    use std::collections::BTreeSet;
-
-    #[test]
-    fn the_stored_walks_have_the_stored_answers() {
-        let collection = all();
-        assert!((2_000..=4_000).contains(&collection.lines.len()));
-        let cases = read(&collection.writer.data).expect("the format is kept");
-        let line = |case: &Case| match case {
-            Case::Walk(walking) => line(&walks_of(walking)),
-            other => panic!("a case of another job: {other:?}"),
-        };
-        assert_eq!(cases.iter().map(line).collect::<Vec<_>>(), collection.lines);
-    }
-
-    #[test]
-    fn both_paths_are_refused_for_every_reason() {
-        let mut refusals = BTreeSet::new();
-        for case in read(&all().writer.data).expect("the format is kept") {
-            let Case::Walk(walking) = case else { panic!("a case of another job") };
-            let image = Image::read(&walking.image).expect("the layout is right");
-            let old = walk(&image, &walking.request, &walking.request.old, Role::Old);
-            refusals.insert((walks_of(&walking).number, old.end.is_err()));
-        }
-        for number in [ENOENT, EBADF, EACCES, EBUSY, ENOTDIR, EINVAL, ENAMETOOLONG, ELOOP] {
-            assert!(refusals.contains(&(number, true)), "{number} for old");
-            assert!(refusals.contains(&(number, false)), "{number} for new");
-        }
-    }
-
-    #[test]
-    fn a_walk_has_at_most_384_steps() {
-        let steps = |line: &String| line.split(' ').nth(1).and_then(|steps| steps.parse::<u16>().ok());
-        assert_eq!(all().lines.iter().filter_map(steps).max(), Some(384));
     }
 }

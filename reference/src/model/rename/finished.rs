@@ -1,4 +1,4 @@
-//! The image that a rename is to lead to, made from the one before without a plan.
+//! The image that a rename is to lead to, made from the one before without a plan (rules 88 to 93).
 
 use crate::model::image::{Image, DIRECTORY, FREE, SYMLINK};
 use crate::model::layout::{Layout, ENTRIES, INODES, SECTIONS, TEXTS};
@@ -89,7 +89,7 @@ impl Draft {
         record[8..8 + name.len()].copy_from_slice(name);
     }
 
-    /// After its entry is gone: an inode without any other goes too, and a symlink's text with it.
+    /// Rule 91, after its entry is gone: an inode without any other goes too, and a symlink's text with it.
     fn take_name_from(&mut self, replaced: Existing, now: u64) {
         if self.entries().iter().any(|&(_, target)| target == replaced.inode) {
             self.put(replaced.inode, 24, &now.to_le_bytes());
@@ -101,7 +101,7 @@ impl Draft {
         self.clear(INODES, replaced.inode.into());
     }
 
-    /// Counts the links of every inode anew. Only those that the rename concerns can have another count than before.
+    /// Rules 31, 32 and 88: counts the links of every inode anew. Only those that the rename concerns can have another count than before.
     fn recount(&mut self) {
         let entries = self.entries();
         for inode in 0..self.layout.counts[INODES] as u16 {

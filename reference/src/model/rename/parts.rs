@@ -1,4 +1,4 @@
-//! The parts of a rename, as both walks have found them.
+//! The parts of a rename, as both walks have found them (rule 64).
 
 use crate::model::image::{Image, Inode, DIRECTORY};
 use crate::model::permission::Credentials;

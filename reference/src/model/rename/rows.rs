@@ -1,4 +1,4 @@
-//! The rows of a rename, and how they are written into the plan.
+//! The rows of a rename, and how they are written into the plan (rules 85 to 92).
 
 use super::parts::Parts;
 use crate::model::image::{Inode, SYMLINK};
@@ -36,7 +36,7 @@ fn put_u64(record: &mut [u8], at: usize, value: u64) {
     record[at..at + 8].copy_from_slice(&value.to_le_bytes());
 }
 
-/// Every record that the rename writes, in the order of the rows.
+/// Rule 85: every record that the rename writes, in the order of the rows.
 pub fn stores(parts: &Parts, now: u64) -> Vec<Store> {
     let inode = |number: u16, body: Vec<u8>| Store { group: THE_REST, section: INODES, number, body };
     let new_slot = parts.replaced.map(|replaced| replaced.slot).or(parts.lowest_free_slot()).unwrap_or(NONE);
@@ -58,12 +58,13 @@ pub fn stores(parts: &Parts, now: u64) -> Vec<Store> {
     stores
 }
 
-/// The text of a symlink that loses its last name.
+/// Rule 91: the text of a symlink that loses its last name.
 fn text_freed_with(parts: &Parts, replaced: Existing) -> Option<u16> {
     let inode = parts.inode(replaced.inode);
     (inode.kind() == SYMLINK && parts.names_left(replaced) == 0).then(|| inode.field())
 }
 
+/// Rule 87.
 fn journal_record(parts: &Parts, new_slot: u16, freed_text: Option<u16>, now: u64) -> Vec<u8> {
     let replaced = parts.replaced.map(|replaced| replaced.inode);
     let numbers = [
@@ -83,7 +84,7 @@ fn journal_record(parts: &Parts, new_slot: u16, freed_text: Option<u16>, now: u6
     record
 }
 
-/// Where the name exists already, this is its entry with another target.
+/// Rule 86: where the name exists already, this is its entry with another target.
 fn new_entry(parts: &Parts) -> Vec<u8> {
     let mut record = cleared(ENTRIES);
     put_u16(&mut record, 0, parts.new_parent);
@@ -93,12 +94,14 @@ fn new_entry(parts: &Parts) -> Vec<u8> {
     record
 }
 
+/// Rule 92: any time is stored as it is given.
 fn changed_at(inode: Inode, now: u64) -> Vec<u8> {
     let mut record = inode.0.to_vec();
     put_u64(&mut record, 24, now);
     record
 }
 
+/// Rule 89.
 fn moved_inode(parts: &Parts, now: u64) -> Vec<u8> {
     let mut record = changed_at(parts.inode(parts.moved.inode), now);
     if parts.moves_a_directory() {
@@ -107,6 +110,7 @@ fn moved_inode(parts: &Parts, now: u64) -> Vec<u8> {
     record
 }
 
+/// Rule 90. Only the moved and the replaced inode come or go, so that rule 31 is kept by counting those (rule 88).
 fn parent_inode(parts: &Parts, directory: u16, now: u64) -> Vec<u8> {
     let inode = parts.inode(directory);
     let mut record = changed_at(inode, now);
@@ -125,7 +129,7 @@ fn directories_lost(parts: &Parts, directory: u16) -> u16 {
     u16::from(moved) + u16::from(replaced)
 }
 
-/// Nothing is left of an inode without names.
+/// Rule 91: nothing is left of an inode without names.
 fn replaced_inode(parts: &Parts, replaced: Existing, now: u64) -> Vec<u8> {
     let inode = parts.inode(replaced.inode);
     match parts.names_left(replaced) {
@@ -138,7 +142,7 @@ fn replaced_inode(parts: &Parts, replaced: Existing, now: u64) -> Vec<u8> {
     }
 }
 
-/// Clears the plan and puts the rows; what a buffer has past the plan stays.
+/// Rules 79 and 82: clears the plan and puts the rows; what a buffer has past the plan stays.
 pub fn write(plan: &mut [u8], layout: &Layout, stores: &[Store]) {
     plan[..PLAN_LEN].fill(0);
     for (number, store) in stores.iter().enumerate() {

@@ -1,4 +1,4 @@
-//! A copy of the image on which a rename is carried to its end; each record that is written becomes a row.
+//! A copy of the image on which a rename is carried to its end (rule 108); each record that is written becomes a row.
 
 use super::journal::Journal;
 use crate::model::image::{DIRECTORY, FREE};
@@ -53,6 +53,7 @@ impl Redo {
         place
     }
 
+    /// Rule 89.
     fn write_moved(&mut self, journal: &Journal, new_parent: u16) {
         let inode = self.begin(THE_REST, INODES, journal.moved).start;
         self.put(inode + 24, &journal.now);
@@ -61,6 +62,7 @@ impl Redo {
         }
     }
 
+    /// Rule 90.
     fn write_parent(&mut self, directory: u16, now: [u8; 8]) {
         let inode = self.begin(THE_REST, INODES, directory).start;
         self.put(inode + 16, &now);
@@ -68,7 +70,7 @@ impl Redo {
         self.put(inode + 12, &self.links(directory).to_le_bytes());
     }
 
-    /// Nothing is left of an inode without names.
+    /// Rule 91: nothing is left of an inode without names.
     fn write_replaced(&mut self, number: u16, now: [u8; 8]) {
         if self.names(number) == 0 {
             self.clear(THE_REST, INODES, number);
@@ -83,7 +85,7 @@ impl Redo {
         self.bytes[at..at + field.len()].copy_from_slice(field);
     }
 
-    /// What the count has to be: of a directory two and its subdirectories, of any other inode its names.
+    /// Rules 31 and 32: of a directory two and its subdirectories, of any other inode its names.
     fn links(&self, number: u16) -> u16 {
         match self.kind(number) {
             DIRECTORY => 2 + self.count(|parent, target| parent == number && self.kind(target) == DIRECTORY),
