@@ -1,4 +1,5 @@
-//! Every crash of a rename: all the states that landings and crashes can lead to, and what must hold in each of them.
+//! Every crash of a rename: all the states that landings and crashes can lead to (rules 112 to 116), and what must hold in
+//! each of them (rule 117).
 
 mod planned_rename;
 
@@ -125,6 +126,7 @@ pub fn explore(planned: &PlannedRename, repair: Repair) -> Result<Explored, Brea
 }
 
 impl Explorer<'_> {
+    /// Rule 112.
     fn start(&mut self) -> Result<(), Breach> {
         let image = self.image(self.planned.before.clone())?;
         let plan = self.buffers.number(self.planned.plan.clone()).0;
@@ -160,7 +162,7 @@ impl Explorer<'_> {
         }
     }
 
-    /// Once the rename is whole, or some repair is, the image has to be the right one of two, and to stay so.
+    /// Rules 116 and 117: once the rename is whole, or some repair is, the image has to be the right one of two, and to stay so.
     fn holds_at_rest(&self, state: State) -> Result<(), Breach> {
         let breach = match state {
             State { done: true, new_name_landed: true, .. } => Breach::RepairUnfinished,
@@ -174,7 +176,7 @@ impl Explorer<'_> {
         }
     }
 
-    /// All that waits is lost. Repair is called with buffers that are long enough, or with too short ones.
+    /// Rule 115: all that waits is lost. Repair is called with buffers that are long enough, or with too short ones.
     fn crash(&mut self, state: State) -> Result<(), Breach> {
         self.enter(State { plan: 0, waiting: 0, waited: Waited::Nobody, ..state });
         let (plan, rows, scratch) = match self.repaired.get(&state.image) {
@@ -200,7 +202,7 @@ impl Explorer<'_> {
         Ok(known)
     }
 
-    /// The rows that wait while none of a lower group does.
+    /// Rule 113: the rows that wait while none of a lower group does.
     fn next_rows(&self, state: State) -> Vec<usize> {
         let group = |row: usize| Row::read(&self.buffers.all[state.plan], row).group;
         let waiting = || (0..ROWS).filter(|row| state.waiting & 1 << row != 0);
@@ -251,7 +253,7 @@ fn short_buffers_are_refused(image: &[u8], repair: Repair) -> Result<(), Breach>
     Ok(())
 }
 
-/// Numbers that no row has, some of them once multiplied or cut; rows of no plan; and a plan that is too short.
+/// Rule 114. Numbers that no row has, some of them once multiplied or cut; rows of no plan; and a plan that is too short.
 fn refused_landings_change_nothing(image: &mut [u8], plan: &[u8]) -> Result<(), Breach> {
     let before = image.to_vec();
     let numbers = [9, 10, 255, 256, 1 << 16, 1 << 32, 1 << 61, u64::MAX];

@@ -47,7 +47,7 @@ impl PlannedRename {
         image
     }
 
-    /// The moved inode has a name, and the replaced one's entry leads to one of the two.
+    /// Rule 117: the moved inode has a name, and the replaced one's entry leads to one of the two.
     pub fn names_hold(&self, image: &[u8]) -> Result<(), Breach> {
         let (before, image) = Image::read(&self.before).zip(Image::read(image)).ok_or(Breach::NoName)?;
         if !image.entries().any(|entry| entry.name_len() != 0 && entry.target() == self.moved) {

@@ -6,6 +6,7 @@ use super::plan::{body_position, Row, PLAN_LEN, ROWS};
 use super::refusal::Refusal;
 use std::ops::{Range, RangeInclusive};
 
+/// A header of zeros is no row (rule 83) and needs no test of its own, since its group is none of these.
 const GROUPS: RangeInclusive<u8> = 1..=4;
 
 /// Handles are not among them: no plan writes one.

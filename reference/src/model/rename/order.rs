@@ -11,7 +11,7 @@ use crate::model::numbers::{
 use crate::model::plan::PLAN_LEN;
 use crate::model::refusal::Refusal;
 
-/// The places in the order, as document 01 counts them; step 1 is the place behind new's walk.
+/// The places in the order; step 1 is the one behind new's walk.
 #[derive(Clone, Copy, Debug, PartialEq, Eq, PartialOrd, Ord)]
 pub enum Place {
     Buffer,
