@@ -32,21 +32,19 @@ pub enum Test {
     Parts(Refusal, fn(&Parts) -> bool),
 }
 
-use Test::Call as Asks;
-
 const fn step(rule: u8, clause: &'static str, number: u8, applies: fn(&Parts) -> bool) -> (Place, Test) {
     (Place::Step(rule - 64), Test::Parts(Refusal::new(rule, clause, number), applies))
 }
 
 /// Every test in its order. A step that has several clauses is several tests; step 1 is no refusal but stops there too.
 pub const ORDER: [(Place, Test); 27] = [
-    (Place::Buffer, Asks(short_buffer)),
-    (Place::Layout, Asks(bad_layout)),
-    (Place::Journal, Asks(pending_journal)),
-    (Place::Records, Asks(broken_records)),
-    (Place::Request, Asks(wrong_request)),
-    (Place::OldWalk, Asks(refused_old)),
-    (Place::NewWalk, Asks(refused_new)),
+    (Place::Buffer, Test::Call(short_buffer)),
+    (Place::Layout, Test::Call(bad_layout)),
+    (Place::Journal, Test::Call(pending_journal)),
+    (Place::Records, Test::Call(broken_records)),
+    (Place::Request, Test::Call(wrong_request)),
+    (Place::OldWalk, Test::Call(refused_old)),
+    (Place::NewWalk, Test::Call(refused_new)),
     step(65, "one inode", DONE, steps::one_inode),
     step(66, "from is read-only", EROFS, steps::from_is_read_only),
     step(66, "into is read-only", EROFS, steps::into_is_read_only),
