@@ -1,9 +1,12 @@
 //! The parts of the vectors: each has a file of cases, and a line of expected answer for each of them.
 
 pub mod check;
+pub mod damage;
 pub mod land;
+pub mod random;
 pub mod rename;
 pub mod repair;
+pub mod trees;
 pub mod walk;
 
 use crate::vectors::Writer;
@@ -19,15 +22,15 @@ pub const ANSWERS: &str = "crates/vectors/stdout";
 /// Every part, in the order of the answers; this list alone decides what is written and verified.
 pub const PARTS: &[Part] = &[
     // an image: its number
-    Part { name: "check", make: check::all },
+    Part { name: "check", make: check::part::all },
     // an image, a plan, a row: the number and the image after
-    Part { name: "land", make: land::all },
+    Part { name: "land", make: land::part::all },
     // an image, a request: where both walks end
-    Part { name: "walk", make: walk::all },
+    Part { name: "walk", make: walk::part::all },
     // an image, a buffer, a request: number, rows, both counts and the buffer after
-    Part { name: "rename", make: rename::all },
+    Part { name: "rename", make: rename::part::all },
     // an image, a plan buffer, a scratch buffer: number, rows and both buffers after
-    Part { name: "repair", make: repair::all },
+    Part { name: "repair", make: repair::part::all },
 ];
 
 /// The cases of one class, by the numbers that answer them.
@@ -75,27 +78,5 @@ impl Collection {
         table.extend(self.classes.iter().map(|class| row(class.name, &class.numbers)));
         table.push(row("all", &all));
         table
-    }
-}
-
-#[cfg(test)]
-mod tests {
-    use super::*;
-
-    #[test]
-    fn the_document_counts_every_class() {
-        let document = include_str!("../../docs/VECTORS.md");
-        for part in PARTS {
-            for row in (part.make)().table() {
-                assert!(document.lines().any(|line| line == row), "{}: docs/VECTORS.md lacks the row {row}", part.name);
-            }
-        }
-    }
-
-    #[test]
-    fn every_file_stays_small() {
-        for part in PARTS {
-            assert!((part.make)().writer.data.len() < 1_000_000, "{}", part.name);
-        }
     }
 }

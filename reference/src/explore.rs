@@ -1,12 +1,14 @@
-//! Every crash of a rename: all the states that landings and crashes can lead to, and what must hold in each of them.
+//! Every crash of a rename: all the states that landings and crashes can lead to (rules 112 to 116), and what must hold in
+//! each of them (rule 117).
 
-mod story;
+mod planned_rename;
 
-pub use story::Story;
+pub use planned_rename::PlannedRename;
 
-use crate::land::{land, BUFFER_TOO_SHORT, LANDED};
-use crate::plan::{Row, PLAN_LEN, ROWS};
-use crate::repair::{Answer, REPAIRED};
+use crate::model::land::land;
+use crate::model::numbers::{BUFFER_TOO_SHORT, DONE};
+use crate::model::plan::{Row, PLAN_LEN, ROWS};
+use crate::model::repair::Answer;
 use std::collections::{HashMap, HashSet, VecDeque};
 
 pub type Repair = fn(&[u8], &mut [u8], &mut [u8]) -> Answer;
@@ -87,7 +89,7 @@ impl Pool {
 }
 
 struct Explorer<'a> {
-    story: &'a Story,
+    planned: &'a PlannedRename,
     repair: Repair,
     images: Pool,
     /// What plans and scratches hold.
@@ -101,9 +103,9 @@ struct Explorer<'a> {
 }
 
 /// Goes through every state; gives the breach that the fewest landings and crashes lead to.
-pub fn explore(story: &Story, repair: Repair) -> Result<Explored, Breach> {
+pub fn explore(planned: &PlannedRename, repair: Repair) -> Result<Explored, Breach> {
     let mut explorer = Explorer {
-        story,
+        planned,
         repair,
         images: Pool::default(),
         buffers: Pool::default(),
@@ -124,10 +126,11 @@ pub fn explore(story: &Story, repair: Repair) -> Result<Explored, Breach> {
 }
 
 impl Explorer<'_> {
+    /// Rule 112.
     fn start(&mut self) -> Result<(), Breach> {
-        let image = self.image(self.story.before.clone())?;
-        let plan = self.buffers.number(self.story.plan.clone()).0;
-        let waiting = all_of(self.story.rows);
+        let image = self.image(self.planned.before.clone())?;
+        let plan = self.buffers.number(self.planned.plan.clone()).0;
+        let waiting = all_of(self.planned.rows);
         let waited = Waited::Rename;
         self.enter(State { image, plan, waiting, waited, new_name_landed: false, done: false });
         Ok(())
@@ -145,7 +148,7 @@ impl Explorer<'_> {
         let (number, new) = self.images.number(bytes);
         if new {
             let bytes = &self.images.all[number];
-            self.story.names_hold(bytes)?;
+            self.planned.names_hold(bytes)?;
             short_buffers_are_refused(bytes, self.repair)?;
         }
         Ok(number)
@@ -154,12 +157,12 @@ impl Explorer<'_> {
     /// The image before, or the finished one.
     fn outcome(&self, state: State) -> &[u8] {
         match state.new_name_landed {
-            true => &self.story.finished,
-            false => &self.story.before,
+            true => &self.planned.finished,
+            false => &self.planned.before,
         }
     }
 
-    /// Once the rename is whole, or some repair is, the image has to be the right one of two, and to stay so.
+    /// Rules 116 and 117: once the rename is whole, or some repair is, the image has to be the right one of two, and to stay so.
     fn holds_at_rest(&self, state: State) -> Result<(), Breach> {
         let breach = match state {
             State { done: true, new_name_landed: true, .. } => Breach::RepairUnfinished,
@@ -173,7 +176,7 @@ impl Explorer<'_> {
         }
     }
 
-    /// All that waits is lost. Repair is called with buffers that are long enough, or with too short ones.
+    /// Rule 115: all that waits is lost. Repair is called with buffers that are long enough, or with too short ones.
     fn crash(&mut self, state: State) -> Result<(), Breach> {
         self.enter(State { plan: 0, waiting: 0, waited: Waited::Nobody, ..state });
         let (plan, rows, scratch) = match self.repaired.get(&state.image) {
@@ -191,7 +194,7 @@ impl Explorer<'_> {
         let bytes = &self.images.all[image];
         let (mut plan, mut scratch) = (vec![0xa5; PLAN_LEN], vec![0x5a; bytes.len()]);
         let Answer { number, rows } = (self.repair)(bytes, &mut plan, &mut scratch);
-        if number != REPAIRED {
+        if number != DONE {
             return Err(Breach::RepairRefused(number));
         }
         let known = (self.buffers.number(plan).0, rows, self.buffers.number(scratch).0);
@@ -199,7 +202,7 @@ impl Explorer<'_> {
         Ok(known)
     }
 
-    /// The rows that wait while none of a lower group does.
+    /// Rule 113: the rows that wait while none of a lower group does.
     fn next_rows(&self, state: State) -> Vec<usize> {
         let group = |row: usize| Row::read(&self.buffers.all[state.plan], row).group;
         let waiting = || (0..ROWS).filter(|row| state.waiting & 1 << row != 0);
@@ -212,7 +215,7 @@ impl Explorer<'_> {
             Some(&known) => known,
             None => self.land_anew(state, row)?,
         };
-        let decides = state.waited == Waited::Rename && row == self.story.new_entry;
+        let decides = state.waited == Waited::Rename && row == self.planned.new_entry;
         let new_name_landed = state.new_name_landed || decides;
         self.enter(State { image, waiting: state.waiting & !(1 << row), new_name_landed, ..state });
         Ok(())
@@ -223,7 +226,7 @@ impl Explorer<'_> {
         let mut bytes = self.images.all[state.image].clone();
         refused_landings_change_nothing(&mut bytes, plan)?;
         match land(&mut bytes, plan, row as u64) {
-            LANDED => {
+            DONE => {
                 let image = self.image(bytes)?;
                 self.landed.insert((state.image, state.plan, row), image);
                 Ok(image)
@@ -250,14 +253,14 @@ fn short_buffers_are_refused(image: &[u8], repair: Repair) -> Result<(), Breach>
     Ok(())
 }
 
-/// Numbers that no row has, some of them once multiplied or cut; rows of no plan; and a plan that is too short.
+/// Rule 114. Numbers that no row has, some of them once multiplied or cut; rows of no plan; and a plan that is too short.
 fn refused_landings_change_nothing(image: &mut [u8], plan: &[u8]) -> Result<(), Breach> {
     let before = image.to_vec();
     let numbers = [9, 10, 255, 256, 1 << 16, 1 << 32, 1 << 61, u64::MAX];
     let mut answers: Vec<u8> = numbers.iter().map(|&number| land(image, plan, number)).collect();
     answers.push(land(image, &[0; PLAN_LEN], 0));
     answers.push(land(image, &plan[..PLAN_LEN - 1], 0));
-    match answers.contains(&LANDED) || image != before {
+    match answers.contains(&DONE) || image != before {
         true => Err(Breach::RefusedLanding),
         false => Ok(()),
     }

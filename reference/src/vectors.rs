@@ -4,7 +4,7 @@ mod read;
 
 pub use read::read;
 
-use crate::request::Request;
+use crate::model::request::Request;
 
 /// Limits of the format, for programs that read it with fixed buffers.
 pub const LONGEST_BASE: usize = 53_448;
@@ -226,8 +226,8 @@ fn runs(plan: &[u8]) -> Vec<(usize, &[u8])> {
 #[cfg(test)]
 mod tests {
     use super::*;
-    use crate::permission::Credentials;
-    use crate::request::Operand;
+    use crate::model::permission::Credentials;
+    use crate::model::request::Operand;
 
     #[test]
     fn checks_are_read_as_they_were_written() {

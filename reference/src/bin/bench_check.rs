@@ -1,8 +1,9 @@
 //! Times the check of the proved library's archive against the model's, on the same images.
 
-use mirepillar_reference::bench_tree::bench_tree;
-use mirepillar_reference::check::{check, CONSISTENT};
-use mirepillar_reference::generate::{generate, FULL};
+use mirepillar_reference::cases::trees::bench::bench_tree;
+use mirepillar_reference::cases::trees::generated::{generate, FULL};
+use mirepillar_reference::model::check::check;
+use mirepillar_reference::model::numbers::DONE;
 use std::hint::black_box;
 use std::process::ExitCode;
 use std::time::Instant;
@@ -42,7 +43,7 @@ fn median(mut times: Vec<f64>) -> f64 {
 fn compare(name: &str, image: &[u8], checks: usize) -> Result<(), String> {
     for (program, check) in [("library", library as Check), ("model", model)] {
         let answer = check(image);
-        if answer != u64::from(CONSISTENT) {
+        if answer != u64::from(DONE) {
             return Err(format!("the {program} answers {answer} on a consistent image ({name})"));
         }
         batch(check, image, checks);

@@ -1,14 +1,14 @@
 //! Times the rename of the proved library's archive against the model's: renames that plan rows, on the same images and requests.
 
-use mirepillar_reference::bench_tree::bench_tree;
-use mirepillar_reference::builder::Tree;
-use mirepillar_reference::generate::{generate, FULL};
-use mirepillar_reference::permission::{Credentials, SUPERUSER};
-use mirepillar_reference::plan::PLAN_LEN;
-use mirepillar_reference::random::Random;
-use mirepillar_reference::rename::rename;
-use mirepillar_reference::renames::wander::straight;
-use mirepillar_reference::request::Request;
+use mirepillar_reference::cases::random::Random;
+use mirepillar_reference::cases::rename::random_renames::straight;
+use mirepillar_reference::cases::trees::bench::bench_tree;
+use mirepillar_reference::cases::trees::builder::Tree;
+use mirepillar_reference::cases::trees::generated::{generate, FULL};
+use mirepillar_reference::model::permission::{Credentials, SUPERUSER};
+use mirepillar_reference::model::plan::PLAN_LEN;
+use mirepillar_reference::model::rename::rename;
+use mirepillar_reference::model::request::Request;
 use std::hint::black_box;
 use std::process::ExitCode;
 use std::time::Instant;

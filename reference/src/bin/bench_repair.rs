@@ -1,15 +1,15 @@
 //! Times the repair of the proved library's archive against the model's: renames taken back, and carried to their end.
 
-use mirepillar_reference::bench_tree::bench_tree;
-use mirepillar_reference::builder::Tree;
-use mirepillar_reference::explore::Story;
-use mirepillar_reference::generate::{generate, FULL};
-use mirepillar_reference::permission::{Credentials, SUPERUSER};
-use mirepillar_reference::plan::PLAN_LEN;
-use mirepillar_reference::random::Random;
-use mirepillar_reference::renames::wander::straight;
-use mirepillar_reference::repair::repair;
-use mirepillar_reference::request::Request;
+use mirepillar_reference::cases::random::Random;
+use mirepillar_reference::cases::rename::random_renames::straight;
+use mirepillar_reference::cases::trees::bench::bench_tree;
+use mirepillar_reference::cases::trees::builder::Tree;
+use mirepillar_reference::cases::trees::generated::{generate, FULL};
+use mirepillar_reference::explore::PlannedRename;
+use mirepillar_reference::model::permission::{Credentials, SUPERUSER};
+use mirepillar_reference::model::plan::PLAN_LEN;
+use mirepillar_reference::model::repair::repair;
+use mirepillar_reference::model::request::Request;
 use std::hint::black_box;
 use std::process::ExitCode;
 use std::time::Instant;
@@ -44,13 +44,13 @@ fn model(image: &[u8], plan: &mut [u8], scratch: &mut [u8]) -> u64 {
 }
 
 /// A rename from name to name that has rows; on the full image there is no free slot for another name.
-fn any_story(tree: &Tree) -> Story {
+fn any_rename(tree: &Tree) -> PlannedRename {
     let image = tree.encode();
     let random = &mut Random::new(1);
     let any = || {
         let (old, new) = (straight(tree, false, random), straight(tree, false, random));
         let request = Request { who: Credentials { user: SUPERUSER, group: 0 }, current: 0, old, new };
-        Story::new(&image, &request, NOW)
+        PlannedRename::new(&image, &request, NOW)
     };
     std::iter::repeat_with(any).flatten().next().expect("some rename is not refused")
 }
@@ -108,7 +108,7 @@ fn compare(name: &str, image: &[u8], repairs: usize) -> Result<(), String> {
 }
 
 fn all() -> Result<(), String> {
-    let (full, bench) = (any_story(&generate(FULL, 0)), any_story(&bench_tree()));
+    let (full, bench) = (any_rename(&generate(FULL, 0)), any_rename(&bench_tree()));
     compare("full, nothing to do", &full.before, 32)?;
     compare("full, taken back", &full.after([0]), 32)?;
     compare("full, finished", &full.after([0, 1]), 32)?;

@@ -1,147 +1,115 @@
-//! All cases of repair: which images, and how many of each kind.
+//! Repair cases: images as crashes leave them, and others with a journal record; most have number and rows told.
 
-use crate::bench_tree::bench_tree;
-use crate::cases::Collection;
-use crate::court::court;
-use crate::damage::Subject;
-use crate::generate::{generate, DEEP, FULL};
-use crate::random::Random;
-use crate::repair::{repair, Answer};
-use crate::repairs::{buffers, crafted, crashes, damage, full, idle, journals, limits, numbers, times, RepairCases};
-use crate::vectors::{checksum, Buffer, Repairing, Scratch, LONGEST_SCRATCH};
+pub mod buffers;
+pub mod clear_journal;
+pub mod crashes;
+pub mod damaged_images;
+pub mod foreign_journals;
+pub mod full_size;
+pub mod journal_form;
+pub mod journal_numbers;
+pub mod limits;
+pub mod part;
+pub mod times;
 
-/// How many random changes each image on the way gets.
-const CHANGES: usize = 45;
+use crate::cases::damage::subject::put_u16;
+use crate::cases::trees::builder::Tree;
+use crate::cases::trees::for_crashes::{crash_tree, OWNER};
+use crate::explore::PlannedRename;
+use crate::model::layout::{Layout, JOURNAL};
+use crate::model::numbers::{DONE, NOT_REPAIRABLE};
+use crate::model::permission::Credentials;
+use crate::model::repair::Answer;
+use crate::model::request::{Operand, Request, CURRENT};
+use crate::vectors::{Buffer, Scratch};
 
-/// Buffers that are long enough, for cases that ask for no other; the scratch's by what it is longer than the image.
-const PLANS: [u16; 5] = [648, 649, 648, 700, 1024];
-const MORE: [usize; 4] = [0, 1, 0, 37];
-
-/// Makes every case. It panics where a case is not answered as its table tells.
-pub fn all() -> Collection {
-    let mut collection = Collection::default();
-    let random = &mut Random::new(16);
-    let bench = bench_tree().encode();
-    collection.add_repairs(&bench, crashes::on_the_bench());
-    collection.add_repairs(&bench, idle::consistent());
-    collection.add_repairs(&bench, idle::damaged(&Subject::new(bench_tree()), random));
-    let on_the_court = [
-        crashes::on_the_court(),
-        journals::cases(),
-        numbers::cases(),
-        damage::of_the_layout(random),
-        damage::of_the_records(random),
-        damage::of_other_records(),
-        times::cases(),
-        buffers::cases(),
-        damage::by_chance(CHANGES, random),
-    ];
-    collection.add_repairs(&court().encode(), on_the_court.concat());
-    collection.add_repairs(&bench, limits::names());
-    collection.add_repairs(&bench, limits::subdirectories());
-    for (tree, count) in crafted::trees() {
-        collection.add_repairs(&tree.encode(), crafted::cases(&tree, count, random));
-    }
-    for aim in [FULL, DEEP] {
-        let tree = generate(aim, 7);
-        let story = full::any_story(&tree, random);
-        collection.add_repairs(&full::home(&story), full::cases(&tree, &story, random));
-    }
-    collection
+#[derive(Clone)]
+pub struct RepairCase {
+    pub class: &'static str,
+    pub image: Vec<u8>,
+    /// Nothing where any buffers that are long enough will do.
+    pub buffers: Option<(Buffer, Scratch)>,
+    /// Nothing where the model's answer stands.
+    pub told: Option<Answer>,
 }
 
-impl Collection {
-    /// Cases on images some of which are near one. Where a case asks for no buffers, some take turns.
-    fn add_repairs(&mut self, home: &[u8], cases: RepairCases) {
-        for case in cases {
-            let turn = self.lines.len();
-            let plan = Buffer { len: PLANS[turn % PLANS.len()], fill: (37 * turn) as u8 };
-            let len = (case.image.len() + MORE[turn % MORE.len()]).min(LONGEST_SCRATCH) as u32;
-            let scratch = Scratch { len, fill: (91 * turn) as u8 };
-            let (plan, scratch) = case.buffers.unwrap_or((plan, scratch));
-            let repairing = Repairing { image: case.image, plan, scratch };
-            let (answer, line) = answer(&repairing);
-            assert_eq!(answer, case.told.unwrap_or(answer), "{}: case {turn}", case.class);
-            self.writer.repair(home, &repairing);
-            self.count(case.class, answer.number, line);
-        }
-    }
+pub type RepairCases = Vec<RepairCase>;
+
+/// A little behind the time of the crash tree, so that an inode that was written differs in few bytes.
+const NOW: u64 = 103;
+
+/// What stands for no inode or no text in a journal record.
+const NONE: u16 = 65_535;
+
+fn told(class: &'static str, image: Vec<u8>, number: u8, rows: u8) -> RepairCase {
+    RepairCase { class, image, buffers: None, told: Some(Answer { number, rows }) }
 }
 
-/// The answer, and the line with the checksums of both buffers after it.
-fn answer(repairing: &Repairing) -> (Answer, String) {
-    let (mut plan, mut scratch) = (repairing.plan.bytes(), repairing.scratch.bytes());
-    let answer = repair(&repairing.image, &mut plan, &mut scratch);
-    let Answer { number, rows } = answer;
-    (answer, format!("{number} {rows} {} {}", checksum(&plan), checksum(&scratch)))
+fn repaired(class: &'static str, image: Vec<u8>, rows: u8) -> RepairCase {
+    told(class, image, DONE, rows)
 }
 
-#[cfg(test)]
-mod tests {
-    use super::*;
-    use crate::check::{check, CONSISTENT, INCONSISTENT};
-    use crate::land::{land, BUFFER_TOO_SHORT, LANDED};
-    use crate::plan::PLAN_LEN;
-    use crate::repair::{NOT_REPAIRABLE, REPAIRED};
-    use crate::vectors::{read, Case};
-    use std::collections::BTreeSet;
-    use std::sync::LazyLock;
+fn refused(class: &'static str, image: Vec<u8>) -> RepairCase {
+    told(class, image, NOT_REPAIRABLE, 0)
+}
 
-    static ALL: LazyLock<(Vec<Repairing>, Vec<String>)> = LazyLock::new(|| {
-        let collection = all();
-        let repairing = |case: Case| match case {
-            Case::Repair(repairing) => repairing,
-            other => panic!("a case of another job: {other:?}"),
-        };
-        let cases = read(&collection.writer.data).expect("the format is kept");
-        (cases.into_iter().map(repairing).collect(), collection.lines)
-    });
+/// The model's answer stands.
+fn open(class: &'static str, image: Vec<u8>) -> RepairCase {
+    RepairCase { class, image, buffers: None, told: None }
+}
 
-    #[test]
-    fn the_stored_repairs_have_the_stored_answers() {
-        let (cases, lines) = &*ALL;
-        assert!((3_000..=6_000).contains(&lines.len()));
-        assert_eq!(cases.iter().map(|repairing| answer(repairing).1).collect::<Vec<_>>(), *lines);
+fn request(old: &str, new: &str) -> Request {
+    let operand = |path: &str| Operand::new(CURRENT, path.as_bytes());
+    Request { who: Credentials { user: OWNER, group: OWNER }, current: 0, old: operand(old), new: operand(new) }
+}
+
+fn planned(tree: &Tree, old: &str, new: &str) -> PlannedRename {
+    PlannedRename::new(&tree.encode(), &request(old, new), NOW).expect("the rename has rows")
+}
+
+/// One rename of each kind on the crash tree: a file, a symlink, a directory that replaces nothing, or an inode that goes.
+fn kinds() -> [PlannedRename; 4] {
+    let tree = crash_tree();
+    [("/p/f", "/q/x"), ("/p/l", "/q/y"), ("/p/d", "/q/new"), ("/p/d", "/p/e")]
+        .map(|(old, new)| planned(&tree, old, new))
+}
+
+fn layout(image: &[u8]) -> Layout {
+    Layout::read(image).expect("the layout is right")
+}
+
+fn journal_at(image: &[u8]) -> usize {
+    layout(image).offsets[JOURNAL]
+}
+
+/// The six numbers of a journal record, in their order.
+#[derive(Clone, Copy, PartialEq, Eq)]
+enum Number {
+    OldSlot,
+    NewSlot,
+    Moved,
+    Replaced,
+    OldParent,
+    Text,
+}
+
+impl Number {
+    const ALL: [Number; 6] =
+        [Number::OldSlot, Number::NewSlot, Number::Moved, Number::Replaced, Number::OldParent, Number::Text];
+
+    fn place(self, image: &[u8]) -> usize {
+        journal_at(image) + 2 + 2 * self as usize
     }
 
-    /// Nothing to do, taken back, and finished with or without another parent, a replaced inode, a freed text.
-    #[test]
-    fn every_number_of_rows_is_planned() {
-        let rows: BTreeSet<u8> = ALL.0.iter().map(|repairing| answer(repairing).0.rows).collect();
-        assert_eq!(rows, BTreeSet::from([0, 1, 4, 5, 6, 7]));
+    fn of(self, image: &[u8]) -> u16 {
+        let at = self.place(image);
+        u16::from_le_bytes([image[at], image[at + 1]])
     }
 
-    #[test]
-    fn buffers_change_only_where_they_may() {
-        for Repairing { image, plan, scratch } in &ALL.0 {
-            let (mut plan_after, mut scratch_after) = (plan.bytes(), scratch.bytes());
-            let number = repair(image, &mut plan_after, &mut scratch_after).number;
-            let (of_plan, of_scratch) = match number {
-                REPAIRED => (PLAN_LEN, image.len()),
-                NOT_REPAIRABLE => (0, image.len()),
-                number => {
-                    assert!([INCONSISTENT, BUFFER_TOO_SHORT].contains(&number));
-                    (0, 0)
-                }
-            };
-            assert_eq!(plan_after[of_plan..], plan.bytes()[of_plan..]);
-            assert_eq!(scratch_after[of_scratch..], scratch.bytes()[of_scratch..]);
-            assert!(number != NOT_REPAIRABLE || scratch_after[..of_scratch].iter().all(|&byte| byte == 0));
-        }
-    }
-
-    #[test]
-    fn whole_plans_lead_to_the_image_that_is_shown() {
-        for Repairing { image, plan, scratch } in &ALL.0 {
-            let (mut plan, mut scratch) = (plan.bytes(), scratch.bytes());
-            let Answer { number, rows } = repair(image, &mut plan, &mut scratch);
-            if number != REPAIRED {
-                continue;
-            }
-            let mut landed = image.clone();
-            assert!((0..rows.into()).all(|row| land(&mut landed, &plan, row) == LANDED));
-            assert_eq!(landed, scratch[..image.len()]);
-            assert_eq!(check(&landed), CONSISTENT);
-        }
+    fn set(self, image: &[u8], value: u16) -> Vec<u8> {
+        let mut image = image.to_vec();
+        let at = self.place(&image);
+        put_u16(&mut image, at, value.into());
+        image
     }
 }

@@ -3,8 +3,8 @@
 use super::{Buffer, Case, Landing, Renaming, Repairing, Scratch, Walking};
 use super::{BASE, CHECK, LAND, RENAME, REPAIR, WALK};
 use super::{LONGEST_BASE, LONGEST_CASE, LONGEST_PATH, LONGEST_PLAN, LONGEST_SCRATCH, MOST_EDITS};
-use crate::permission::Credentials;
-use crate::request::{Operand, Request};
+use crate::model::permission::Credentials;
+use crate::model::request::{Operand, Request};
 
 /// The cases of a file in order; nothing where the file breaks its format.
 pub fn read(data: &[u8]) -> Option<Vec<Case>> {

@@ -1,24 +1,24 @@
 //! Repairs and plans that are wrong: the explorer has to report each of them. The scratch is right, so that only what
 //! is landed tells.
 
-use super::story;
-use crate::bench_tree::bench_tree;
-use crate::check::INCONSISTENT;
-use crate::court::court;
-use crate::explore::{explore, Breach, Repair, Story};
-use crate::land::NOT_LANDABLE;
-use crate::layout::{Image, Inode, Layout, ENTRIES, JOURNAL, TEXTS};
-use crate::plan::{body_position, Row, PLAN_LEN, ROW_LEN};
-use crate::repair::{repair, Answer, NOT_REPAIRABLE, REPAIRED};
+use super::planned;
+use crate::cases::trees::bench::bench_tree;
+use crate::cases::trees::for_crashes::crash_tree;
+use crate::explore::{explore, Breach, PlannedRename, Repair};
+use crate::model::image::{Image, Inode};
+use crate::model::layout::{Layout, ENTRIES, JOURNAL, TEXTS};
+use crate::model::numbers::{DONE, INCONSISTENT, NOT_LANDABLE, NOT_REPAIRABLE};
+use crate::model::plan::{body_position, Row, PLAN_LEN, ROW_LEN};
+use crate::model::repair::{repair, Answer};
 
 /// The file p/f, which has no other name, onto the file q/x, which is freed.
-fn onto_a_file() -> Story {
-    story(&court(), "/p/f", "/q/x")
+fn onto_a_file() -> PlannedRename {
+    planned(&crash_tree(), "/p/f", "/q/x")
 }
 
 /// The directory a/d into b.
-fn of_a_directory() -> Story {
-    story(&bench_tree(), "/a/d", "/b/e")
+fn of_a_directory() -> PlannedRename {
+    planned(&bench_tree(), "/a/d", "/b/e")
 }
 
 fn u16_at(bytes: &[u8], at: usize) -> u16 {
@@ -41,7 +41,7 @@ fn old_parent(image: &[u8]) -> u16 {
 /// The right answer, and whether it is to carry the rename to its end.
 fn right(image: &[u8], plan: &mut [u8], scratch: &mut [u8]) -> (Answer, bool) {
     let answer = repair(image, plan, scratch);
-    (answer, answer.number == REPAIRED && answer.rows > 1)
+    (answer, answer.number == DONE && answer.rows > 1)
 }
 
 /// The place of the old parent's link count: in the third row's body.
@@ -49,9 +49,9 @@ const OLD_PARENT_LINKS: usize = 72 + 2 * 64 + 12;
 
 fn idle(image: &[u8], plan: &mut [u8], scratch: &mut [u8]) -> Answer {
     match repair(image, plan, scratch) {
-        Answer { number: REPAIRED, .. } => {
+        Answer { number: DONE, .. } => {
             plan.fill(0);
-            Answer { number: REPAIRED, rows: 0 }
+            Answer { number: DONE, rows: 0 }
         }
         refused => refused,
     }
@@ -59,7 +59,7 @@ fn idle(image: &[u8], plan: &mut [u8], scratch: &mut [u8]) -> Answer {
 
 fn ever_refusing(image: &[u8], plan: &mut [u8], scratch: &mut [u8]) -> Answer {
     match repair(image, plan, scratch) {
-        Answer { number: REPAIRED, .. } => Answer { number: NOT_REPAIRABLE, rows: 0 },
+        Answer { number: DONE, .. } => Answer { number: NOT_REPAIRABLE, rows: 0 },
         refused => refused,
     }
 }
@@ -133,7 +133,7 @@ fn clearing_the_journal_early(image: &[u8], plan: &mut [u8], scratch: &mut [u8])
 /// Where there is nothing to do, writes a journal record that fits and clears it again: only what must stay is broken.
 fn restless(image: &[u8], plan: &mut [u8], scratch: &mut [u8]) -> Answer {
     let answer = repair(image, plan, scratch);
-    if answer != (Answer { number: REPAIRED, rows: 0 }) {
+    if answer != (Answer { number: DONE, rows: 0 }) {
         return answer;
     }
     for (number, group) in [(0, 3), (1, 4)] {
@@ -142,13 +142,13 @@ fn restless(image: &[u8], plan: &mut [u8], scratch: &mut [u8]) -> Answer {
         plan[number * ROW_LEN..(number + 1) * ROW_LEN].copy_from_slice(&row.encode());
     }
     plan[72..86].copy_from_slice(&[1, 0, 0, 0, 1, 0, 3, 0, 255, 255, 0, 0, 255, 255]);
-    Answer { number: REPAIRED, rows: 2 }
+    Answer { number: DONE, rows: 2 }
 }
 
 #[test]
 fn wrong_repairs_are_reported() {
-    let text_freed = story(&court(), "/p/f", "/q/y");
-    let cases: [(&str, Story, Repair, Breach); 9] = [
+    let text_freed = planned(&crash_tree(), "/p/f", "/q/y");
+    let cases: [(&str, PlannedRename, Repair, Breach); 9] = [
         ("idle", onto_a_file(), idle, Breach::NotTakenBack),
         ("restless", onto_a_file(), restless, Breach::NotTakenBack),
         ("ever refusing", onto_a_file(), ever_refusing, Breach::RepairRefused(NOT_REPAIRABLE)),
@@ -159,30 +159,30 @@ fn wrong_repairs_are_reported() {
         ("freed text", text_freed, asking_the_freed_inode, Breach::RepairRefused(NOT_REPAIRABLE)),
         ("journal early", onto_a_file(), clearing_the_journal_early, Breach::RepairRefused(INCONSISTENT)),
     ];
-    for (name, story, repair, breach) in cases {
-        assert_eq!(explore(&story, repair).err(), Some(breach), "{name}");
+    for (name, planned, repair, breach) in cases {
+        assert_eq!(explore(&planned, repair).err(), Some(breach), "{name}");
     }
 }
 
-fn regrouped(mut story: Story, row: usize, group: u8) -> Story {
-    story.plan[row * ROW_LEN] = group;
-    story
+fn regrouped(mut planned: PlannedRename, row: usize, group: u8) -> PlannedRename {
+    planned.plan[row * ROW_LEN] = group;
+    planned
 }
 
 /// Every row may land at any time.
-fn ungrouped(story: Story) -> Story {
-    (0..story.rows.into()).fold(story, |story, row| regrouped(story, row, 1))
+fn ungrouped(planned: PlannedRename) -> PlannedRename {
+    (0..planned.rows.into()).fold(planned, |planned, row| regrouped(planned, row, 1))
 }
 
 /// One byte of a row's body is another.
-fn spoiled(mut story: Story, row: usize, at: usize) -> Story {
-    story.plan[body_position(row) + at] ^= 1;
-    story
+fn spoiled(mut planned: PlannedRename, row: usize, at: usize) -> PlannedRename {
+    planned.plan[body_position(row) + at] ^= 1;
+    planned
 }
 
 #[test]
 fn wrong_plans_are_reported() {
-    let last = |story: &Story| usize::from(story.rows) - 1;
+    let last = |planned: &PlannedRename| usize::from(planned.rows) - 1;
     let cases = [
         ("old entry in the new one's group", regrouped(onto_a_file(), 2, 2), Breach::NoName),
         ("rows in no order", ungrouped(onto_a_file()), Breach::NoName),
@@ -202,15 +202,15 @@ fn wrong_plans_are_reported() {
         ("another name", spoiled(onto_a_file(), 1, 8), Breach::SlotLost),
         ("no row of its group", regrouped(onto_a_file(), 3, 0), Breach::RowRefused(NOT_LANDABLE)),
     ];
-    for (name, story, breach) in cases {
-        assert_eq!(explore(&story, repair).err(), Some(breach), "{name}");
+    for (name, planned, breach) in cases {
+        assert_eq!(explore(&planned, repair).err(), Some(breach), "{name}");
     }
 }
 
 #[test]
 fn the_deciding_row_is_the_only_one_of_its_group() {
-    for story in [onto_a_file(), of_a_directory()] {
-        let groups: Vec<u8> = (0..story.rows.into()).map(|row| Row::read(&story.plan, row).group).collect();
+    for planned in [onto_a_file(), of_a_directory()] {
+        let groups: Vec<u8> = (0..planned.rows.into()).map(|row| Row::read(&planned.plan, row).group).collect();
         assert_eq!(groups.iter().filter(|&&group| group == 2).count(), 1);
         assert!(groups.is_sorted());
     }

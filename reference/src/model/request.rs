@@ -1,0 +1,44 @@
+//! What a caller asks for (rule 41), and the check of it ahead of both walks (rule 42).
+
+use super::image::Image;
+use super::numbers::BAD_REQUEST;
+use super::permission::Credentials;
+use super::refusal::Refusal;
+
+/// The start that means the current directory.
+pub const CURRENT: u8 = 255;
+
+/// One of the two paths, with the start that it has if it is relative.
+#[derive(Clone, Debug, PartialEq, Eq)]
+pub struct Operand {
+    pub start: u8,
+    pub path: Vec<u8>,
+}
+
+impl Operand {
+    pub fn new(start: u8, path: &[u8]) -> Operand {
+        Operand { start, path: path.to_vec() }
+    }
+}
+
+#[derive(Clone, Debug, PartialEq, Eq)]
+pub struct Request {
+    pub who: Credentials,
+    pub current: u16,
+    pub old: Operand,
+    pub new: Operand,
+}
+
+/// What can be wrong with a request itself.
+pub const REFUSALS: [(Refusal, fn(&Request, &Image) -> bool); 3] = [
+    (Refusal::new(42, "current directory is none", BAD_REQUEST), |request, image| !image.is_directory(request.current)),
+    (Refusal::new(42, "byte 0 in old", BAD_REQUEST), |request, _| request.old.path.contains(&0)),
+    (Refusal::new(42, "byte 0 in new", BAD_REQUEST), |request, _| request.new.path.contains(&0)),
+];
+
+impl Request {
+    /// Asked of both paths, whatever else is wrong with them and whether or not the current directory matters.
+    pub fn refusal(&self, image: &Image) -> Option<Refusal> {
+        REFUSALS.iter().find(|(_, applies)| applies(self, image)).map(|(refusal, _)| *refusal)
+    }
+}

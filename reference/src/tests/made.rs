@@ -1,0 +1,52 @@
+//! The cases of every part, made once for all the tests and read back as a program of the proved library reads them.
+
+use crate::cases::{check, land, rename, repair, walk, Collection};
+use crate::vectors::{read, Case, Landing, Renaming, Repairing, Walking};
+use std::sync::LazyLock;
+
+pub struct Made<T> {
+    pub collection: Collection,
+    pub cases: Vec<T>,
+}
+
+fn made<T>(make: fn() -> Collection, input: fn(Case) -> Option<T>) -> Made<T> {
+    let collection = make();
+    let cases = read(&collection.writer.data).expect("the format is kept");
+    let cases = cases.into_iter().map(|case| input(case).expect("a case of this job")).collect();
+    Made { collection, cases }
+}
+
+pub static CHECKS: LazyLock<Made<Vec<u8>>> = LazyLock::new(|| {
+    made(check::part::all, |case| match case {
+        Case::Check(image) => Some(image),
+        _ => None,
+    })
+});
+
+pub static LANDINGS: LazyLock<Made<Landing>> = LazyLock::new(|| {
+    made(land::part::all, |case| match case {
+        Case::Land(landing) => Some(landing),
+        _ => None,
+    })
+});
+
+pub static WALKS: LazyLock<Made<Walking>> = LazyLock::new(|| {
+    made(walk::part::all, |case| match case {
+        Case::Walk(walking) => Some(walking),
+        _ => None,
+    })
+});
+
+pub static RENAMES: LazyLock<Made<Renaming>> = LazyLock::new(|| {
+    made(rename::part::all, |case| match case {
+        Case::Rename(renaming) => Some(renaming),
+        _ => None,
+    })
+});
+
+pub static REPAIRS: LazyLock<Made<Repairing>> = LazyLock::new(|| {
+    made(repair::part::all, |case| match case {
+        Case::Repair(repairing) => Some(repairing),
+        _ => None,
+    })
+});

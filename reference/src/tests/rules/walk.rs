@@ -1,0 +1,38 @@
+//! Rules 42 and 46 to 60: each refuses some request, as old and as new.
+
+use crate::model::image::Image;
+use crate::model::refusal::Refusal;
+use crate::model::request;
+use crate::model::walk::{walk, Role, REFUSALS};
+use crate::tests::made::WALKS;
+use crate::vectors::Walking;
+use std::collections::BTreeSet;
+
+/// What refuses a request, and which of the paths it is about; nothing where both walks are whole.
+fn refusal(Walking { image, request }: &Walking) -> Option<(Refusal, &'static str)> {
+    let image = Image::read(image).expect("the layout is right");
+    if let Some(refusal) = request.refusal(&image) {
+        return Some((refusal, "both"));
+    }
+    match walk(&image, request, Role::Old).end {
+        Err(refusal) => Some((refusal, "old")),
+        Ok(_) => walk(&image, request, Role::New).end.err().map(|refusal| (refusal, "new")),
+    }
+}
+
+/// New's final name may be missing; all else is asked of both paths.
+#[test]
+fn every_refusal_of_a_walk_is_given() {
+    let given: BTreeSet<_> = WALKS.cases.iter().filter_map(refusal).collect();
+    let of_paths = REFUSALS.iter().flat_map(|&refusal| [(refusal, "old"), (refusal, "new")]);
+    let of_requests = request::REFUSALS.iter().map(|&(refusal, _)| (refusal, "both"));
+    let expected: BTreeSet<_> = of_paths.chain(of_requests).filter(|&(it, of)| (it.rule, of) != (59, "new")).collect();
+    assert_eq!(given, expected);
+}
+
+/// The most that is possible: 128 components, and eight texts of 32.
+#[test]
+fn a_walk_has_at_most_384_steps() {
+    let steps = |line: &String| line.split(' ').nth(1).and_then(|steps| steps.parse::<u16>().ok());
+    assert_eq!(WALKS.collection.lines.iter().filter_map(steps).max(), Some(384));
+}

@@ -1,0 +1,68 @@
+//! The files of vectors: what is read back is what was asked, and the document counts it.
+
+use super::made::{CHECKS, LANDINGS, RENAMES, REPAIRS, WALKS};
+use crate::cases::{land, rename, repair, walk, Collection, PARTS};
+use crate::model::check::check;
+
+/// Every part by its name, in the order of the answers.
+fn collections() -> [(&'static str, &'static Collection); 5] {
+    [
+        ("check", &CHECKS.collection),
+        ("land", &LANDINGS.collection),
+        ("walk", &WALKS.collection),
+        ("rename", &RENAMES.collection),
+        ("repair", &REPAIRS.collection),
+    ]
+}
+
+#[test]
+fn every_part_is_among_these() {
+    assert!(PARTS.iter().map(|part| part.name).eq(collections().map(|(name, _)| name)));
+}
+
+#[test]
+fn the_document_counts_every_class() {
+    let document = include_str!("../../../docs/VECTORS.md");
+    for (name, collection) in collections() {
+        for row in collection.table() {
+            assert!(document.lines().any(|line| line == row), "{name}: docs/VECTORS.md lacks the row {row}");
+        }
+    }
+}
+
+#[test]
+fn every_file_stays_small() {
+    for (name, collection) in collections() {
+        assert!(collection.writer.data.len() < 1_000_000, "{name}");
+    }
+}
+
+/// The answers of the cases as they are read back.
+fn assert_lines<T>(cases: &[T], collection: &Collection, line: impl Fn(&T) -> String) {
+    assert_eq!(cases.iter().map(line).collect::<Vec<_>>(), collection.lines);
+}
+
+#[test]
+fn the_stored_images_have_the_stored_answers() {
+    assert_lines(&CHECKS.cases, &CHECKS.collection, |image| check(image).to_string());
+}
+
+#[test]
+fn the_stored_landings_have_the_stored_answers() {
+    assert_lines(&LANDINGS.cases, &LANDINGS.collection, |landing| land::part::answer(landing).1);
+}
+
+#[test]
+fn the_stored_walks_have_the_stored_answers() {
+    assert_lines(&WALKS.cases, &WALKS.collection, |walking| walk::part::line(&walk::part::walks_of(walking)));
+}
+
+#[test]
+fn the_stored_renames_have_the_stored_answers() {
+    assert_lines(&RENAMES.cases, &RENAMES.collection, |renaming| rename::part::answer(renaming).1);
+}
+
+#[test]
+fn the_stored_repairs_have_the_stored_answers() {
+    assert_lines(&REPAIRS.cases, &REPAIRS.collection, |repairing| repair::part::answer(repairing).1);
+}
