@@ -53,8 +53,8 @@ module _ (s plan : List ℕ) (q : Request) (old new : List ℕ) where
     whole : answer s plan q old new ≡ Planned → (es : List Event) → after s plan q old new es .whose ≡ rename → Empty (after s plan q old new es .waiting)
         → after s plan q old new es .image ≡ finishedImage s plan q old new
     whole e es own none =
-        let same = planned-state e (given .time) es in
-        let c = planned-move e (given .time) in
+        let same = planned-state s plan q old new e (given .time) es in
+        let c = planned-move s plan q old new e (given .time) in
         let through : T (theory.through (phase (after s plan q old new es .whose)) (after s plan q old new es .waiting)) =
         rw own (empty-null (after s plan q old new es .waiting) none) in
         ap (λ (z : theory.State (List ℕ) Job). z .img) same
@@ -63,8 +63,9 @@ module _ (s plan : List ℕ) (q : Request) (old new : List ℕ) where
 
     in-order : answer s plan q old new ≡ Planned → appliedAll s (jobsIn (thePlan s plan q old new)) ≡ finishedImage s plan q old new
     in-order e =
-        ap (λ (p : List ℕ). appliedAll s (jobsIn p)) (planned-bytes e (given .time))
-        ∙ applied-same (shapeOf s) s _ ∙ applied-in-order (planned-move e (given .time)) plan (given .room)
+        applied-same (shapeOf s) s (jobsIn (thePlan s plan q old new))
+        ∙ ap (λ (p : List ℕ). putAll (jobs (shapeOf s) s) s (jobsIn p)) (planned-bytes s plan q old new e (given .time))
+        ∙ applied-in-order (planned-move s plan q old new e (given .time)) plan (given .room)
 
     -- ---- two names of one file
 
@@ -81,7 +82,7 @@ module _ (s plan : List ℕ) (q : Request) (old new : List ℕ) where
       untouched = λ n e. ap (λ (a : Answer). planOf s plan q old new a) e;
       landed = whole;
       landed-in-order = in-order;
-      sound-again = λ e. finished-checked (planned-move e (given .time));
+      sound-again = λ e. finished-checked (planned-move s plan q old new e (given .time));
       one-file = λ good first second one.
           let e = same-answer good first second one in
           (ap numberOf e, ap (λ (a : Answer). rowsOf s plan q old new a) e, ap (λ (a : Answer). planOf s plan q old new a) e);

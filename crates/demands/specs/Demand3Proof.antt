@@ -68,13 +68,13 @@ module _ {s plan : List ℕ} {q : Request} {old new : List ℕ} (given : Renamed
   is-planned = planned-answer s plan q old new (given .rows)
 
   abbrev c : Called h s m name
-  c = planned-move is-planned (given .time)
+  c = planned-move s plan q old new is-planned (given .time)
 
   abbrev long : planBytes ≤ length plan
-  long = planned-room is-planned (given .time)
+  long = planned-room s plan q old new is-planned (given .time)
 
   abbrev 𝓒 : Change (jobs h s)
-  𝓒 = change is-planned (given .time)
+  𝓒 = change s plan q old new is-planned (given .time)
 
   module _ (es : List Event) where
     abbrev x : State
@@ -85,7 +85,7 @@ module _ {s plan : List ℕ} {q : Request} {old new : List ℕ} (given : Renamed
     y = state h s m name plan (map eventOf es)
 
     same : stateOf x ≡ y
-    same = planned-state is-planned (given .time) es
+    same = planned-state s plan q old new is-planned (given .time) es
 
     survives : Survives h s m name plan (map eventOf es)
     survives = rename-survives c plan long (map eventOf es)
@@ -131,7 +131,7 @@ module _ {s plan : List ℕ} {q : Request} {old new : List ℕ} (given : Renamed
     turns = subst (λ (z : theory.State (List ℕ) Job). Empty (z .waiting) ⊎ Turn (jobs h s .group) (z .waiting)) (sym same) (survives .turn)
 
     decides-by : 𝓒 .decide ≡ record { plan = thePlan s plan q old new; number = 1 }
-    decides-by = λ i. record { plan = (rename-planned h s m name plan ∙ sym (planned-bytes is-planned (given .time))) i; number = 1 }
+    decides-by = λ i. record { plan = (rename-planned h s m name plan ∙ sym (planned-bytes s plan q old new is-planned (given .time))) i; number = 1 }
 
     entry : (entryApplied x ≡ true) ↔ Has (x .applied) (record { plan = thePlan s plan q old new; number = 1 })
     entry =

@@ -1,5 +1,6 @@
 -- A rename that was planned, and what befalls it, as the crash theorem sees them. Assumes nothing.
 use mathlib.Core.Path.{_≡_, sym, ap, _∙_}
+use mathlib.Core.Bool.{false}
 use mathlib.Core.List.{List, [], map}
 use Prim.Native.Nat.{ℕ, _≤_, _<_}
 use lib.ListN.{length}
@@ -25,7 +26,7 @@ use Rattle.demands.specs.Crashes.{Event, begun}
 use Rattle.demands.specs.Retold.{stateOf, eventOf, same-run}
 use Rattle.demands.specs.Demand2.{thePlan, after}
 
-module _ {s plan : List ℕ} {q : Request} {old new : List ℕ} (e : answer s plan q old new ≡ Planned) (time : q .now < span 8) where
+module _ (s plan : List ℕ) (q : Request) (old new : List ℕ) (e : answer s plan q old new ≡ Planned) (time : q .now < span 8) where
   abbrev h : Shape
   h = shapeOf s
 
