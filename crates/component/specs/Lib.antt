@@ -1,4 +1,6 @@
 pub mod Step
+pub mod Decisions
+pub mod DecisionLaws
 pub mod State
 pub mod Splice
 pub mod Turns

@@ -1,5 +1,5 @@
 -- The ways in which a component leaves a walk, each with what is known there: the step's definition read backwards. Assumes nothing.
-use mathlib.Core.Path.{_≡_, refl, sym}
+use mathlib.Core.Path.{_≡_, refl, sym, subst}
 use mathlib.Core.Bool.{Bool, true, false, _&&_, _||_, not, cond, false≢true}
 use mathlib.Core.List.{List}
 use Prim.Native.Nat.{ℕ, _+_, _≤_, _<_}
@@ -14,7 +14,9 @@ use Rattle.paths.specs.Path.{component, behind, empty, bare, isDot, isDotDot}
 use Rattle.paths.specs.Lookup.{lookup}
 use Rattle.component.specs.declared.state.Final.{Final}
 use Rattle.component.specs.declared.state.Final.the-variants.{MustExist, MayBeMissing}
-use Rattle.component.specs.Step.{pathLimit, linkLimit, Position, Step, existing, missing, refuse, names, move, splice, follow, lack, miss, enter, arrive, hit, seek, dots, read, inside, step}
+use Rattle.component.specs.Step.{symlinkLimit, pathLimit, Position, Step, existing, missing, refusedBy, names, move, splice, step}
+use Rattle.component.specs.Decisions.{follow, lack, miss, enter, arrive, hit, seek, dots, read, inside, decision}
+use Rattle.component.specs.DecisionLaws.{step-decides}
 
 -- the numbers that a component is refused by
 abbrev pub componentNumber : ℕ → Bool
@@ -22,9 +24,9 @@ componentNumber n = eqb n 2 || eqb n 13 || eqb n 20 || eqb n 22 || eqb n 36 || e
 
 -- How the component that stands first at w leaves the walk by x.
 pub data Way (v : View) (last : Final) (w : Position) (x : Step) : Type 0 where
-  refuses : (n : ℕ) → componentNumber n ≡ true → x ≡ refuse n w → Way v last w x
+  refuses : (n : ℕ) → componentNumber n ≡ true → x ≡ refusedBy n w → Way v last w x
   moves : (d : ℕ) → bare (behind (w .rest)) ≡ false → x ≡ move w (behind (w .rest)) d → Way v last w x
-  follows : (i : ℕ) → isSymlink v i ≡ true → bare (behind (w .rest)) ≡ false → w .links < linkLimit
+  follows : (i : ℕ) → isSymlink v i ≡ true → bare (behind (w .rest)) ≡ false → w .links < symlinkLimit
       → length (v .text (v .field i)) + length (behind (w .rest)) ≤ pathLimit
       → x ≡ splice w (v .text (v .field i)) (behind (w .rest)) → Way v last w x
   exists : (slash : Bool) → isDirectory v (w .directory) ≡ true
@@ -55,12 +57,12 @@ module _ (v : View) (who : Credentials) (last : Final) (w : Position) where
   abbrev slot : ℕ
   slot = lookup v (w .directory) name
 
-  way-refuse : (n : ℕ) → componentNumber n ≡ true → Way v last w (refuse n w)
+  way-refuse : (n : ℕ) → componentNumber n ≡ true → Way v last w (refusedBy n w)
   way-refuse n listed = refuses n listed refl
 
   way-follow : (i : ℕ) → isSymlink v i ≡ true → bare rest ≡ false → Way v last w (follow w (v .text (v .field i)) rest)
   way-follow i link more =
-      by-test (Way v last w) (leb linkLimit (w .links)) _ _ (λ e. way-refuse 40 refl) (λ few.
+      by-test (Way v last w) (leb symlinkLimit (w .links)) _ _ (λ e. way-refuse 40 refl) (λ few.
       by-test (Way v last w) (ltb pathLimit (length (v .text (v .field i)) + length rest)) _ _ (λ e. way-refuse 36 refl) (λ short.
       follows i link more (leb-false _ _ few) (ltb-false _ _ short) refl))
 
@@ -95,9 +97,11 @@ module _ (v : View) (who : Credentials) (last : Final) (w : Position) where
         by-test (Way v last w) (ltb (v .room) (length name)) _ _ (λ e. way-refuse 36 refl) (λ short.
         by-test (Way v last w) (isDot name || isDotDot name) _ _ (λ e. way-dots) (λ plain. way-seek (ltb-false _ _ short) plain))
 
-  pub step-way : Way v last w (step v who last w)
-  unfolding step
-  step-way =
+  way-decision : Way v last w (decision v who last w)
+  way-decision =
       by-test (Way v last w) (not (isDirectory v (w .directory))) _ _ (λ e. way-refuse 20 refl) (λ place.
       by-test (Way v last w) (not (w .waived || allows v who (w .directory) searchBit)) _ _ (λ e. way-refuse 13 refl) (λ e.
       way-read (not-false (isDirectory v (w .directory)) place)))
+
+  pub step-way : Way v last w (step v who last w)
+  step-way = subst (Way v last w) (sym (step-decides v who last w)) way-decision

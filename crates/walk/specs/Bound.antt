@@ -12,7 +12,7 @@ use Rattle.paths.specs.declared.request.Credentials.{Credentials}
 use Rattle.paths.specs.Path.{skip, behind, bare}
 use Rattle.paths.specs.PathLaws.{skip-le, skip-more, behind-le, behind-short, bare-append}
 use Rattle.component.specs.declared.state.Final.{Final}
-use Rattle.component.specs.Step.{linkLimit, pathLimit, pathComponents, stepLimit, Position, End, Step, goes, ends, step}
+use Rattle.component.specs.Step.{symlinkLimit, pathLimit, pathComponents, stepLimit, Position, End, Step, goes, ends, step}
 use Rattle.component.specs.Ways.{Way, refuses, moves, follows, exists, lacks, step-way}
 use Rattle.walk.specs.Walk.{startAt, walkFrom, walk, by-walk}
 
@@ -26,7 +26,7 @@ pub record Goes (w u : Position) : Type 0 where
   pub more : bare (u .rest) ≡ false
   pub counted : u .steps ≡ w .steps + 1
   pub way : ((u .links ≡ w .links) × (u .rest ≡ behind (w .rest)))
-      ⊎ ((u .links ≡ w .links + 1) × (w .links < linkLimit) × (length (u .rest) ≤ pathLimit))
+      ⊎ ((u .links ≡ w .links + 1) × (w .links < symlinkLimit) × (length (u .rest) ≤ pathLimit))
 
 -- what holds after a step: the component counts where the walk ends, too
 abbrev pub After : Position → Step → Type 0
@@ -51,7 +51,7 @@ after-is v who last w x e = subst (After w) e (after-way v last w _ (step-way v 
 -- What a walk can still spend: as many components as a path can have for each symlink that it may yet follow, and those of the path in
 -- hand, each of which has a byte and, but for the last, a slash.
 unfoldable pub budget : Position → ℕ
-budget w = pathComponents * (linkLimit - w .links) + (length (skip (w .rest)) + 1) / 2
+budget w = pathComponents * (symlinkLimit - w .links) + (length (skip (w .rest)) + 1) / 2
 
 pub budget-more : (w : Position) → bare (w .rest) ≡ false → 0 < budget w
 unfolding budget
@@ -72,13 +72,13 @@ falls-behind : (w u : Position) → bare (w .rest) ≡ false → bare (u .rest) 
     → budget u < budget w
 unfolding budget
 falls-behind w u more left e r =
-    rw e (spend-component linkLimit (w .links) _ _ (rw r (behind-short (w .rest) more (rw r at left))))
+    rw e (spend-component symlinkLimit (w .links) _ _ (rw r (behind-short (w .rest) more (rw r at left))))
 
-falls-symlink : (w u : Position) → bare (w .rest) ≡ false → u .links ≡ w .links + 1 → w .links < linkLimit → length (u .rest) ≤ pathLimit
+falls-symlink : (w u : Position) → bare (w .rest) ≡ false → u .links ≡ w .links + 1 → w .links < symlinkLimit → length (u .rest) ≤ pathLimit
     → budget u < budget w
 unfolding budget
 falls-symlink w u more e few short =
-    rw e (spend-symlink linkLimit (w .links) _ _ few (le-trans (skip-le (u .rest)) short) (skip-more (w .rest) more))
+    rw e (spend-symlink symlinkLimit (w .links) _ _ few (le-trans (skip-le (u .rest)) short) (skip-more (w .rest) more))
 
 pub budget-falls : (w u : Position) → bare (w .rest) ≡ false → Goes w u → budget u < budget w
 budget-falls w u more g =
@@ -88,7 +88,7 @@ budget-falls w u more g =
 -- bound. It holds where a walk begins and from step to step.
 pub record Ready (w : Position) : Type 0 where
   pub more : bare (w .rest) ≡ false
-  pub few : w .links ≤ linkLimit
+  pub few : w .links ≤ symlinkLimit
   pub short : length (w .rest) ≤ pathLimit
   pub within : w .steps + budget w ≤ stepLimit
 
@@ -104,7 +104,7 @@ ready-new w more short none unread = record {
   more = more;
   few = rw none zero-le;
   short = short;
-  within = rw (unread, zero-add) (spend-most linkLimit (w .links) _ (le-trans (skip-le (w .rest)) short));
+  within = rw (unread, zero-add) (spend-most symlinkLimit (w .links) _ (le-trans (skip-le (w .rest)) short));
 }
 
 -- Where the steps from a position lead, with no fuel: the end of the step that ends, through those that go on.
