@@ -10,13 +10,16 @@ ghost use Rattle.component.specs.State.{positionOf, nameIn, restFrom, Ah
 // The longest path, as supplied and with a symlink's text in it.
 pub const PATH_LIMIT: usize = 255;
 
+// The bytes of a working path: the longest path, and one more.
+pub const PATH_BYTES: usize = 256;
+
 // The symlinks that one path may lead through.
 pub const SYMLINK_LIMIT: usize = 8;
 
 // Where a walk stands: the working path, of which the bytes from at up to len are unread; the directory that they are read from; the
 // symlinks followed; the component checks begun; whether search permission is waived for the next component.
 pub struct Walk {
-    pub path: [u8; 256],
+    pub path: [u8; PATH_BYTES],
     pub len: usize,
     pub at: usize,
     pub directory: usize,

@@ -44,7 +44,7 @@ fn join(w: Walk, text: &[u8], e: usize, len: usize) -> Turn
 
 // A symlink ahead of other components is followed, unless it is one too many or the joined path is too long.
 fn follow(w: Walk, text: &[u8], e: usize) -> Turn
-    requires { ⌜ Ahead w e × (bare (restFrom w e) ≡ false) × (length (now text) ≤ 63) ⌝ }
+    requires { ⌜ Ahead w e × (bare (restFrom w e) ≡ false) × (length (now text) ≤ pathLimit) ⌝ }
     ensures { λ r. ⌜ Turned r (follow (positionOf w) (now (text .entry)) (restFrom w e)) ⌝ }
 {
     if state::SYMLINK_LIMIT <= w.links {

@@ -16,8 +16,8 @@ use Rattle.component.specs.declared.state.Final.the-variants.{MustExist, MayBeM
 use Rattle.component.specs.Step.{End}
 use Rattle.walk.specs.declared.both.Walks.{Walks}
 use Rattle.walk.specs.Ends.{Facts}
-use Rattle.walk.specs.Answer.{endOf}
-use Rattle.walk.specs.Both.{Ends, walksOf, BothAnswered}
+use Rattle.walk.specs.Answer.{endOf, BothAnswered}
+use Rattle.walk.specs.Both.{Ends, walksOf}
 use Rattle.plan.specs.Form.{planBytes, cleared}
 use Rattle.plan.specs.Write.{Write}
 use Rattle.refusals.specs.declared.case.Case.{Case}

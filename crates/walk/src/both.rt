@@ -8,7 +8,8 @@ ghost use mathlib.Core.Path.{_≡_};
 ghost use mathlib.Core.Bool.{true};
 ghost use Rattle.layout.specs.View.{viewOf, Readable};
 ghost use Rattle.paths.specs.Request.{requestGood};
-ghost use Rattle.walk.specs.Both.{walksOf, BothAnswered};
+ghost use Rattle.walk.specs.Both.{walksOf};
+ghost use Rattle.walk.specs.Answer.{BothAnswered};
 
 pub struct Walks {
     pub old: Walked,

@@ -4,7 +4,7 @@ use native.Mathlib.Omega.{arith}
 use borrow.Author.Needs.{needs}
 use Rattle.layout.specs.View.{viewOf}
 use Rattle.paths.specs.Request.{good-old, good-new}
-use Rattle.walk.specs.Both.{both-refused, both-walked}
+use Rattle.walk.specs.BothLaws.{both-refused, both-walked}
 use Rattle.walk.proofs.both.both.Statement.{statement}
 use Rattle.walk.proofs.both.both.Tie as tie
 

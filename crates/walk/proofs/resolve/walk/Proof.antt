@@ -1,7 +1,7 @@
 -- `walk::resolve::walk` meets its contract: the definition's bound and the facts of its ends are the answer's. Assumes nothing.
 use borrow.Author.Needs.{needs}
 use Rattle.layout.specs.View.{viewOf, readable-text}
-use Rattle.walk.specs.Answer.{walk-answered}
+use Rattle.walk.specs.AnswerLaws.{walk-answered}
 use Rattle.walk.proofs.resolve.walk.Statement.{statement}
 use Rattle.walk.proofs.resolve.walk.Tie as tie
 
