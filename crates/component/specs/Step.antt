@@ -84,50 +84,51 @@ isFinal w = bare (unread w)
 abbrev pub slashBehind : Position → Bool
 slashBehind w = not (empty (unread w))
 
--- rule 56: as many symlinks have been followed as a path may lead through
-abbrev pub symlinksSpent : Position → Bool
-symlinksSpent w = leb symlinkLimit (w .links)
-
--- rule 59: what the last name of the path must be
-abbrev pub mustExist : Final → Bool
-mustExist MustExist = true
-mustExist MayBeMissing = false
-
 module _ (v : View) where
+  -- rule 45: the slot in which the name is found, and the inode that its entry names
+  abbrev pub slotAt : Position → ℕ
+  slotAt w = lookup v (w .directory) (nameAt w)
+
+  abbrev pub isMissing : Position → Bool
+  isMissing w = not (ltb (slotAt w) (v .entries))
+
+  abbrev pub targetAt : Position → ℕ
+  targetAt w = v .target (slotAt w)
+
+  abbrev pub atDirectory : Position → Bool
+  atDirectory w = isDirectory v (targetAt w)
+
+  -- rule 50: the component is read in a directory
   abbrev pub inDirectory : Position → Bool
   inDirectory w = isDirectory v (w .directory)
+
+  -- rule 51: search permission on it is not waived, and not had
+  abbrev pub searchDenied : Credentials → Position → Bool
+  searchDenied who w = not (w .waived || allows v who (w .directory) searchBit)
 
   -- rule 52: longer than a name can be
   abbrev pub overlong : Position → Bool
   overlong w = ltb (v .room) (length (nameAt w))
 
-  -- rule 45: the slot that the name is looked up in, and the inode that its entry names
-  abbrev pub slotAt : Position → ℕ
-  slotAt w = lookup v (w .directory) (nameAt w)
-
-  abbrev pub targetAt : Position → ℕ
-  targetAt w = v .target (slotAt w)
-
-  abbrev pub isMissing : Position → Bool
-  isMissing w = not (ltb (slotAt w) (v .entries))
-
-  abbrev pub atDirectory : Position → Bool
-  atDirectory w = isDirectory v (targetAt w)
-
-  -- rules 55 to 57: a symlink that is not final, and its text
+  -- rule 55: a symlink that is not final, and its text
   abbrev pub innerSymlink : Position → Bool
   innerSymlink w = not (isFinal w) && isSymlink v (targetAt w)
 
   abbrev pub symlinkText : Position → List ℕ
   symlinkText w = v .text (v .field (targetAt w))
 
-  -- rule 57: the symlink's text and the unread rest are longer than a path may be
+  -- rule 57: its text and the unread rest are longer together than a path may be
   abbrev pub joinedOverlong : Position → Bool
   joinedOverlong w = ltb pathLimit (length (symlinkText w) + length (unread w))
 
-  -- rule 51: search permission on the directory is not waived, and not had
-  abbrev pub searchDenied : Credentials → Position → Bool
-  searchDenied who w = not (w .waived || allows v who (w .directory) searchBit)
+-- rule 56: as many symlinks have been followed as a path may lead through
+abbrev pub symlinksSpent : Position → Bool
+symlinksSpent w = leb symlinkLimit (w .links)
+
+-- rule 59: whether the last name of the path must exist
+abbrev pub mustExist : Final → Bool
+mustExist MustExist = true
+mustExist MayBeMissing = false
 
 -- A test, and how the component leaves the walk where that test is the first that holds.
 pub record Guarded : Type 0 where

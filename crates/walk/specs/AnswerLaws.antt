@@ -20,9 +20,11 @@ use Rattle.walk.specs.Ends.{Facts}
 use Rattle.walk.specs.EndLaws.{walk-facts}
 use Rattle.walk.specs.Answer.{answerOf, Ended, Closes, Answered}
 
+-- the same answer stands for an equal end
 pub ended-as : (r : Walked) (e f : End) → Ended r e → f ≡ e → Ended r f
 ended-as r e f ended same = subst (λ (x : End). Ended r x) (sym same) ended
 
+-- a component that refuses the walk, and one that finds what the path names
 module _ (r : Turn) (x : Step) (a : Walked) (turned : Turned r x) where
   pub refused-closes : (n : ℕ) → r .leave ≡ Refuses n → a ≡ answerOf (r .walk) n Nothing → Closes x a
   refused-closes n e is =
@@ -33,7 +35,7 @@ module _ (r : Turn) (x : Step) (a : Walked) (turned : Turned r x) where
       subst (λ (y : Walked). Closes x y) (sym is)
       (record { is = sym (turned .is) ∙ ap (λ y. leaveOf (r .walk) y) e; range = subst (λ y. Left (r .walk) y) e (turned .left) })
 
--- they hold of every walk on an image whose texts have no zero byte
+-- the bound and the facts hold of every walk on an image whose texts have no zero byte
 pub walk-answered : (v : View) (who : Credentials) (last : Final) (current start : ℕ) (path : List ℕ) (r : Walked)
     → ((i : ℕ) → isSymlink v i ≡ true → noZero (v .text (v .field i)) ≡ true) → noZero path ≡ true
     → Ended r (walk v who last current start path) → Answered v last r (walk v who last current start path)

@@ -23,6 +23,7 @@ use Rattle.walk.specs.Budget.{Goes, After, budget, Ready, Leads, ending,
 pub step-limit : stepLimit ≡ 1152
 step-limit = refl
 
+-- every step counts, and goes on so if it does
 after-way : (v : View) (last : Final) (w : Position) (x : Step) → Way v last w x → After w x
 after-way v last w x (refuses n some e) = subst (After w) (sym e) refl
 after-way v last w x (moves d more e) = subst (After w) (sym e) (record { more = more; counted = refl; way = inl (refl, refl) })
@@ -42,7 +43,7 @@ pub budget-more : (w : Position) → bare (w .rest) ≡ false → 0 < budget w
 unfolding budget
 budget-more w more = let l = skip-more (w .rest) more in omega arith
 
--- the arithmetic of it, over any number of symlinks; of the longest path it is computed how many components it has at most
+-- the arithmetic of the budget, over any number of symlinks; of the longest path it is computed how many components it has at most
 spend-component : (limit links a b : ℕ) → a + 2 ≤ b → pathComponents * (limit - links) + (a + 1) / 2 < pathComponents * (limit - links) + (b + 1) / 2
 spend-component limit links a b l = omega arith
 
