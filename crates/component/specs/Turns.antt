@@ -105,6 +105,7 @@ module _ (v : View) (who : Credentials) (last : Final) (r : Turn) (w : Position)
       → Turned r (read v last w name rest) → Turned r (inside v who last w)
   inside-reads name rest a e f turned = rw (a, ← e, ← f) turned
 
+  -- what answers the decisions answers the list of tests
   decided : Turned r (decision v who last w) → Turned r (step v who last w)
   decided turned = subst (Turned r) (sym (step-decides v who last w)) turned
 

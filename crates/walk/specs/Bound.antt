@@ -19,7 +19,7 @@ use Rattle.walk.specs.Walk.{startAt, walkFrom, walk}
 use Rattle.walk.specs.WalkLaws.{by-walk}
 use Rattle.walk.specs.Budget.{Goes, After, budget, Ready, Leads, ending, going}
 
--- rule 61, in a number
+-- rule 61 in a number: it moves with `symlinkLimit`, and stands in no other definition or law
 pub step-limit : stepLimit ≡ 1152
 step-limit = refl
 

@@ -1,6 +1,4 @@
 -- `walk::both::both` meets its contract. Assumes nothing.
-use mathlib.Core.Path.{sym, _∙_}
-use native.Mathlib.Omega.{arith}
 use borrow.Author.Needs.{needs}
 use Rattle.layout.specs.View.{viewOf}
 use Rattle.paths.specs.Request.{good-old, good-new}
