@@ -1,12 +1,10 @@
 -- The code's state of a walk as a position of the definition: the unread rest is a part of the working path. Assumes nothing.
-use mathlib.Core.Path.{_≡_, refl, sym, ap, _∙_, subst}
+use mathlib.Core.Path.{_≡_}
 use mathlib.Core.Bool.{Bool, false}
 use mathlib.Core.List.{List}
 use Prim.Native.Nat.{ℕ, _-_, _≤_, _<_}
-use native.Mathlib.Omega.{arith}
 use lib.ListN.{length}
 use Rattle.seq.specs.Bytes.{part}
-use Rattle.seq.specs.BytesLaws.{part-length}
 use Rattle.component.specs.declared.state.Walk.{Walk}
 use Rattle.component.specs.declared.state.Found.{Found}
 use Rattle.component.specs.declared.state.Found.the-variants.{Existing, Missing, Nothing}
@@ -14,8 +12,12 @@ use Rattle.component.specs.declared.state.Leave.{Leave}
 use Rattle.component.specs.declared.state.Leave.the-variants.{Goes, Refuses, Finds}
 use Rattle.component.specs.declared.state.Turn.{Turn}
 use Rattle.paths.specs.Path.{bare}
-use Rattle.paths.specs.Filled.{filled, filled-length, filled-part}
+use Rattle.paths.specs.Filled.{filled}
 use Rattle.component.specs.Step.{pathLimit, stepLimit, Position, Finding, existing, missing, nothing, Step, goes, ends}
+
+-- how many bytes a working path has: the longest path, and one more
+abbrev pub pathBytes : ℕ
+pathBytes = 256
 
 -- the unread rest from index e on
 abbrev pub restFrom : Walk → ℕ → List ℕ
@@ -49,14 +51,11 @@ Ranged path (Existing d j i slash) = Unit {0}
 Ranged path (Missing d a e slash) = (a ≤ e) × (e ≤ length path)
 Ranged path Nothing = Unit {0}
 
-pub missing-range : (path : List ℕ) (f : Found) (d a e : ℕ) (slash : Bool) → Ranged path f → f ≡ Missing d a e slash → (a ≤ e) × (e ≤ length path)
-missing-range path f d a e slash ranged is = subst (λ (x : Found). Ranged path x) is ranged
-
 -- A state that can be read: some component is left of a path that is short enough.
 pub record Fit (w : Walk) : Type 0 where
   pub within : w .at ≤ w .len
   pub short : w .len ≤ pathLimit
-  pub whole : length (w .path) ≡ 256
+  pub whole : length (w .path) ≡ pathBytes
   pub more : bare (restFrom w (w .at)) ≡ false
 
 -- what is known of a state that a component leaves so
@@ -74,27 +73,9 @@ pub record Turned (r : Turn) (x : Step) : Type 0 where
 pub record Ahead (w : Walk) (e : ℕ) : Type 0 where
   pub within : e ≤ w .len
   pub short : w .len ≤ pathLimit
-  pub whole : length (w .path) ≡ 256
+  pub whole : length (w .path) ≡ pathBytes
   pub few : w .steps < stepLimit
 
 -- the state in which the walk of a path begins
 abbrev pub beginning : List ℕ → ℕ → Bool → Walk
 beginning path directory waived = record { path = filled path; len = length path; at = 0; directory = directory; links = 0; steps = 0; waived = waived }
-
-module _ (path : List ℕ) (directory : ℕ) (waived : Bool) where
-  pub begins-at : positionOf (beginning path directory waived) ≡ record { rest = path; directory = directory; links = 0; steps = 0; waived = waived }
-  begins-at = rw (filled-part path (length path) refl)
-
-  pub begins-fit : length path ≤ pathLimit → bare path ≡ false → Fit (beginning path directory waived)
-  begins-fit short more =
-      record { within = omega arith; short = short; whole = filled-length path (omega arith); more = rw (filled-part path (length path) refl) more }
-
--- what an answer says where the walk goes on, and what it has left to read
-pub turned-goes : (r : Turn) (x : Step) → Turned r x → r .leave ≡ Goes → x ≡ goes (positionOf (r .walk))
-turned-goes r x turned e = sym (turned .is) ∙ ap (λ y. leaveOf (r .walk) y) e
-
-pub turned-fit : (r : Turn) (x : Step) → Turned r x → r .leave ≡ Goes → Fit (r .walk)
-turned-fit r x turned e = subst (λ y. Left (r .walk) y) e (turned .left)
-
-pub fit-short : (w : Walk) → Fit w → length (restFrom w (w .at)) ≤ pathLimit
-fit-short w fit = let l = part-length (w .path) (w .at) (w .len - w .at) (omega (arith, fit .within, fit .short, fit .whole)) in omega (arith, fit .short)

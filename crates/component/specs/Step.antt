@@ -1,6 +1,6 @@
--- One component of a path: what is asked of it, in the order of the rules, and where it leads (rules 50 to 60). Assumes nothing.
-use mathlib.Core.Bool.{Bool, false, _&&_, _||_, not, cond}
-use mathlib.Core.List.{List, _++_}
+-- One component of a path: a list of tests and ways to go on, of which the first whose test holds decides (rules 50 to 60). Assumes nothing.
+use mathlib.Core.Bool.{Bool, true, false, _&&_, _||_, not, cond}
+use mathlib.Core.List.{List, [], _∷_, _++_}
 use Prim.Native.Nat.{ℕ, _+_, _*_, _/_}
 use lib.Dec.{ltb, leb}
 use lib.ListN.{length}
@@ -13,8 +13,8 @@ use Rattle.component.specs.declared.state.Final.{Final}
 use Rattle.component.specs.declared.state.Final.the-variants.{MustExist, MayBeMissing}
 
 -- rule 56: how many symlinks one path may lead through
-abbrev pub linkLimit : ℕ
-linkLimit = 8
+abbrev pub symlinkLimit : ℕ
+symlinkLimit = 8
 
 -- rules 47 and 57: how long a path may be, as supplied and with a symlink's text in it
 abbrev pub pathLimit : ℕ
@@ -26,7 +26,7 @@ pathComponents = (pathLimit + 1) / 2
 
 -- rule 61: what a walk is bounded by: so many components in each of the paths that it may go through
 abbrev pub stepLimit : ℕ
-stepLimit = pathComponents * (linkLimit + 1)
+stepLimit = pathComponents * (symlinkLimit + 1)
 
 -- Where a walk stands: the rest of the path that is still unread, the directory it is read from, the symlinks followed, the component
 -- checks begun, and whether the next component's search permission is waived (rule 51).
@@ -55,9 +55,10 @@ pub data Step : Type 0 where
   goes : Position → Step
   ends : End → Step
 
--- the component check that is in hand counts, whichever way it leaves
-abbrev pub refuse : ℕ → Position → Step
-refuse n w = ends (record { number = n; steps = w .steps + 1; found = nothing })
+-- The component check in hand counts, whichever way it leaves: it refuses the walk, it ends it with what the path names, or the walk goes
+-- on with this rest in this directory.
+abbrev pub refusedBy : ℕ → Position → Step
+refusedBy n w = ends (record { number = n; steps = w .steps + 1; found = nothing })
 
 abbrev pub names : Position → Finding → Step
 names w found = ends (record { number = 0; steps = w .steps + 1; found = found })
@@ -70,59 +71,106 @@ abbrev pub splice : Position → List ℕ → List ℕ → Step
 splice w text rest =
     goes (record { rest = text ++ rest; directory = cond (absolute text) 0 (w .directory); links = w .links + 1; steps = w .steps + 1; waived = false })
 
--- rules 56 and 57: one symlink too many, and then a joined path that is too long
-abbrev pub follow : Position → List ℕ → List ℕ → Step
-follow w text rest =
-    cond (leb linkLimit (w .links)) (refuse 40 w)
-    (cond (ltb pathLimit (length text + length rest)) (refuse 36 w) (splice w text rest))
+-- rule 44: the component in hand, and all that is unread behind it
+abbrev pub nameAt : Position → List ℕ
+nameAt w = component (w .rest)
 
--- rule 59: the final name is missing
-abbrev pub lack : Final → Position → List ℕ → List ℕ → Step
-lack MustExist w name rest = refuse 2 w
-lack MayBeMissing w name rest = names w (missing (w .directory) name (not (empty rest)))
+abbrev pub unread : Position → List ℕ
+unread w = behind (w .rest)
 
--- rule 54: a name that is missing ahead of others
-abbrev pub miss : Final → Position → List ℕ → List ℕ → Step
-miss last w name rest = cond (not (bare rest)) (refuse 2 w) (lack last w name rest)
+abbrev pub isFinal : Position → Bool
+isFinal w = bare (unread w)
+
+abbrev pub slashBehind : Position → Bool
+slashBehind w = not (empty (unread w))
 
 module _ (v : View) where
-  -- a name ahead of others: a symlink is followed, anything else is gone into
-  abbrev pub enter : Position → List ℕ → ℕ → Step
-  enter w rest i = cond (isSymlink v i) (follow w (v .text (v .field i)) rest) (move w rest i)
+  -- rule 45: the slot in which the name is found, and the inode that its entry names
+  abbrev pub slotAt : Position → ℕ
+  slotAt w = lookup v (w .directory) (nameAt w)
 
-  -- rules 58 and 60: the final name exists; a slash behind it asks for a directory, and a symlink is not followed
-  abbrev pub arrive : Position → List ℕ → ℕ → Step
-  arrive w rest j =
-      cond (not (empty rest) && not (isDirectory v (v .target j))) (refuse 20 w)
-      (names w (existing (w .directory) j (v .target j) (not (empty rest))))
+  abbrev pub isMissing : Position → Bool
+  isMissing w = not (ltb (slotAt w) (v .entries))
 
-  -- the name is in slot j
-  abbrev pub hit : Position → List ℕ → ℕ → Step
-  hit w rest j = cond (not (bare rest)) (enter w rest (v .target j)) (arrive w rest j)
+  abbrev pub targetAt : Position → ℕ
+  targetAt w = v .target (slotAt w)
 
-  -- the name is looked up
-  abbrev pub seek : Final → Position → List ℕ → List ℕ → Step
-  seek last w name rest =
-      cond (ltb (lookup v (w .directory) name) (v .entries)) (hit w rest (lookup v (w .directory) name)) (miss last w name rest)
+  abbrev pub atDirectory : Position → Bool
+  atDirectory w = isDirectory v (targetAt w)
 
-  -- rule 53: a final dot or dot-dot is refused; else the one stays and the other goes up
-  abbrev pub dots : Position → List ℕ → List ℕ → Step
-  dots w name rest =
-      cond (bare rest) (refuse 22 w) (move w rest (cond (isDot name) (w .directory) (v .field (w .directory))))
+  -- rule 50: the component is read in a directory
+  abbrev pub inDirectory : Position → Bool
+  inDirectory w = isDirectory v (w .directory)
 
-  -- rule 52: a component that is longer than any name
-  abbrev pub read : Final → Position → List ℕ → List ℕ → Step
-  read last w name rest =
-      cond (ltb (v .room) (length name)) (refuse 36 w)
-      (cond (isDot name || isDotDot name) (dots w name rest) (seek last w name rest))
+  -- rule 51: search permission on it is not waived, and not had
+  abbrev pub searchDenied : Credentials → Position → Bool
+  searchDenied who w = not (w .waived || allows v who (w .directory) searchBit)
+
+  -- rule 52: longer than a name can be
+  abbrev pub overlong : Position → Bool
+  overlong w = ltb (v .room) (length (nameAt w))
+
+  -- rule 55: a symlink that is not final, and its text
+  abbrev pub innerSymlink : Position → Bool
+  innerSymlink w = not (isFinal w) && isSymlink v (targetAt w)
+
+  abbrev pub symlinkText : Position → List ℕ
+  symlinkText w = v .text (v .field (targetAt w))
+
+  -- rule 57: its text and the unread rest are longer together than a path may be
+  abbrev pub joinedOverlong : Position → Bool
+  joinedOverlong w = ltb pathLimit (length (symlinkText w) + length (unread w))
+
+-- rule 56: as many symlinks have been followed as a path may lead through
+abbrev pub symlinksSpent : Position → Bool
+symlinksSpent w = leb symlinkLimit (w .links)
+
+-- rule 59: whether the last name of the path must exist
+abbrev pub mustExist : Final → Bool
+mustExist MustExist = true
+mustExist MayBeMissing = false
+
+-- A test, and how the component leaves the walk where that test is the first that holds.
+pub record Guarded : Type 0 where
+  pub test : Bool
+  pub leaves : Step
+
+infix 70 _⇒_
+abbrev pub _⇒_ : Bool → Step → Guarded
+test ⇒ leaves = record { test = test; leaves = leaves }
+
+-- the first that holds decides; where none does, the component leaves the walk otherwise
+infix 10 _otherwise_
+abbrev pub _otherwise_ : List Guarded → Step → Step
+[] otherwise x = x
+(g ∷ gs) otherwise x = cond (g .test) (g .leaves) (gs otherwise x)
 
 module _ (v : View) (who : Credentials) (last : Final) where
-  -- rule 51: search permission on the directory, asked of every component that it is not waived for
-  abbrev pub inside : Position → Step
-  inside w =
-      cond (not (w .waived || allows v who (w .directory) searchBit)) (refuse 13 w)
-      (read v last w (component (w .rest)) (behind (w .rest)))
-
-  -- rule 50: a component is read in a directory
   unfoldable pub step : Position → Step
-  step w = cond (not (isDirectory v (w .directory))) (refuse 20 w) (inside w)
+  step w =
+      -- rule 50: what the component is to be read in is not a directory
+      not (inDirectory v w) ⇒ refusedBy 20 w
+      -- rule 51: search permission is denied
+      ∷ searchDenied v who w ⇒ refusedBy 13 w
+      -- rule 52: it is longer than a name can be
+      ∷ overlong v w ⇒ refusedBy 36 w
+      -- rule 53: a final dot or dot-dot is refused; elsewhere the one stays and the other goes to the parent
+      ∷ (isFinal w && (isDot (nameAt w) || isDotDot (nameAt w))) ⇒ refusedBy 22 w
+      ∷ isDot (nameAt w) ⇒ move w (unread w) (w .directory)
+      ∷ isDotDot (nameAt w) ⇒ move w (unread w) (v .field (w .directory))
+      -- rule 54: a name that is missing and not final
+      ∷ (isMissing v w && not (isFinal w)) ⇒ refusedBy 2 w
+      -- rules 56, 57 and 55: a symlink that is not final is one too many, or joins to too long a path, or is replaced by its text
+      ∷ (innerSymlink v w && symlinksSpent w) ⇒ refusedBy 40 w
+      ∷ (innerSymlink v w && joinedOverlong v w) ⇒ refusedBy 36 w
+      ∷ innerSymlink v w ⇒ splice w (symlinkText v w) (unread w)
+      -- any other name that is not final is gone into: rule 50 asks of the next component whether it is a directory
+      ∷ not (isFinal w) ⇒ move w (unread w) (targetAt v w)
+      -- rule 59: a final name that is missing is refused where it must exist; else it is what the path names
+      ∷ (isMissing v w && mustExist last) ⇒ refusedBy 2 w
+      ∷ isMissing v w ⇒ names w (missing (w .directory) (nameAt w) (slashBehind w))
+      -- rule 60: a slash stands behind a final name that is not a directory
+      ∷ (slashBehind w && not (atDirectory v w)) ⇒ refusedBy 20 w
+      ∷ []
+      -- rule 58: any other final name is what the path names: a symlink is not followed
+      otherwise names w (existing (w .directory) (slotAt v w) (targetAt v w) (slashBehind w))

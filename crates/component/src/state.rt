@@ -4,19 +4,22 @@ ghost use mathlib.Core.Bool.{false};
 ghost use Prim.Native.Nat.{_+_, _≤_, _<_};
 ghost use lib.ListN.{length};
 ghost use Rattle.paths.specs.Path.{bare};
-ghost use Rattle.component.specs.Step.{stepLimit, existing, missing, refuse, names, move};
+ghost use Rattle.component.specs.Step.{stepLimit, existing, missing, refusedBy, names, move};
 ghost use Rattle.component.specs.State.{positionOf, nameIn, restFrom, Ahead, Turned};
 
 // The longest path, as supplied and with a symlink's text in it.
 pub const PATH_LIMIT: usize = 255;
 
+// The bytes of a working path: the longest path, and one more.
+pub const PATH_BYTES: usize = 256;
+
 // The symlinks that one path may lead through.
-pub const LINK_LIMIT: usize = 8;
+pub const SYMLINK_LIMIT: usize = 8;
 
 // Where a walk stands: the working path, of which the bytes from at up to len are unread; the directory that they are read from; the
 // symlinks followed; the component checks begun; whether search permission is waived for the next component.
 pub struct Walk {
-    pub path: [u8; 256],
+    pub path: [u8; PATH_BYTES],
     pub len: usize,
     pub at: usize,
     pub directory: usize,
@@ -65,7 +68,7 @@ pub struct Turn {
 // The component in hand is refused.
 pub fn refuse(w: Walk, number: u8) -> Turn
     requires { ⌜ w .steps < stepLimit ⌝ }
-    ensures { λ r. ⌜ Turned r (refuse number (positionOf w)) ⌝ }
+    ensures { λ r. ⌜ Turned r (refusedBy number (positionOf w)) ⌝ }
 {
     let mut next = w;
     next.steps = w.steps + 1;

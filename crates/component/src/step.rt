@@ -15,12 +15,13 @@ ghost use Rattle.layout.specs.View.{viewOf, entryUsed, isDirectory};
 ghost use Rattle.layout.specs.ViewLaws.{Readable};
 ghost use Rattle.paths.specs.Permission.{allows, searchBit};
 ghost use Rattle.paths.specs.Path.{bare};
-ghost use Rattle.component.specs.Step.{pathLimit, linkLimit, stepLimit, splice, follow, enter, arrive, hit, lack, miss, seek, dots, read, inside, step};
+ghost use Rattle.component.specs.Step.{symlinkLimit, pathLimit, stepLimit, splice, step};
+ghost use Rattle.component.specs.Decisions.{follow, enter, arrive, hit, lack, miss, seek, dots, read, inside};
 ghost use Rattle.component.specs.State.{positionOf, nameIn, restFrom, Ahead, Fit, Turned};
 
 // The working path becomes a symlink's text and the unread rest from index e on.
 fn join(w: Walk, text: &[u8], e: usize, len: usize) -> Turn
-    requires { ⌜ Ahead w e × (bare (restFrom w e) ≡ false) × (len ≡ length (now text) + (w .len - e)) × (len ≤ pathLimit) × (w .links < linkLimit) ⌝ }
+    requires { ⌜ Ahead w e × (bare (restFrom w e) ≡ false) × (len ≡ length (now text) + (w .len - e)) × (len ≤ pathLimit) × (w .links < symlinkLimit) ⌝ }
     ensures { λ r. ⌜ Turned r (splice (positionOf w) (now (text .entry)) (restFrom w e)) ⌝ }
 {
     let old = w.path;
@@ -44,10 +45,10 @@ fn join(w: Walk, text: &[u8], e: usize, len: usize) -> Turn
 
 // A symlink ahead of other components is followed, unless it is one too many or the joined path is too long.
 fn follow(w: Walk, text: &[u8], e: usize) -> Turn
-    requires { ⌜ Ahead w e × (bare (restFrom w e) ≡ false) × (length (now text) ≤ 63) ⌝ }
+    requires { ⌜ Ahead w e × (bare (restFrom w e) ≡ false) × (length (now text) ≤ pathLimit) ⌝ }
     ensures { λ r. ⌜ Turned r (follow (positionOf w) (now (text .entry)) (restFrom w e)) ⌝ }
 {
-    if state::LINK_LIMIT <= w.links {
+    if state::SYMLINK_LIMIT <= w.links {
         return state::refuse(w, 40);
     }
     let len = text.len() + (w.len - e);

@@ -19,7 +19,8 @@ use Rattle.paths.specs.Request.{requestGood}
 use Rattle.paths.specs.RequestLaws.{good-old, good-new}
 use Rattle.component.specs.declared.state.Final.the-variants.{MustExist, MayBeMissing}
 use Rattle.walk.specs.Walk.{halt}
-use Rattle.walk.specs.Ends.{Facts, walk-facts}
+use Rattle.walk.specs.Ends.{Facts}
+use Rattle.walk.specs.EndLaws.{walk-facts}
 use Rattle.walk.specs.Both.{walksOf, oldWalk, newWalk, newAfter}
 use Rattle.plan.specs.Form.{planBytes}
 use Rattle.refusals.specs.declared.case.Answer.the-variants.{Planned}

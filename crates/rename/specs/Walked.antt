@@ -16,8 +16,8 @@ use Rattle.consistency.specs.Facts.{checked-readable}
 use Rattle.paths.specs.declared.request.Request.{Request}
 use Rattle.paths.specs.Request.{requestGood}
 use Rattle.walk.specs.declared.both.Walks.{Walks}
-use Rattle.walk.specs.Answer.{endOf}
-use Rattle.walk.specs.Both.{Ends, walksOf, BothAnswered}
+use Rattle.walk.specs.Answer.{endOf, BothAnswered}
+use Rattle.walk.specs.Both.{Ends, walksOf}
 use Rattle.plan.specs.Form.{planBytes, cleared}
 use Rattle.plan.specs.Write.{Write}
 use Rattle.refusals.specs.declared.case.Case.{Case}

@@ -1,6 +1,6 @@
 -- How far a walk goes (rule 61), and that its end owes nothing to the fuel it is defined with. Assumes nothing.
 use mathlib.Core.Path.{_≡_, refl, sym, subst}
-use mathlib.Core.Logic.{_⊎_, inl, inr, ⊎-elim}
+use mathlib.Core.Logic.{inl, inr, ⊎-elim}
 use mathlib.Core.Bool.{Bool, false}
 use mathlib.Core.List.{List}
 use Prim.Native.Nat.{ℕ, zero, suc, _+_, _*_, _-_, _/_, _≤_, _<_, zero-le}
@@ -9,30 +9,21 @@ use native.Mathlib.Omega.{arith}
 use lib.ListN.{length, length-append}
 use Rattle.layout.specs.View.{View}
 use Rattle.paths.specs.declared.request.Credentials.{Credentials}
-use Rattle.paths.specs.Path.{skip, behind, bare}
+use Rattle.paths.specs.Path.{behind, bare}
 use Rattle.paths.specs.PathLaws.{skip-le, skip-more, behind-le, behind-short, bare-append}
 use Rattle.component.specs.declared.state.Final.{Final}
-use Rattle.component.specs.Step.{linkLimit, pathLimit, pathComponents, stepLimit, Position, End, Step, goes, ends, step}
-use Rattle.component.specs.Ways.{Way, refuses, moves, follows, exists, lacks, step-way}
-use Rattle.walk.specs.Walk.{startAt, walkFrom, walk, by-walk}
+use Rattle.component.specs.Step.{symlinkLimit, pathLimit, pathComponents, stepLimit, Position, End, Step, goes, ends, step}
+use Rattle.component.specs.Ways.{Way, refuses, moves, follows, exists, lacks}
+use Rattle.component.specs.WayLaws.{step-way}
+use Rattle.walk.specs.Walk.{startAt, walkFrom, walk}
+use Rattle.walk.specs.WalkLaws.{by-walk}
+use Rattle.walk.specs.Budget.{Goes, After, budget, Ready, Leads, ending, going}
 
--- rule 61, in a number
+-- rule 61 in a number: it moves with `symlinkLimit`, and stands in no other definition or law
 pub step-limit : stepLimit ≡ 1152
 step-limit = refl
 
--- A step that goes on from w to u: the component counts, another is left, and either u is behind the component just read, or one more
--- symlink, which was not one too many, has led into a path of its own.
-pub record Goes (w u : Position) : Type 0 where
-  pub more : bare (u .rest) ≡ false
-  pub counted : u .steps ≡ w .steps + 1
-  pub way : ((u .links ≡ w .links) × (u .rest ≡ behind (w .rest)))
-      ⊎ ((u .links ≡ w .links + 1) × (w .links < linkLimit) × (length (u .rest) ≤ pathLimit))
-
--- what holds after a step: the component counts where the walk ends, too
-abbrev pub After : Position → Step → Type 0
-After w (goes u) = Goes w u
-After w (ends e) = e .steps ≡ w .steps + 1
-
+-- every step counts, and goes on so if it does
 after-way : (v : View) (last : Final) (w : Position) (x : Step) → Way v last w x → After w x
 after-way v last w x (refuses n some e) = subst (After w) (sym e) refl
 after-way v last w x (moves d more e) = subst (After w) (sym e) (record { more = more; counted = refl; way = inl (refl, refl) })
@@ -48,16 +39,11 @@ after-way v last w x (lacks slash may place none short plain e) = subst (After w
 pub after-is : (v : View) (who : Credentials) (last : Final) (w : Position) (x : Step) → step v who last w ≡ x → After w x
 after-is v who last w x e = subst (After w) e (after-way v last w _ (step-way v who last w))
 
--- What a walk can still spend: as many components as a path can have for each symlink that it may yet follow, and those of the path in
--- hand, each of which has a byte and, but for the last, a slash.
-unfoldable pub budget : Position → ℕ
-budget w = pathComponents * (linkLimit - w .links) + (length (skip (w .rest)) + 1) / 2
-
 pub budget-more : (w : Position) → bare (w .rest) ≡ false → 0 < budget w
 unfolding budget
 budget-more w more = let l = skip-more (w .rest) more in omega arith
 
--- the arithmetic of it, over any number of symlinks; of the longest path it is computed how many components it has at most
+-- the arithmetic of the budget, over any number of symlinks; of the longest path it is computed how many components it has at most
 spend-component : (limit links a b : ℕ) → a + 2 ≤ b → pathComponents * (limit - links) + (a + 1) / 2 < pathComponents * (limit - links) + (b + 1) / 2
 spend-component limit links a b l = omega arith
 
@@ -72,25 +58,17 @@ falls-behind : (w u : Position) → bare (w .rest) ≡ false → bare (u .rest) 
     → budget u < budget w
 unfolding budget
 falls-behind w u more left e r =
-    rw e (spend-component linkLimit (w .links) _ _ (rw r (behind-short (w .rest) more (rw r at left))))
+    rw e (spend-component symlinkLimit (w .links) _ _ (rw r (behind-short (w .rest) more (rw r at left))))
 
-falls-symlink : (w u : Position) → bare (w .rest) ≡ false → u .links ≡ w .links + 1 → w .links < linkLimit → length (u .rest) ≤ pathLimit
+falls-symlink : (w u : Position) → bare (w .rest) ≡ false → u .links ≡ w .links + 1 → w .links < symlinkLimit → length (u .rest) ≤ pathLimit
     → budget u < budget w
 unfolding budget
 falls-symlink w u more e few short =
-    rw e (spend-symlink linkLimit (w .links) _ _ few (le-trans (skip-le (u .rest)) short) (skip-more (w .rest) more))
+    rw e (spend-symlink symlinkLimit (w .links) _ _ few (le-trans (skip-le (u .rest)) short) (skip-more (w .rest) more))
 
 pub budget-falls : (w u : Position) → bare (w .rest) ≡ false → Goes w u → budget u < budget w
 budget-falls w u more g =
     ⊎-elim (λ on. falls-behind w u more (g .more) (on .0) (on .1)) (λ on. falls-symlink w u more (on .0) (on .1) (on .2)) (g .way)
-
--- A position that a walk may stand at: a component is left, the limits are kept, and what was spent and what can be is no more than the
--- bound. It holds where a walk begins and from step to step.
-pub record Ready (w : Position) : Type 0 where
-  pub more : bare (w .rest) ≡ false
-  pub few : w .links ≤ linkLimit
-  pub short : length (w .rest) ≤ pathLimit
-  pub within : w .steps + budget w ≤ stepLimit
 
 pub ready-steps : (w : Position) → Ready w → w .steps < stepLimit
 ready-steps w r = let b = budget-more w (r .more) in omega arith
@@ -104,13 +82,8 @@ ready-new w more short none unread = record {
   more = more;
   few = rw none zero-le;
   short = short;
-  within = rw (unread, zero-add) (spend-most linkLimit (w .links) _ (le-trans (skip-le (w .rest)) short));
+  within = rw (unread, zero-add) (spend-most symlinkLimit (w .links) _ (le-trans (skip-le (w .rest)) short));
 }
-
--- Where the steps from a position lead, with no fuel: the end of the step that ends, through those that go on.
-pub data Leads (v : View) (who : Credentials) (last : Final) : Position → End → Type 0 where
-  ending : {w : Position} {e : End} → step v who last w ≡ ends e → Leads v who last w e
-  going : {w u : Position} {e : End} → step v who last w ≡ goes u → Leads v who last u e → Leads v who last w e
 
 module _ (v : View) (who : Credentials) (last : Final) where
   pub ready-next : (w u : Position) → Ready w → step v who last w ≡ goes u → Ready u

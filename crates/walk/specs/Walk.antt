@@ -1,13 +1,9 @@
 -- The walk of a whole path: where it begins, and component after component to its end (rules 41 and 46 to 49). Assumes nothing.
-use mathlib.Core.Path.{_≡_, refl, ap, _∙_}
-use mathlib.Core.Logic.{_≢_}
-use mathlib.Core.Bool.{Bool, true, false, _&&_, _||_, cond}
+use mathlib.Core.Bool.{Bool, false, _&&_, _||_, cond}
 use mathlib.Core.List.{List}
-use Prim.Native.Nat.{ℕ, zero, suc, _≤_, _<_}
+use Prim.Native.Nat.{ℕ, zero, suc}
 use lib.Dec.{eqb, ltb}
 use lib.ListN.{length}
-use borrow.Author.Tests.{ltb-false, eq-eqb, ne-eqb, lt-ltb, le-ltb}
-use Rattle.seq.specs.Truth.{by-test}
 use Rattle.layout.specs.View.{View, handleOpen}
 use Rattle.paths.specs.declared.request.Credentials.{Credentials}
 use Rattle.paths.specs.Path.{empty, bare, absolute}
@@ -56,39 +52,3 @@ module _ (v : View) (who : Credentials) (last : Final) where
   unfoldable pub walk : ℕ → ℕ → List ℕ → End
   walk current start path =
       cond (empty path) (halt 2) (cond (ltb pathLimit (length path)) (halt 36) (begun (startOf v current start path) path))
-
-  -- the ways out ahead of the first component
-  module _ (start : Start) (directory : ℕ) (waived : Bool) (path : List ℕ) (at : start ≡ At directory waived) where
-    pub begun-bare : bare path ≡ true → begun start path ≡ halt 16
-    begun-bare b = ap (λ x. begun x path) at ∙ rw b
-
-    pub begun-walks : bare path ≡ false → begun start path ≡ walkFrom stepLimit (startAt directory waived path)
-    begun-walks b = ap (λ x. begun x path) at ∙ rw b
-
-  module _ (current start : ℕ) (path : List ℕ) where
-    pub walk-empty : length path ≡ 0 → walk current start path ≡ halt 2
-    unfolding walk
-    walk-empty e = rw (eq-eqb _ _ e)
-
-    pub walk-long : length path ≢ 0 → pathLimit < length path → walk current start path ≡ halt 36
-    unfolding walk
-    walk-long some long = rw (ne-eqb _ _ some, lt-ltb _ _ long)
-
-    pub walk-begins : length path ≢ 0 → length path ≤ pathLimit → walk current start path ≡ begun (startOf v current start path) path
-    unfolding walk
-    walk-begins some short = rw (ne-eqb _ _ some, le-ltb _ _ short)
-
-  -- what holds of a walk that does not begin, and of one that does, holds of every walk
-  module _ (P : End → Type 0) (path : List ℕ) (halts : (n : ℕ) → haltNumber n ≡ true → P (halt n))
-      (begins : length path ≤ pathLimit → bare path ≡ false → (directory : ℕ) (waived : Bool) → P (walkFrom stepLimit (startAt directory waived path))) where
-    by-begun : length path ≤ pathLimit → (start : Start) → P (begun start path)
-    by-begun short Closed = halts 9 refl
-    by-begun short (At directory waived) =
-        by-test P (bare path) _ _ (λ e. halts 16 refl) (λ more. begins short more directory waived)
-
-    pub by-walk : (current start : ℕ) → P (walk current start path)
-    unfolding walk
-    by-walk current start =
-        by-test P (empty path) _ _ (λ e. halts 2 refl) (λ some.
-        by-test P (ltb pathLimit (length path)) _ _ (λ e. halts 36 refl) (λ short.
-        by-begun (ltb-false _ _ short) (startOf v current start path)))

@@ -9,7 +9,8 @@ ghost use mathlib.Core.Bool.{true};
 ghost use Rattle.layout.specs.View.{viewOf};
 ghost use Rattle.layout.specs.ViewLaws.{Readable};
 ghost use Rattle.paths.specs.Request.{requestGood};
-ghost use Rattle.walk.specs.Both.{walksOf, BothAnswered};
+ghost use Rattle.walk.specs.Both.{walksOf};
+ghost use Rattle.walk.specs.Answer.{BothAnswered};
 
 pub struct Walks {
     pub old: Walked,

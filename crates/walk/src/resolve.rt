@@ -27,7 +27,7 @@ pub struct Walked {
     pub number: u8,
     pub steps: usize,
     pub found: Found,
-    pub path: [u8; 256],
+    pub path: [u8; state::PATH_BYTES],
 }
 
 // The answer of a walk that ends here.
@@ -62,11 +62,11 @@ fn run(s: &[u8], h: Shape, who: Credentials, last: Final, w: Walk) -> Walked
 }
 
 // A working path that holds this path, and then zeros.
-fn working(path: &[u8]) -> [u8; 256]
+fn working(path: &[u8]) -> [u8; state::PATH_BYTES]
     requires { ⌜ length (now path) ≤ pathLimit ⌝ }
     ensures { λ r. ⌜ r ≡ filled (now (path .entry)) ⌝ }
 {
-    let mut bytes = [0u8; 256];
+    let mut bytes = [0u8; state::PATH_BYTES];
     layout::bytes::copy(&mut bytes, 0, path);
     bytes
 }
@@ -96,7 +96,7 @@ pub fn stop(number: u8) -> Walked
         number,
         steps: 0,
         found: Found::Nothing,
-        path: [0u8; 256],
+        path: [0u8; state::PATH_BYTES],
     }
 }
 

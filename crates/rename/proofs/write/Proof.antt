@@ -4,7 +4,8 @@ use Prim.Native.Nat.{_+_, _≤_}
 use native.Mathlib.Omega.{arith}
 use lib.ListN.{length}
 use Rattle.seq.specs.Bytes.{part}
-use Rattle.component.specs.State.{findingOf, missing-range}
+use Rattle.component.specs.State.{findingOf}
+use Rattle.component.specs.StateLaws.{missing-range}
 use Rattle.results.specs.InImage.{InImage}
 use Rattle.rename.specs.Order.{nameOf}
 use Rattle.moves.specs.Filled.{planned-as}

@@ -1,5 +1,6 @@
 -- `component::step::inside` meets its contract. Assumes nothing.
 use mathlib.Core.Path.{ap}
+use mathlib.Core.Bool.{_||_}
 use Prim.Native.Nat.{_+_, _-_}
 use native.Mathlib.Omega.{arith}
 use borrow.Author.Needs.{needs}
@@ -7,6 +8,7 @@ use Rattle.seq.specs.Bytes.{part}
 use Rattle.seq.specs.BytesLaws.{part-length}
 use Rattle.seq.specs.Truth.{fails, holds}
 use Rattle.layout.specs.View.{viewOf}
+use Rattle.paths.specs.Permission.{searchBit, allows}
 use Rattle.component.specs.State.{Ahead, positionOf}
 use Rattle.component.specs.Turns.{inside-denied, inside-reads, component-range, behind-range}
 use Rattle.component.proofs.step.inside.Statement.{statement}
@@ -21,7 +23,8 @@ refuse-requires c κs = search needs
 returns : tie.Need-returns
 returns c =
     let args = c .before .before .before .before .args in
-    inside-denied (viewOf (args .h) (args .s .now)) (args .who) (args .last) _ (positionOf (args .w)) (fails (c .before .before .may-search .ensures) (c .before .if1 .taken)) (c .refuse .ensures)
+    inside-denied (viewOf (args .h) (args .s .now)) (args .who) (args .last) _ (positionOf (args .w))
+    (fails {x = args .w .waived || allows (viewOf (args .h) (args .s .now)) (args .who) (args .w .directory) searchBit} (c .before .before .may-search .ensures) (c .before .if1 .taken)) (c .refuse .ensures)
 
 sub-slashes : tie.Need-sub-slashes
 sub-slashes c = search needs
@@ -89,7 +92,8 @@ returns-2 c =
     let more = name-bytes .ensures .1 in
     let start = ap (λ n. args .w .at + n) (slashes .ensures .0) in
     let end = ap (λ n. a + n) (name-bytes .ensures .0) in
-    inside-reads (viewOf (args .h) (args .s .now)) (args .who) (args .last) _ (positionOf (args .w)) _ _ (holds (may-search .ensures) (if1 .left))
+    inside-reads (viewOf (args .h) (args .s .now)) (args .who) (args .last) _ (positionOf (args .w)) _ _
+    (holds {x = args .w .waived || allows (viewOf (args .h) (args .s .now)) (args .who) (args .w .directory) searchBit} (may-search .ensures) (if1 .left))
     (component-range (args .w .path) (args .w .at) (args .w .len) a (a + name-bytes .result) (fit .within) start end (omega (arith, fit .within)))
     (behind-range (args .w .path) (args .w .at) (args .w .len) a (a + name-bytes .result) (fit .within) start end) (c .component .ensures)
 

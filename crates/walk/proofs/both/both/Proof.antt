@@ -1,10 +1,8 @@
 -- `walk::both::both` meets its contract. Assumes nothing.
-use mathlib.Core.Path.{sym, _∙_}
-use native.Mathlib.Omega.{arith}
 use borrow.Author.Needs.{needs}
 use Rattle.layout.specs.View.{viewOf}
 use Rattle.paths.specs.RequestLaws.{good-old, good-new}
-use Rattle.walk.specs.Both.{both-refused, both-walked}
+use Rattle.walk.specs.BothLaws.{both-refused, both-walked}
 use Rattle.walk.proofs.both.both.Statement.{statement}
 use Rattle.walk.proofs.both.both.Tie as tie
 

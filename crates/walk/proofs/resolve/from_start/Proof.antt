@@ -3,9 +3,11 @@ use mathlib.Core.Path.{sym, _∙_, ap, subst}
 use borrow.Author.Needs.{needs}
 use Rattle.layout.specs.View.{viewOf}
 use Rattle.component.specs.Step.{stepLimit}
-use Rattle.component.specs.State.{positionOf, Fit, begins-at, begins-fit}
-use Rattle.walk.specs.Walk.{walkFrom, begun, begun-bare, begun-walks}
-use Rattle.walk.specs.Answer.{ended-as}
+use Rattle.component.specs.State.{positionOf, Fit}
+use Rattle.component.specs.StateLaws.{begins-at, begins-fit}
+use Rattle.walk.specs.Walk.{walkFrom, begun}
+use Rattle.walk.specs.WalkLaws.{begun-bare, begun-walks}
+use Rattle.walk.specs.AnswerLaws.{ended-as}
 use Rattle.walk.proofs.resolve.from_start.Statement.{statement}
 use Rattle.walk.proofs.resolve.from_start.Tie as tie
 

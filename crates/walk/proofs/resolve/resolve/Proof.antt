@@ -2,8 +2,9 @@
 use mathlib.Core.Path.{sym, _∙_, ap}
 use borrow.Author.Needs.{needs}
 use Rattle.layout.specs.View.{viewOf}
-use Rattle.walk.specs.Walk.{begun, walk-empty, walk-long, walk-begins}
-use Rattle.walk.specs.Answer.{ended-as}
+use Rattle.walk.specs.Walk.{begun}
+use Rattle.walk.specs.WalkLaws.{walk-empty, walk-long, walk-begins}
+use Rattle.walk.specs.AnswerLaws.{ended-as}
 use Rattle.walk.proofs.resolve.resolve.Statement.{statement}
 use Rattle.walk.proofs.resolve.resolve.Tie as tie
 

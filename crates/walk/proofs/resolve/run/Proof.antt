@@ -4,10 +4,13 @@ use native.Mathlib.Omega.{arith}
 use borrow.Author.Needs.{needs}
 use Rattle.layout.specs.View.{viewOf}
 use Rattle.component.specs.Step.{stepLimit}
-use Rattle.component.specs.State.{positionOf, Fit, turned-goes, turned-fit, fit-short}
+use Rattle.component.specs.State.{positionOf, Fit}
+use Rattle.component.specs.StateLaws.{turned-goes, turned-fit, fit-short}
 use Rattle.walk.specs.Walk.{walkFrom}
-use Rattle.walk.specs.Bound.{Ready, budget, ready-new, ready-steps, ready-next, after-is, budget-falls, walk-goes, walk-ends}
-use Rattle.walk.specs.Answer.{endOf, refused-closes, found-closes}
+use Rattle.walk.specs.Budget.{budget, Ready}
+use Rattle.walk.specs.Bound.{after-is, budget-falls, ready-new, ready-steps, ready-next, walk-goes, walk-ends}
+use Rattle.walk.specs.Answer.{endOf}
+use Rattle.walk.specs.AnswerLaws.{refused-closes, found-closes}
 use Rattle.walk.proofs.resolve.run.Statement.{statement}
 use Rattle.walk.proofs.resolve.run.Tie as tie
 

@@ -2,7 +2,7 @@
 use borrow.Author.Needs.{needs}
 use Rattle.layout.specs.View.{viewOf}
 use Rattle.layout.specs.ViewLaws.{readable-text}
-use Rattle.walk.specs.Answer.{walk-answered}
+use Rattle.walk.specs.AnswerLaws.{walk-answered}
 use Rattle.walk.proofs.resolve.walk.Statement.{statement}
 use Rattle.walk.proofs.resolve.walk.Tie as tie
 

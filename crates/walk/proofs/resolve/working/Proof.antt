@@ -4,6 +4,7 @@ use native.Mathlib.Omega.{arith}
 use borrow.Author.Needs.{needs}
 use Rattle.seq.specs.BytesLaws.{put-zeros}
 use Rattle.paths.specs.Filled.{filled}
+use Rattle.component.specs.State.{pathBytes}
 use Rattle.walk.proofs.resolve.working.Statement.{statement}
 use Rattle.walk.proofs.resolve.working.Tie as tie
 
@@ -18,7 +19,7 @@ unfolding filled
 returns c =
     let args = c .before .before .before .before .args in
     let pre = c .before .before .before .before .pre in
-    c .before .copy .ensures ∙ put-zeros 256 (args .path .now) (omega (arith, pre))
+    c .before .copy .ensures ∙ put-zeros pathBytes (args .path .now) (omega (arith, pre))
 
 pub working-spec : {M : Type 1} → statement M
 working-spec = tie.close (tie.spec slice-aggregate-copy copy-requires returns)
