@@ -28,12 +28,12 @@ abbrev pub oldCleared : Shape → List ℕ → Move → List ℕ
 oldCleared h x m = store h x (entryKey (m .old)) (freeRecord h 1)
 
 -- The new entry stands in the image.
-pub record Stands (h : Shape) (x : List ℕ) (m : Move) : Type 0 where
+pub record EntryStands (h : Shape) (x : List ℕ) (m : Move) : Type 0 where
   pub used : EntryUsed (viewOf h x) (m .new)
   pub parent : viewOf h x .parent (m .new) ≡ m .into
   pub target : viewOf h x .target (m .new) ≡ m .moved
 
-module _ (h : Shape) (x : List ℕ) (m : Move) (laid : Laid h x) (below : m .old < h .entries) (differ : m .old ≢ m .new) (stands : Stands h x m) where
+module _ (h : Shape) (x : List ℕ) (m : Move) (laid : Laid h x) (below : m .old < h .entries) (differ : m .old ≢ m .new) (stands : EntryStands h x m) where
   old-valid : Valid h (entryKey (m .old))
   old-valid = record { in-image = lit< tt; in-section = below }
 

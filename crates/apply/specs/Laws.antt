@@ -18,7 +18,7 @@ use Rattle.layout.specs.Record.{recordAt, store}
 use Rattle.layout.specs.RecordLaws.{store-length, store-same, store-other}
 use Rattle.layout.specs.Commute.{store-shape, store-layout, store-swap}
 use Rattle.plan.specs.Form.{Row, planRows, planBytes, bodyAt, rowLength, rowOffset, rowAt}
-use Rattle.plan.specs.Rows.{Stands}
+use Rattle.plan.specs.RowLaws.{Stands}
 use Rattle.plan.specs.Fit.{applicable, rowFor}
 use Rattle.plan.specs.FitLaws.{Covered, Applicable, Writes, applicable-is, is-applicable, applicable-fits, stands-applicable, written-fits}
 use Rattle.apply.specs.Apply.{applyNumber, applied, appliedImage}

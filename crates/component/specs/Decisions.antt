@@ -4,6 +4,7 @@ use mathlib.Core.List.{List}
 use Prim.Native.Nat.{ℕ, _+_}
 use lib.Dec.{ltb, leb}
 use lib.ListN.{length}
+use Rattle.layout.specs.Errno.{EACCES, EINVAL, ELOOP, ENAMETOOLONG, ENOENT, ENOTDIR}
 use Rattle.layout.specs.View.{View, isDirectory, isSymlink}
 use Rattle.paths.specs.declared.request.Credentials.{Credentials}
 use Rattle.paths.specs.Permission.{searchBit, allows}
@@ -11,22 +12,23 @@ use Rattle.paths.specs.Path.{component, behind, empty, bare, isDot, isDotDot}
 use Rattle.paths.specs.Lookup.{lookup}
 use Rattle.component.specs.declared.state.Final.{Final}
 use Rattle.component.specs.declared.state.Final.the-variants.{MustExist, MayBeMissing}
-use Rattle.component.specs.Step.{symlinkLimit, pathLimit, Position, existing, missing, Step, refusedBy, names, move, splice}
+use Rattle.component.specs.Step.{Position, existing, missing, Step, refusedBy, names, move, splice}
+use Rattle.layout.specs.Limits.{symlinkLimit, pathLimit}
 
 -- rules 56 and 57: one symlink too many, and then a joined path that is too long
 abbrev pub follow : Position → List ℕ → List ℕ → Step
 follow w text rest =
-    cond (leb symlinkLimit (w .links)) (refusedBy 40 w)
-    (cond (ltb pathLimit (length text + length rest)) (refusedBy 36 w) (splice w text rest))
+    cond (leb symlinkLimit (w .links)) (refusedBy ELOOP w)
+    (cond (ltb pathLimit (length text + length rest)) (refusedBy ENAMETOOLONG w) (splice w text rest))
 
 -- rule 59: the final name is missing
 abbrev pub lack : Final → Position → List ℕ → List ℕ → Step
-lack MustExist w name rest = refusedBy 2 w
+lack MustExist w name rest = refusedBy ENOENT w
 lack MayBeMissing w name rest = names w (missing (w .directory) name (not (empty rest)))
 
 -- rule 54: a name that is missing ahead of others
 abbrev pub miss : Final → Position → List ℕ → List ℕ → Step
-miss last w name rest = cond (not (bare rest)) (refusedBy 2 w) (lack last w name rest)
+miss last w name rest = cond (not (bare rest)) (refusedBy ENOENT w) (lack last w name rest)
 
 module _ (v : View) where
   -- a name ahead of others: a symlink is followed, anything else is gone into
@@ -36,7 +38,7 @@ module _ (v : View) where
   -- rules 58 and 60: the final name exists; a slash behind it asks for a directory, and a symlink is not followed
   abbrev pub arrive : Position → List ℕ → ℕ → Step
   arrive w rest j =
-      cond (not (empty rest) && not (isDirectory v (v .target j))) (refusedBy 20 w)
+      cond (not (empty rest) && not (isDirectory v (v .target j))) (refusedBy ENOTDIR w)
       (names w (existing (w .directory) j (v .target j) (not (empty rest))))
 
   -- the name is in slot j
@@ -51,21 +53,21 @@ module _ (v : View) where
   -- rule 53: a final dot or dot-dot is refused; else the one stays and the other goes up
   abbrev pub dots : Position → List ℕ → List ℕ → Step
   dots w name rest =
-      cond (bare rest) (refusedBy 22 w) (move w rest (cond (isDot name) (w .directory) (v .field (w .directory))))
+      cond (bare rest) (refusedBy EINVAL w) (move w rest (cond (isDot name) (w .directory) (v .field (w .directory))))
 
   -- rule 52: a component that is longer than any name
   abbrev pub read : Final → Position → List ℕ → List ℕ → Step
   read last w name rest =
-      cond (ltb (v .room) (length name)) (refusedBy 36 w)
+      cond (ltb (v .room) (length name)) (refusedBy ENAMETOOLONG w)
       (cond (isDot name || isDotDot name) (dots w name rest) (seek last w name rest))
 
 module _ (v : View) (who : Credentials) (last : Final) where
   -- rule 51: search permission on the directory, asked of every component that it is not waived for
   abbrev pub inside : Position → Step
   inside w =
-      cond (not (w .waived || allows v who (w .directory) searchBit)) (refusedBy 13 w)
+      cond (not (w .waived || allows v who (w .directory) searchBit)) (refusedBy EACCES w)
       (read v last w (component (w .rest)) (behind (w .rest)))
 
   -- rule 50: a component is read in a directory
   abbrev pub decision : Position → Step
-  decision w = cond (not (isDirectory v (w .directory))) (refusedBy 20 w) (inside w)
+  decision w = cond (not (isDirectory v (w .directory))) (refusedBy ENOTDIR w) (inside w)

@@ -12,19 +12,20 @@ use Rattle.seq.specs.Bytes.{part}
 use Rattle.seq.specs.BytesLaws.{part-length}
 use Rattle.paths.specs.Path.{empty, bare, absolute}
 use Rattle.paths.specs.PathLaws.{bare-append}
-use Rattle.paths.specs.Filled.{filled, filled-length, filled-part}
+use Rattle.paths.specs.WorkingPath.{workingPath, filled-length, filled-part}
 use Rattle.component.specs.declared.state.Walk.{Walk}
 use Rattle.component.specs.declared.state.Leave.the-variants.{Goes}
-use Rattle.component.specs.Step.{pathLimit, splice}
-use Rattle.component.specs.State.{restFrom, positionOf, Turned, Ahead}
+use Rattle.component.specs.Step.{splice}
+use Rattle.layout.specs.Limits.{pathLimit}
+use Rattle.component.specs.State.{restFrom, positionOf, Turned, ReadUpTo}
 
 -- how much is left to read from index e on
-pub rest-length : (w : Walk) (e : ℕ) → Ahead w e → length (restFrom w e) ≡ w .len - e
+pub rest-length : (w : Walk) (e : ℕ) → ReadUpTo w e → length (restFrom w e) ≡ w .len - e
 rest-length w e ahead = part-length (w .path) e (w .len - e) (omega (arith, ahead .within, ahead .short, ahead .whole))
 
 -- The walk goes on in a spliced path.
-pub joins : (w : Walk) (text path : List ℕ) (e len directory : ℕ) → Ahead w e → bare (restFrom w e) ≡ false → len ≡ length text + (w .len - e) → len ≤ pathLimit
-    → path ≡ filled (text ++ restFrom w e) → directory ≡ cond (absolute text) 0 (w .directory)
+pub joins : (w : Walk) (text path : List ℕ) (e len directory : ℕ) → ReadUpTo w e → bare (restFrom w e) ≡ false → len ≡ length text + (w .len - e) → len ≤ pathLimit
+    → path ≡ workingPath (text ++ restFrom w e) → directory ≡ cond (absolute text) 0 (w .directory)
     → Turned
     (record { walk = record { path = path; len = len; at = 0; directory = directory; links = w .links + 1; steps = w .steps + 1; waived = false }; leave = Goes })
     (splice (positionOf w) text (restFrom w e))
@@ -38,7 +39,7 @@ joins w text path e len directory ahead more size short p d =
     }
 
 -- whether a slash stands behind the final name
-pub slash-behind : (w : Walk) (e : ℕ) → Ahead w e → ltb e (w .len) ≡ not (empty (restFrom w e))
+pub slash-behind : (w : Walk) (e : ℕ) → ReadUpTo w e → ltb e (w .len) ≡ not (empty (restFrom w e))
 slash-behind w e ahead = go (rest-length w e ahead) (decLt e (w .len))
   where
     go : length (restFrom w e) ≡ w .len - e → Dec (e < w .len) → ltb e (w .len) ≡ not (empty (restFrom w e))
@@ -46,8 +47,8 @@ slash-behind w e ahead = go (rest-length w e ahead) (decLt e (w .len))
     go l (no above) = rw (le-ltb e (w .len) (omega arith), eq-eqb (length (restFrom w e)) 0 (omega arith))
 
 -- whether anything stands behind it
-pub plain-end : (w : Walk) (e : ℕ) → Ahead w e → e ≡ w .len → empty (restFrom w e) ≡ true
+pub plain-end : (w : Walk) (e : ℕ) → ReadUpTo w e → e ≡ w .len → empty (restFrom w e) ≡ true
 plain-end w e ahead z = eq-eqb (length (restFrom w e)) 0 (omega (arith, rest-length w e ahead))
 
-pub slash-end : (w : Walk) (e : ℕ) → Ahead w e → (e ≡ w .len → ⊥) → empty (restFrom w e) ≡ false
+pub slash-end : (w : Walk) (e : ℕ) → ReadUpTo w e → (e ≡ w .len → ⊥) → empty (restFrom w e) ≡ false
 slash-end w e ahead n = ne-eqb (length (restFrom w e)) 0 (λ z. n (omega (arith, rest-length w e ahead, ahead .within)))

@@ -12,12 +12,9 @@ use Rattle.component.specs.declared.state.Leave.{Leave}
 use Rattle.component.specs.declared.state.Leave.the-variants.{Goes, Refuses, Finds}
 use Rattle.component.specs.declared.state.Turn.{Turn}
 use Rattle.paths.specs.Path.{bare}
-use Rattle.paths.specs.Filled.{filled}
-use Rattle.component.specs.Step.{pathLimit, stepLimit, Position, Finding, existing, missing, nothing, Step, goes, ends}
-
--- how many bytes a working path has: the longest path, and one more
-abbrev pub pathBytes : ℕ
-pathBytes = 256
+use Rattle.paths.specs.WorkingPath.{workingPath}
+use Rattle.component.specs.Step.{Position, Finding, existing, missing, nothing, Step, goes, ends}
+use Rattle.layout.specs.Limits.{pathLimit, stepLimit, pathBytes}
 
 -- the unread rest from index e on
 abbrev pub restFrom : Walk → ℕ → List ℕ
@@ -70,7 +67,7 @@ pub record Turned (r : Turn) (x : Step) : Type 0 where
   pub left : Left (r .walk) (r .leave)
 
 -- What is known where a component has been read up to index e.
-pub record Ahead (w : Walk) (e : ℕ) : Type 0 where
+pub record ReadUpTo (w : Walk) (e : ℕ) : Type 0 where
   pub within : e ≤ w .len
   pub short : w .len ≤ pathLimit
   pub whole : length (w .path) ≡ pathBytes
@@ -78,4 +75,4 @@ pub record Ahead (w : Walk) (e : ℕ) : Type 0 where
 
 -- the state in which the walk of a path begins
 abbrev pub beginning : List ℕ → ℕ → Bool → Walk
-beginning path directory waived = record { path = filled path; len = length path; at = 0; directory = directory; links = 0; steps = 0; waived = waived }
+beginning path directory waived = record { path = workingPath path; len = length path; at = 0; directory = directory; links = 0; steps = 0; waived = waived }

@@ -7,13 +7,14 @@ use native.Mathlib.Omega.{arith}
 use lib.ListN.{length}
 use Rattle.seq.specs.BytesLaws.{part-length}
 use Rattle.paths.specs.Path.{bare}
-use Rattle.paths.specs.Filled.{filled-length, filled-part}
+use Rattle.paths.specs.WorkingPath.{filled-length, filled-part}
 use Rattle.component.specs.declared.state.Walk.{Walk}
 use Rattle.component.specs.declared.state.Found.{Found}
 use Rattle.component.specs.declared.state.Found.the-variants.{Missing}
 use Rattle.component.specs.declared.state.Leave.the-variants.{Goes}
 use Rattle.component.specs.declared.state.Turn.{Turn}
-use Rattle.component.specs.Step.{pathLimit, Step, goes}
+use Rattle.component.specs.Step.{Step, goes}
+use Rattle.layout.specs.Limits.{pathLimit}
 use Rattle.component.specs.State.{restFrom, positionOf, leaveOf, Ranged, Fit, Left, Turned, beginning}
 
 -- where a walk begins

@@ -1,9 +1,10 @@
 -- One component of a path: a list of tests and ways to go on, of which the first whose test holds decides (rules 50 to 60). Assumes nothing.
 use mathlib.Core.Bool.{Bool, true, false, _&&_, _||_, not, cond}
 use mathlib.Core.List.{List, [], _∷_, _++_}
-use Prim.Native.Nat.{ℕ, _+_, _*_, _/_}
+use Prim.Native.Nat.{ℕ, _+_}
 use lib.Dec.{ltb, leb}
 use lib.ListN.{length}
+use Rattle.layout.specs.Errno.{EACCES, EINVAL, ELOOP, ENAMETOOLONG, ENOENT, ENOTDIR}
 use Rattle.layout.specs.View.{View, isDirectory, isSymlink}
 use Rattle.paths.specs.declared.request.Credentials.{Credentials}
 use Rattle.paths.specs.Permission.{searchBit, allows}
@@ -11,22 +12,7 @@ use Rattle.paths.specs.Path.{component, behind, empty, bare, absolute, isDot, i
 use Rattle.paths.specs.Lookup.{lookup}
 use Rattle.component.specs.declared.state.Final.{Final}
 use Rattle.component.specs.declared.state.Final.the-variants.{MustExist, MayBeMissing}
-
--- rule 56: how many symlinks one path may lead through
-abbrev pub symlinkLimit : ℕ
-symlinkLimit = 8
-
--- rules 47 and 57: how long a path may be, as supplied and with a symlink's text in it
-abbrev pub pathLimit : ℕ
-pathLimit = 255
-
--- how many components such a path can have: each has a byte and, but for the last, a slash
-abbrev pub pathComponents : ℕ
-pathComponents = (pathLimit + 1) / 2
-
--- rule 61: what a walk is bounded by: so many components in each of the paths that it may go through
-abbrev pub stepLimit : ℕ
-stepLimit = pathComponents * (symlinkLimit + 1)
+use Rattle.layout.specs.Limits.{symlinkLimit, pathLimit}
 
 -- Where a walk stands: the rest of the path that is still unread, the directory it is read from, the symlinks followed, the component
 -- checks begun, and whether the next component's search permission is waived (rule 51).
@@ -149,28 +135,28 @@ module _ (v : View) (who : Credentials) (last : Final) where
   unfoldable pub step : Position → Step
   step w =
       -- rule 50: what the component is to be read in is not a directory
-      not (inDirectory v w) ⇒ refusedBy 20 w
+      not (inDirectory v w) ⇒ refusedBy ENOTDIR w
       -- rule 51: search permission is denied
-      ∷ searchDenied v who w ⇒ refusedBy 13 w
+      ∷ searchDenied v who w ⇒ refusedBy EACCES w
       -- rule 52: it is longer than a name can be
-      ∷ overlong v w ⇒ refusedBy 36 w
+      ∷ overlong v w ⇒ refusedBy ENAMETOOLONG w
       -- rule 53: a final dot or dot-dot is refused; elsewhere the one stays and the other goes to the parent
-      ∷ (isFinal w && (isDot (nameAt w) || isDotDot (nameAt w))) ⇒ refusedBy 22 w
+      ∷ (isFinal w && (isDot (nameAt w) || isDotDot (nameAt w))) ⇒ refusedBy EINVAL w
       ∷ isDot (nameAt w) ⇒ move w (unread w) (w .directory)
       ∷ isDotDot (nameAt w) ⇒ move w (unread w) (v .field (w .directory))
       -- rule 54: a name that is missing and not final
-      ∷ (isMissing v w && not (isFinal w)) ⇒ refusedBy 2 w
+      ∷ (isMissing v w && not (isFinal w)) ⇒ refusedBy ENOENT w
       -- rules 56, 57 and 55: a symlink that is not final is one too many, or joins to too long a path, or is replaced by its text
-      ∷ (innerSymlink v w && symlinksSpent w) ⇒ refusedBy 40 w
-      ∷ (innerSymlink v w && joinedOverlong v w) ⇒ refusedBy 36 w
+      ∷ (innerSymlink v w && symlinksSpent w) ⇒ refusedBy ELOOP w
+      ∷ (innerSymlink v w && joinedOverlong v w) ⇒ refusedBy ENAMETOOLONG w
       ∷ innerSymlink v w ⇒ splice w (symlinkText v w) (unread w)
       -- any other name that is not final is gone into: rule 50 asks of the next component whether it is a directory
       ∷ not (isFinal w) ⇒ move w (unread w) (targetAt v w)
       -- rule 59: a final name that is missing is refused where it must exist; else it is what the path names
-      ∷ (isMissing v w && mustExist last) ⇒ refusedBy 2 w
+      ∷ (isMissing v w && mustExist last) ⇒ refusedBy ENOENT w
       ∷ isMissing v w ⇒ names w (missing (w .directory) (nameAt w) (slashBehind w))
       -- rule 60: a slash stands behind a final name that is not a directory
-      ∷ (slashBehind w && not (atDirectory v w)) ⇒ refusedBy 20 w
+      ∷ (slashBehind w && not (atDirectory v w)) ⇒ refusedBy ENOTDIR w
       ∷ []
       -- rule 58: any other final name is what the path names: a symlink is not followed
       otherwise names w (existing (w .directory) (slotAt v w) (targetAt v w) (slashBehind w))

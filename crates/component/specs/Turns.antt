@@ -8,6 +8,7 @@ use lib.ListN.{length, take, drop}
 use borrow.Author.Tests.{lt-ltb, le-ltb, lt-leb, le-leb}
 use Rattle.seq.specs.Bytes.{part}
 use Rattle.seq.specs.BytesLaws.{part-take, part-drop}
+use Rattle.layout.specs.Errno.{EACCES, EINVAL, ELOOP, ENAMETOOLONG, ENOENT, ENOTDIR}
 use Rattle.layout.specs.View.{View, isSymlink, isDirectory}
 use Rattle.paths.specs.declared.request.Credentials.{Credentials}
 use Rattle.paths.specs.Permission.{searchBit, allows}
@@ -16,25 +17,26 @@ use Rattle.paths.specs.Lookup.{lookup}
 use Rattle.component.specs.declared.state.Turn.{Turn}
 use Rattle.component.specs.declared.state.Final.{Final}
 use Rattle.component.specs.declared.state.Final.the-variants.{MustExist, MayBeMissing}
-use Rattle.component.specs.Step.{symlinkLimit, pathLimit, Position, existing, missing, refusedBy, names, move, splice, step}
+use Rattle.component.specs.Step.{Position, existing, missing, refusedBy, names, move, splice, step}
+use Rattle.layout.specs.Limits.{symlinkLimit, pathLimit}
 use Rattle.component.specs.Decisions.{follow, lack, miss, enter, arrive, hit, seek, dots, read, inside, decision}
 use Rattle.component.specs.DecisionLaws.{step-decides}
 use Rattle.component.specs.State.{Turned}
 
 -- a symlink ahead of others
 module _ (r : Turn) (w : Position) (text rest : List ℕ) where
-  pub follows-many : symlinkLimit ≤ w .links → Turned r (refusedBy 40 w) → Turned r (follow w text rest)
+  pub follows-many : symlinkLimit ≤ w .links → Turned r (refusedBy ELOOP w) → Turned r (follow w text rest)
   follows-many many turned = rw (le-leb _ _ many) turned
 
   module _ (few : w .links < symlinkLimit) (n : ℕ) (is : n ≡ length text + length rest) where
-    pub follows-long : pathLimit < n → Turned r (refusedBy 36 w) → Turned r (follow w text rest)
+    pub follows-long : pathLimit < n → Turned r (refusedBy ENAMETOOLONG w) → Turned r (follow w text rest)
     follows-long long turned = rw (lt-leb _ _ few, ← is, lt-ltb _ _ long) turned
 
     pub follows-short : n ≤ pathLimit → Turned r (splice w text rest) → Turned r (follow w text rest)
     follows-short short turned = rw (lt-leb _ _ few, ← is, le-ltb _ _ short) turned
 
 module _ (r : Turn) (w : Position) (last : Final) (name rest : List ℕ) where
-  pub lacks-refused : last ≡ MustExist → Turned r (refusedBy 2 w) → Turned r (lack last w name rest)
+  pub lacks-refused : last ≡ MustExist → Turned r (refusedBy ENOENT w) → Turned r (lack last w name rest)
   lacks-refused e turned = subst (λ (f : Final). Turned r (lack f w name rest)) (sym e) turned
 
   pub lacks-found : (slash : Bool) → last ≡ MayBeMissing → slash ≡ not (empty rest) → Turned r (names w (missing (w .directory) name slash))
@@ -45,7 +47,7 @@ module _ (r : Turn) (w : Position) (last : Final) (name rest : List ℕ) where
   pub misses-last : bare rest ≡ true → Turned r (lack last w name rest) → Turned r (miss last w name rest)
   misses-last b turned = rw b turned
 
-  pub misses-more : bare rest ≡ false → Turned r (refusedBy 2 w) → Turned r (miss last w name rest)
+  pub misses-more : bare rest ≡ false → Turned r (refusedBy ENOENT w) → Turned r (miss last w name rest)
   misses-more b turned = rw b turned
 
 module _ (v : View) (r : Turn) (w : Position) (rest : List ℕ) where
@@ -62,7 +64,7 @@ module _ (v : View) (r : Turn) (w : Position) (rest : List ℕ) where
       → Turned r (arrive v w rest j)
   arrives-directory j i e z d turned = rw (← e, z, d) turned
 
-  pub arrives-other : (j i : ℕ) → i ≡ v .target j → empty rest ≡ false → isDirectory v i ≡ false → Turned r (refusedBy 20 w) → Turned r (arrive v w rest j)
+  pub arrives-other : (j i : ℕ) → i ≡ v .target j → empty rest ≡ false → isDirectory v i ≡ false → Turned r (refusedBy ENOTDIR w) → Turned r (arrive v w rest j)
   arrives-other j i e z d turned = rw (← e, z, d) turned
 
   pub hits-last : (j : ℕ) → bare rest ≡ true → Turned r (arrive v w rest j) → Turned r (hit v w rest j)
@@ -72,7 +74,7 @@ module _ (v : View) (r : Turn) (w : Position) (rest : List ℕ) where
   hits-more j i e b turned = rw (b, ← e) turned
 
 module _ (v : View) (r : Turn) (w : Position) (name rest : List ℕ) where
-  pub dots-last : bare rest ≡ true → Turned r (refusedBy 22 w) → Turned r (dots v w name rest)
+  pub dots-last : bare rest ≡ true → Turned r (refusedBy EINVAL w) → Turned r (dots v w name rest)
   dots-last b turned = rw b turned
 
   pub dots-stay : bare rest ≡ false → isDot name ≡ true → Turned r (move w rest (w .directory)) → Turned r (dots v w name rest)
@@ -88,7 +90,7 @@ module _ (v : View) (r : Turn) (w : Position) (last : Final) (name rest : List �
   pub seeks-miss : (j : ℕ) → j ≡ lookup v (w .directory) name → v .entries ≤ j → Turned r (miss last w name rest) → Turned r (seek v last w name rest)
   seeks-miss j e above turned = rw (← e, le-ltb _ _ above) turned
 
-  pub reads-long : v .room < length name → Turned r (refusedBy 36 w) → Turned r (read v last w name rest)
+  pub reads-long : v .room < length name → Turned r (refusedBy ENAMETOOLONG w) → Turned r (read v last w name rest)
   reads-long l turned = rw (lt-ltb _ _ l) turned
 
   module _ (short : length name ≤ v .room) where
@@ -99,7 +101,7 @@ module _ (v : View) (r : Turn) (w : Position) (last : Final) (name rest : List �
     reads-name d e turned = rw (le-ltb _ _ short, d, e) turned
 
 module _ (v : View) (who : Credentials) (last : Final) (r : Turn) (w : Position) where
-  pub inside-denied : (w .waived || allows v who (w .directory) searchBit) ≡ false → Turned r (refusedBy 13 w) → Turned r (inside v who last w)
+  pub inside-denied : (w .waived || allows v who (w .directory) searchBit) ≡ false → Turned r (refusedBy EACCES w) → Turned r (inside v who last w)
   inside-denied a turned = rw a turned
 
   pub inside-reads : (name rest : List ℕ) → (w .waived || allows v who (w .directory) searchBit) ≡ true → name ≡ component (w .rest) → rest ≡ behind (w .rest)
@@ -110,7 +112,7 @@ module _ (v : View) (who : Credentials) (last : Final) (r : Turn) (w : Position)
   decided : Turned r (decision v who last w) → Turned r (step v who last w)
   decided turned = subst (Turned r) (sym (step-decides v who last w)) turned
 
-  pub steps-nowhere : isDirectory v (w .directory) ≡ false → Turned r (refusedBy 20 w) → Turned r (step v who last w)
+  pub steps-nowhere : isDirectory v (w .directory) ≡ false → Turned r (refusedBy ENOTDIR w) → Turned r (step v who last w)
   steps-nowhere d turned = decided (rw d turned)
 
   pub steps-inside : isDirectory v (w .directory) ≡ true → Turned r (inside v who last w) → Turned r (step v who last w)

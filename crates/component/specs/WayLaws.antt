@@ -7,6 +7,7 @@ use lib.Dec.{ltb, leb}
 use lib.ListN.{length}
 use borrow.Author.Tests.{ltb-true, ltb-false, leb-false, not-true, not-false}
 use Rattle.seq.specs.Truth.{by-test}
+use Rattle.layout.specs.Errno.{EACCES, EINVAL, ELOOP, ENAMETOOLONG, ENOENT, ENOTDIR}
 use Rattle.layout.specs.View.{View, isDirectory, isSymlink}
 use Rattle.paths.specs.declared.request.Credentials.{Credentials}
 use Rattle.paths.specs.Permission.{searchBit, allows}
@@ -14,7 +15,8 @@ use Rattle.paths.specs.Path.{component, behind, empty, bare, isDot, isDotDot}
 use Rattle.paths.specs.Lookup.{lookup}
 use Rattle.component.specs.declared.state.Final.{Final}
 use Rattle.component.specs.declared.state.Final.the-variants.{MustExist, MayBeMissing}
-use Rattle.component.specs.Step.{symlinkLimit, pathLimit, Position, refusedBy, step}
+use Rattle.component.specs.Step.{Position, refusedBy, step}
+use Rattle.layout.specs.Limits.{symlinkLimit, pathLimit}
 use Rattle.component.specs.Decisions.{follow, lack, enter, arrive, hit, seek, dots, read, decision}
 use Rattle.component.specs.DecisionLaws.{step-decides}
 use Rattle.component.specs.Ways.{componentNumber, Way, refuses, moves, follows, exists, lacks}
@@ -40,8 +42,8 @@ module _ (v : View) (who : Credentials) (last : Final) (w : Position) where
 
   way-follow : (i : ℕ) → isSymlink v i ≡ true → bare rest ≡ false → Way v last w (follow w (v .text (v .field i)) rest)
   way-follow i link more =
-      by-test (Way v last w) (leb symlinkLimit (w .links)) _ _ (λ e. way-refuse 40 refl) (λ few.
-      by-test (Way v last w) (ltb pathLimit (length (v .text (v .field i)) + length rest)) _ _ (λ e. way-refuse 36 refl) (λ short.
+      by-test (Way v last w) (leb symlinkLimit (w .links)) _ _ (λ e. way-refuse ELOOP refl) (λ few.
+      by-test (Way v last w) (ltb pathLimit (length (v .text (v .field i)) + length rest)) _ _ (λ e. way-refuse ENAMETOOLONG refl) (λ short.
       follows i link more (leb-false _ _ few) (ltb-false _ _ short) refl))
 
   way-enter : (i : ℕ) → bare rest ≡ false → Way v last w (enter v w rest i)
@@ -50,7 +52,7 @@ module _ (v : View) (who : Credentials) (last : Final) (w : Position) where
   module _ (place : isDirectory v (w .directory) ≡ true) where
     way-arrive : slot < v .entries → Way v last w (arrive v w rest slot)
     way-arrive below =
-        by-test (Way v last w) (not (empty rest) && not (isDirectory v (v .target slot))) _ _ (λ e. way-refuse 20 refl) (λ e.
+        by-test (Way v last w) (not (empty rest) && not (isDirectory v (v .target slot))) _ _ (λ e. way-refuse ENOTDIR refl) (λ e.
         exists (not (empty rest)) place below (slash-asks (not (empty rest)) (isDirectory v (v .target slot)) e) refl)
 
     way-hit : slot < v .entries → Way v last w (hit v w rest slot)
@@ -59,26 +61,26 @@ module _ (v : View) (who : Credentials) (last : Final) (w : Position) where
 
     module _ (short : length name ≤ v .room) (plain : (isDot name || isDotDot name) ≡ false) where
       way-lack : (f : Final) → last ≡ f → v .entries ≤ slot → Way v last w (lack f w name rest)
-      way-lack MustExist is none = way-refuse 2 refl
+      way-lack MustExist is none = way-refuse ENOENT refl
       way-lack MayBeMissing is none = lacks (not (empty rest)) is place none short plain refl
 
       way-seek : Way v last w (seek v last w name rest)
       way-seek =
           by-test (Way v last w) (ltb slot (v .entries)) _ _ (λ hit-one. way-hit (ltb-true _ _ hit-one)) (λ none.
-          by-test (Way v last w) (not (bare rest)) _ _ (λ e. way-refuse 2 refl) (λ e. way-lack last refl (ltb-false _ _ none)))
+          by-test (Way v last w) (not (bare rest)) _ _ (λ e. way-refuse ENOENT refl) (λ e. way-lack last refl (ltb-false _ _ none)))
 
     way-dots : Way v last w (dots v w name rest)
-    way-dots = by-test (Way v last w) (bare rest) _ _ (λ e. way-refuse 22 refl) (λ more. moves _ more refl)
+    way-dots = by-test (Way v last w) (bare rest) _ _ (λ e. way-refuse EINVAL refl) (λ more. moves _ more refl)
 
     way-read : Way v last w (read v last w name rest)
     way-read =
-        by-test (Way v last w) (ltb (v .room) (length name)) _ _ (λ e. way-refuse 36 refl) (λ short.
+        by-test (Way v last w) (ltb (v .room) (length name)) _ _ (λ e. way-refuse ENAMETOOLONG refl) (λ short.
         by-test (Way v last w) (isDot name || isDotDot name) _ _ (λ e. way-dots) (λ plain. way-seek (ltb-false _ _ short) plain))
 
   way-decision : Way v last w (decision v who last w)
   way-decision =
-      by-test (Way v last w) (not (isDirectory v (w .directory))) _ _ (λ e. way-refuse 20 refl) (λ place.
-      by-test (Way v last w) (not (w .waived || allows v who (w .directory) searchBit)) _ _ (λ e. way-refuse 13 refl) (λ e.
+      by-test (Way v last w) (not (isDirectory v (w .directory))) _ _ (λ e. way-refuse ENOTDIR refl) (λ place.
+      by-test (Way v last w) (not (w .waived || allows v who (w .directory) searchBit)) _ _ (λ e. way-refuse EACCES refl) (λ e.
       way-read (not-false (isDirectory v (w .directory)) place)))
 
   pub step-way : Way v last w (step v who last w)

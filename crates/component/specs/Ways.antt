@@ -4,16 +4,18 @@ use mathlib.Core.Bool.{Bool, true, false, _||_}
 use Prim.Native.Nat.{ℕ, _+_, _≤_, _<_}
 use lib.Dec.{eqb}
 use lib.ListN.{length}
+use Rattle.layout.specs.Errno.{EACCES, EINVAL, ELOOP, ENAMETOOLONG, ENOENT, ENOTDIR}
 use Rattle.layout.specs.View.{View, isDirectory, isSymlink}
 use Rattle.paths.specs.Path.{component, behind, bare, isDot, isDotDot}
 use Rattle.paths.specs.Lookup.{lookup}
 use Rattle.component.specs.declared.state.Final.{Final}
 use Rattle.component.specs.declared.state.Final.the-variants.{MayBeMissing}
-use Rattle.component.specs.Step.{symlinkLimit, pathLimit, Position, Step, existing, missing, refusedBy, names, move, splice}
+use Rattle.component.specs.Step.{Position, Step, existing, missing, refusedBy, names, move, splice}
+use Rattle.layout.specs.Limits.{symlinkLimit, pathLimit}
 
 -- the numbers that a component is refused by
 abbrev pub componentNumber : ℕ → Bool
-componentNumber n = eqb n 2 || eqb n 13 || eqb n 20 || eqb n 22 || eqb n 36 || eqb n 40
+componentNumber n = eqb n ENOENT || eqb n EACCES || eqb n ENOTDIR || eqb n EINVAL || eqb n ENAMETOOLONG || eqb n ELOOP
 
 -- How the component that stands first at w leaves the walk by x.
 pub data Way (v : View) (last : Final) (w : Position) (x : Step) : Type 0 where

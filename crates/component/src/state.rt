@@ -1,25 +1,18 @@
 // The state of a walk, what a path names, and the ways in which one component leaves the walk.
+use layout::limits;
 ghost use mathlib.Core.Path.{_≡_};
 ghost use mathlib.Core.Bool.{false};
 ghost use Prim.Native.Nat.{_+_, _≤_, _<_};
 ghost use lib.ListN.{length};
 ghost use Rattle.paths.specs.Path.{bare};
-ghost use Rattle.component.specs.Step.{stepLimit, existing, missing, refusedBy, names, move};
-ghost use Rattle.component.specs.State.{positionOf, nameIn, restFrom, Ahead, Turned};
-
-// The longest path, as supplied and with a symlink's text in it.
-pub const PATH_LIMIT: usize = 255;
-
-// The bytes of a working path: the longest path, and one more.
-pub const PATH_BYTES: usize = 256;
-
-// The symlinks that one path may lead through.
-pub const SYMLINK_LIMIT: usize = 8;
+ghost use Rattle.component.specs.Step.{existing, missing, refusedBy, names, move};
+ghost use Rattle.layout.specs.Limits.{stepLimit};
+ghost use Rattle.component.specs.State.{positionOf, nameIn, restFrom, ReadUpTo, Turned};
 
 // Where a walk stands: the working path, of which the bytes from at up to len are unread; the directory that they are read from; the
 // symlinks followed; the component checks begun; whether search permission is waived for the next component.
 pub struct Walk {
-    pub path: [u8; PATH_BYTES],
+    pub path: [u8; limits::PATH_BYTES],
     pub len: usize,
     pub at: usize,
     pub directory: usize,
@@ -99,7 +92,7 @@ pub fn exists(w: Walk, slot: usize, inode: usize, slash: bool) -> Turn
 
 // The final name, from index a up to e, is missing.
 pub fn lacks(w: Walk, a: usize, e: usize, slash: bool) -> Turn
-    requires { ⌜ Ahead w e × (a ≤ e) ⌝ }
+    requires { ⌜ ReadUpTo w e × (a ≤ e) ⌝ }
     ensures { λ r. ⌜ Turned r (names (positionOf w) (missing (w .directory) (nameIn w a e) slash)) ⌝ }
 {
     let found = Found::Missing {
@@ -118,7 +111,7 @@ pub fn lacks(w: Walk, a: usize, e: usize, slash: bool) -> Turn
 
 // The walk goes on behind index e, in this directory.
 pub fn advance(w: Walk, e: usize, directory: usize) -> Turn
-    requires { ⌜ Ahead w e × (bare (restFrom w e) ≡ false) ⌝ }
+    requires { ⌜ ReadUpTo w e × (bare (restFrom w e) ≡ false) ⌝ }
     ensures { λ r. ⌜ Turned r (move (positionOf w) (restFrom w e) directory) ⌝ }
 {
     let mut next = w;

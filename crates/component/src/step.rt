@@ -5,6 +5,8 @@ use crate::state::Leave;
 use crate::state::Turn;
 use crate::state::Walk;
 use layout::Shape;
+use layout::errno;
+use layout::limits;
 use paths::path;
 use paths::request::Credentials;
 ghost use mathlib.Core.Path.{_≡_};
@@ -15,13 +17,14 @@ ghost use Rattle.layout.specs.View.{viewOf, entryUsed, isDirectory};
 ghost use Rattle.layout.specs.ViewLaws.{Readable};
 ghost use Rattle.paths.specs.Permission.{allows, searchBit};
 ghost use Rattle.paths.specs.Path.{bare};
-ghost use Rattle.component.specs.Step.{symlinkLimit, pathLimit, stepLimit, splice, step};
+ghost use Rattle.component.specs.Step.{splice, step};
+ghost use Rattle.layout.specs.Limits.{symlinkLimit, pathLimit, stepLimit};
 ghost use Rattle.component.specs.Decisions.{follow, enter, arrive, hit, lack, miss, seek, dots, read, inside};
-ghost use Rattle.component.specs.State.{positionOf, nameIn, restFrom, Ahead, Fit, Turned};
+ghost use Rattle.component.specs.State.{positionOf, nameIn, restFrom, ReadUpTo, Fit, Turned};
 
 // The working path becomes a symlink's text and the unread rest from index e on.
 fn join(w: Walk, text: &[u8], e: usize, len: usize) -> Turn
-    requires { ⌜ Ahead w e × (bare (restFrom w e) ≡ false) × (len ≡ length (now text) + (w .len - e)) × (len ≤ pathLimit) × (w .links < symlinkLimit) ⌝ }
+    requires { ⌜ ReadUpTo w e × (bare (restFrom w e) ≡ false) × (len ≡ length (now text) + (w .len - e)) × (len ≤ pathLimit) × (w .links < symlinkLimit) ⌝ }
     ensures { λ r. ⌜ Turned r (splice (positionOf w) (now (text .entry)) (restFrom w e)) ⌝ }
 {
     let old = w.path;
@@ -45,22 +48,22 @@ fn join(w: Walk, text: &[u8], e: usize, len: usize) -> Turn
 
 // A symlink ahead of other components is followed, unless it is one too many or the joined path is too long.
 fn follow(w: Walk, text: &[u8], e: usize) -> Turn
-    requires { ⌜ Ahead w e × (bare (restFrom w e) ≡ false) × (length (now text) ≤ pathLimit) ⌝ }
+    requires { ⌜ ReadUpTo w e × (bare (restFrom w e) ≡ false) × (length (now text) ≤ pathLimit) ⌝ }
     ensures { λ r. ⌜ Turned r (follow (positionOf w) (now (text .entry)) (restFrom w e)) ⌝ }
 {
-    if state::SYMLINK_LIMIT <= w.links {
-        return state::refuse(w, 40);
+    if limits::SYMLINK_LIMIT <= w.links {
+        return state::refuse(w, errno::ELOOP);
     }
     let len = text.len() + (w.len - e);
-    if state::PATH_LIMIT < len {
-        return state::refuse(w, 36);
+    if limits::PATH_LIMIT < len {
+        return state::refuse(w, errno::ENAMETOOLONG);
     }
     join(w, text, e, len)
 }
 
 // A name ahead of others: the type number of what it names decides how the walk goes on.
 fn enter(s: &[u8], h: Shape, w: Walk, e: usize, target: usize) -> Turn
-    requires { ⌜ Readable h (now s) × Ahead w e × (bare (restFrom w e) ≡ false) × (target < h .inodes) ⌝ }
+    requires { ⌜ Readable h (now s) × ReadUpTo w e × (bare (restFrom w e) ≡ false) × (target < h .inodes) ⌝ }
     ensures { λ r. ⌜ Turned r (enter (viewOf h (now (s .entry))) (positionOf w) (restFrom w e) target) ⌝ }
 {
     let inode = layout::records::inode(s, h, target);
@@ -76,7 +79,7 @@ fn enter(s: &[u8], h: Shape, w: Walk, e: usize, target: usize) -> Turn
 
 // The final name exists: a slash behind it asks for a directory.
 fn arrive(s: &[u8], h: Shape, w: Walk, e: usize, slot: usize, target: usize) -> Turn
-    requires { ⌜ Readable h (now s) × Ahead w e × (target ≡ viewOf h (now s) .target slot) × (target < h .inodes) ⌝ }
+    requires { ⌜ Readable h (now s) × ReadUpTo w e × (target ≡ viewOf h (now s) .target slot) × (target < h .inodes) ⌝ }
     ensures { λ r. ⌜ Turned r (arrive (viewOf h (now (s .entry))) (positionOf w) (restFrom w e) slot) ⌝ }
 {
     if e == w.len {
@@ -86,13 +89,13 @@ fn arrive(s: &[u8], h: Shape, w: Walk, e: usize, slot: usize, target: usize) -> 
     let kind = layout::inode::kind(inode);
     match kind {
         2 => state::exists(w, slot, target, true),
-        _ => state::refuse(w, 20),
+        _ => state::refuse(w, errno::ENOTDIR),
     }
 }
 
 // The name that ends at index e is in slot.
 fn hit(s: &[u8], h: Shape, w: Walk, e: usize, slot: usize) -> Turn
-    requires { ⌜ Readable h (now s) × Ahead w e × (slot < h .entries) × (entryUsed (viewOf h (now s)) slot ≡ true) ⌝ }
+    requires { ⌜ Readable h (now s) × ReadUpTo w e × (slot < h .entries) × (entryUsed (viewOf h (now s)) slot ≡ true) ⌝ }
     ensures { λ r. ⌜ Turned r (hit (viewOf h (now (s .entry))) (positionOf w) (restFrom w e) slot) ⌝ }
 {
     let entry = layout::records::entry(s, h, slot);
@@ -107,18 +110,18 @@ fn hit(s: &[u8], h: Shape, w: Walk, e: usize, slot: usize) -> Turn
 
 // The final name, from index a up to e, is not there: whether that is a refusal depends on the path.
 fn lack(last: Final, w: Walk, a: usize, e: usize) -> Turn
-    requires { ⌜ Ahead w e × (a ≤ e) ⌝ }
+    requires { ⌜ ReadUpTo w e × (a ≤ e) ⌝ }
     ensures { λ r. ⌜ Turned r (lack last (positionOf w) (nameIn w a e) (restFrom w e)) ⌝ }
 {
     match last {
-        Final::MustExist => state::refuse(w, 2),
+        Final::MustExist => state::refuse(w, errno::ENOENT),
         Final::MayBeMissing => state::lacks(w, a, e, e < w.len),
     }
 }
 
 // The name from index a up to e is not there.
 fn miss(last: Final, w: Walk, a: usize, e: usize) -> Turn
-    requires { ⌜ Ahead w e × (a ≤ e) ⌝ }
+    requires { ⌜ ReadUpTo w e × (a ≤ e) ⌝ }
     ensures { λ r. ⌜ Turned r (miss last (positionOf w) (nameIn w a e) (restFrom w e)) ⌝ }
 {
     let path = w.path;
@@ -126,12 +129,12 @@ fn miss(last: Final, w: Walk, a: usize, e: usize) -> Turn
     if path::is_bare(&path[e..len]) {
         return lack(last, w, a, e);
     }
-    state::refuse(w, 2)
+    state::refuse(w, errno::ENOENT)
 }
 
 // The name from index a up to e is looked up.
 fn seek(s: &[u8], h: Shape, last: Final, w: Walk, a: usize, e: usize) -> Turn
-    requires { ⌜ Readable h (now s) × Ahead w e × (a ≤ e) ⌝ }
+    requires { ⌜ Readable h (now s) × ReadUpTo w e × (a ≤ e) ⌝ }
     ensures { λ r. ⌜ Turned r (seek (viewOf h (now (s .entry))) last (positionOf w) (nameIn w a e) (restFrom w e)) ⌝ }
 {
     let path = w.path;
@@ -144,13 +147,13 @@ fn seek(s: &[u8], h: Shape, last: Final, w: Walk, a: usize, e: usize) -> Turn
 
 // The component from index a up to e is a dot or two.
 fn dots(s: &[u8], h: Shape, w: Walk, a: usize, e: usize) -> Turn
-    requires { ⌜ Readable h (now s) × Ahead w e × (a ≤ e) × (w .directory < h .inodes) ⌝ }
+    requires { ⌜ Readable h (now s) × ReadUpTo w e × (a ≤ e) × (w .directory < h .inodes) ⌝ }
     ensures { λ r. ⌜ Turned r (dots (viewOf h (now (s .entry))) (positionOf w) (nameIn w a e) (restFrom w e)) ⌝ }
 {
     let path = w.path;
     let len = w.len;
     if path::is_bare(&path[e..len]) {
-        return state::refuse(w, 22);
+        return state::refuse(w, errno::EINVAL);
     }
     let directory = w.directory;
     if path::is_dot(&path[a..e]) {
@@ -162,11 +165,11 @@ fn dots(s: &[u8], h: Shape, w: Walk, a: usize, e: usize) -> Turn
 
 // The component from index a up to e.
 fn component(s: &[u8], h: Shape, last: Final, w: Walk, a: usize, e: usize) -> Turn
-    requires { ⌜ Readable h (now s) × Ahead w e × (a ≤ e) × (w .directory < h .inodes) ⌝ }
+    requires { ⌜ Readable h (now s) × ReadUpTo w e × (a ≤ e) × (w .directory < h .inodes) ⌝ }
     ensures { λ r. ⌜ Turned r (read (viewOf h (now (s .entry))) last (positionOf w) (nameIn w a e) (restFrom w e)) ⌝ }
 {
-    if h.width - 8 < e - a {
-        return state::refuse(w, 36);
+    if h.width - limits::NAME_OFFSET < e - a {
+        return state::refuse(w, errno::ENAMETOOLONG);
     }
     let path = w.path;
     if path::is_dot(&path[a..e]) {
@@ -195,7 +198,7 @@ fn inside(s: &[u8], h: Shape, who: Credentials, last: Final, w: Walk) -> Turn
     ensures { λ r. ⌜ Turned r (inside (viewOf h (now (s .entry))) who last (positionOf w)) ⌝ }
 {
     if !may_search(s, h, who, w) {
-        return state::refuse(w, 13);
+        return state::refuse(w, errno::EACCES);
     }
     let path = w.path;
     let len = w.len;
@@ -213,6 +216,6 @@ pub fn step(s: &[u8], h: Shape, who: Credentials, last: Final, w: Walk) -> Turn
     let kind = layout::lookup::kind(s, h, w.directory);
     match kind {
         2 => inside(s, h, who, last, w),
-        _ => state::refuse(w, 20),
+        _ => state::refuse(w, errno::ENOTDIR),
     }
 }

@@ -68,7 +68,7 @@ module _ (s : List ℕ) where
   pub layout-same : layoutGood s ≡ allPass (layoutRules s)
   layout-same = one-truth _ _ layout-is is-layout
 
--- A consistent image is one that allPass rule passes.
+-- A consistent image is one that every rule passes.
 pub consistent-rules : (s : List ℕ) → consistent s ≡ allPass (soundRules s)
 unfolding consistent
 consistent-rules s = rw (layout-same s) (go (allPass (layoutRules s)) (journalClear (shapeOf s) s) (bodiesGood (shapeOf s) s))

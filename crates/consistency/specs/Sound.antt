@@ -8,7 +8,7 @@ use Rattle.seq.specs.Truth.{implies}
 use Rattle.seq.specs.Search.{any, all}
 use Rattle.seq.specs.Bytes.{zeros, noZero}
 use Rattle.seq.specs.Number.{numberAt}
-use Rattle.layout.specs.Limits.{journalSize, inodeSize, textSize, handleSize, nameAt, modeLimit, contentsBytes, linkLimit, textRoom}
+use Rattle.layout.specs.Limits.{journalSize, inodeSize, textSize, handleSize, nameOffset, modeLimit, contentsBytes, linkLimit, textRoom}
 use Rattle.layout.specs.declared.Shape.{Shape}
 use Rattle.layout.specs.Place.{base, imageBytes}
 use Rattle.layout.specs.Contents.{sectionName, fewest, most, nameIs, shapeOf}
@@ -102,7 +102,7 @@ module _ (h : Shape) (s : List ℕ) where
   -- rule 10, of an entry: the three bytes behind the length, and those behind the name
   abbrev pub entryZeros : ℕ → Bool
   entryZeros j =
-      implies (entryUsed v j) (zeros (entryAt h s j) 5 3 && zeros (entryAt h s j) (nameAt + v .nameLength j) (nameRoom h - v .nameLength j))
+      implies (entryUsed v j) (zeros (entryAt h s j) 5 3 && zeros (entryAt h s j) (nameOffset + v .nameLength j) (nameRoom h - v .nameLength j))
 
   -- rules 11 and 12, of a text
   abbrev pub textShort : ℕ → Bool

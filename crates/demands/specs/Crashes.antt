@@ -7,8 +7,8 @@ use Prim.Native.Nat.{ℕ, zero, suc}
 use lib.Dec.{eqb}
 use Rattle.plan.specs.Form.{rowGroup, entryGroup}
 use Rattle.apply.specs.Apply.{applyNumber, appliedImage}
-use Rattle.journal.specs.Pick.{Picked, pick, null}
-use Rattle.journal.specs.Turn.{lowest}
+use Rattle.crash_theorem.specs.Pick.{Picked, pick, null}
+use Rattle.crash_theorem.specs.Turn.{lowest}
 use Rattle.plan.specs.Jobs.{Job, jobsIn}
 use Rattle.recover.specs.Job.{recovered}
 

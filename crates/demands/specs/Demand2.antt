@@ -11,7 +11,7 @@ use Rattle.layout.specs.View.{viewOf}
 use Rattle.consistency.specs.Consistent.{checkNumber}
 use Rattle.paths.specs.declared.request.Request.{Request}
 use Rattle.paths.specs.Request.{requestGood}
-use Rattle.journal.specs.Pick.{Empty}
+use Rattle.crash_theorem.specs.Pick.{Empty}
 use Rattle.plan.specs.Jobs.{jobsIn}
 use Rattle.plan.specs.Form.{planBytes, cleared}
 use Rattle.refusals.specs.declared.case.Answer.the-variants.{Refused, Planned}

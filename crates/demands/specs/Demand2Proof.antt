@@ -10,25 +10,25 @@ use Rattle.consistency.specs.ConsistentLaws.{checked-consistent}
 use Rattle.consistency.specs.Facts.{Consistent, consistent-is, is-bodies}
 use Rattle.paths.specs.declared.request.Request.{Request}
 use Rattle.paths.specs.Request.{requestGood}
-use Rattle.journal.specs.Store.{putAll}
-use Rattle.crash.specs.Job.{jobs}
+use Rattle.crash_theorem.specs.Store.{putAll}
+use Rattle.image_store.specs.Job.{jobs}
 use Rattle.plan.specs.Jobs.{jobsIn, Job}
 use Rattle.refusals.specs.declared.case.Answer.{Answer}
 use Rattle.refusals.specs.declared.case.Answer.the-variants.{Same, Planned}
 use Rattle.refusals.specs.Steps.{numberOf, decide}
 use Rattle.refusals.specs.Decide.{steps-same}
 use Rattle.rename.specs.Order.{walks, inodeOf, caseOf, order}
-use Rattle.rename.specs.Job.{answer, rowsOf, planOf, renamed, planAfter}
+use Rattle.rename.specs.Job.{answer, rowsBy, planBy, renamed, planAfter}
 use Rattle.outcome.specs.Applied.{applied-in-order}
 use Rattle.outcome.specs.Consistent.{finished-checked}
 use Rattle.demands.specs.Demand2.{Demand2, Given, refusals, finishedImage, thePlan, after}
 use lib.Dec.{T}
 use Rattle.layout.specs.declared.Shape.{Shape}
 use Rattle.apply.specs.Apply.{appliedImage}
-use Rattle.journal.specs.Pick.{Empty}
-use Rattle.journal.specs.PickLaws.{empty-null}
-use Rattle.journal.specs.Events as theory
-use Rattle.replay.specs.Safe.{rename-safe, rename-goal}
+use Rattle.crash_theorem.specs.Pick.{Empty}
+use Rattle.crash_theorem.specs.PickLaws.{empty-null}
+use Rattle.crash_theorem.specs.Events as theory
+use Rattle.rename_survives.specs.Safe.{rename-safe, rename-goal}
 use Rattle.demands.specs.Crashes.{Event, rename, appliedAll}
 use Rattle.demands.specs.Retold.{phase, eventOf}
 use Rattle.demands.specs.Planned.{planned-move, planned-bytes, planned-state}
@@ -79,11 +79,11 @@ module _ (s plan : List ℕ) (q : Request) (old new : List ℕ) where
     unfolding renamed planAfter
     demand-2 = record {
       first-refusal = ap numberOf shortened;
-      untouched = λ n e. ap (λ (a : Answer). planOf s plan q old new a) e;
+      untouched = λ n e. ap (λ (a : Answer). planBy s plan q old new a) e;
       landed = whole;
       landed-in-order = in-order;
       sound-again = λ e. finished-checked (planned-move s plan q old new e (given .time));
       one-file = λ good first second one.
           let e = same-answer good first second one in
-          (ap numberOf e, ap (λ (a : Answer). rowsOf s plan q old new a) e, ap (λ (a : Answer). planOf s plan q old new a) e);
+          (ap numberOf e, ap (λ (a : Answer). rowsBy s plan q old new a) e, ap (λ (a : Answer). planBy s plan q old new a) e);
     }

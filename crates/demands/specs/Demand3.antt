@@ -13,8 +13,8 @@ use Rattle.paths.specs.declared.request.Request.{Request}
 use Rattle.component.specs.Step.{existing}
 use Rattle.plan.specs.Form.{planBytes}
 use Rattle.apply.specs.Apply.{applyNumber}
-use Rattle.journal.specs.Pick.{All, Empty, Has}
-use Rattle.journal.specs.Turn.{Turn}
+use Rattle.crash_theorem.specs.Pick.{All, Empty, Has}
+use Rattle.crash_theorem.specs.Turn.{Turn}
 use Rattle.rename.specs.Order.{walks, inodeOf}
 use Rattle.rename.specs.Job.{renamed}
 use Rattle.recover.specs.Job.{recovered}

@@ -18,25 +18,25 @@ use Rattle.component.specs.Step.{existing}
 use Rattle.walk.specs.Ends.{Existing}
 use Rattle.plan.specs.Form.{planBytes, rowAt}
 use Rattle.apply.specs.Apply.{applyNumber}
-use Rattle.journal.specs.Pick.{All, Empty, Has}
-use Rattle.journal.specs.Turn.{Turn}
-use Rattle.journal.specs.Change.{Change}
-use Rattle.journal.specs.Events as theory
-use Rattle.crash.specs.Job.{jobs}
+use Rattle.crash_theorem.specs.Pick.{All, Empty, Has}
+use Rattle.crash_theorem.specs.Turn.{Turn}
+use Rattle.crash_theorem.specs.Change.{Change}
+use Rattle.crash_theorem.specs.Events as theory
+use Rattle.image_store.specs.Job.{jobs}
 use Rattle.plan.specs.Jobs.{Job}
-use Rattle.crash.specs.Buffers.{Buffers, enough, is-enough}
+use Rattle.image_store.specs.Buffers.{Buffers, enough, is-enough}
 use Rattle.edits.specs.Kinds.{EntryUsed}
 use Rattle.results.specs.declared.Move.{Move}
 use Rattle.refusals.specs.declared.case.Answer.{Answer}
 use Rattle.refusals.specs.declared.case.Answer.the-variants.{Refused, Same, Planned}
 use Rattle.rename.specs.Order.{walks, slotOf}
 use Rattle.moves.specs.Plan.{moveOf}
-use Rattle.rename.specs.Job.{answer, move, called, rowsOf, renamed}
+use Rattle.rename.specs.Job.{answer, move, called, rowsBy, renamed}
 use Rattle.recover.specs.Job.{recovered}
 use Rattle.outcome.specs.RenamePlan.{rename-planned}
 use Rattle.outcome.specs.Called.{Called}
-use Rattle.replay.specs.Safe.{Kept, rename-group}
-use Rattle.replay.specs.Survives.{state, Survives, rename-survives}
+use Rattle.rename_survives.specs.Safe.{NamesKept, rename-group}
+use Rattle.rename_survives.specs.Survives.{state, Survives, rename-survives}
 use Rattle.demands.specs.Called.{planned-new}
 use Rattle.demands.specs.Crashes.{Event, apply, crash, State, groupOf, step, run, entryApplied}
 use Rattle.demands.specs.Retold.{stateOf, eventOf, same-step, same-run, same-decision, places}
@@ -49,7 +49,7 @@ planned-answer : (s plan : List ℕ) (q : Request) (old new : List ℕ) → 1 �
 unfolding renamed
 planned-answer s plan q old new rows = go (answer s plan q old new) refl rows
   where
-    go : (a : Answer) → answer s plan q old new ≡ a → 1 ≤ rowsOf s plan q old new a → answer s plan q old new ≡ Planned
+    go : (a : Answer) → answer s plan q old new ≡ a → 1 ≤ rowsBy s plan q old new a → answer s plan q old new ≡ Planned
     go (Refused n) e l = absurd (omega arith)
     go Same e l = absurd (omega arith)
     go Planned e l = e
@@ -143,8 +143,8 @@ module _ {s plan : List ℕ} {q : Request} {old new : List ℕ} (given : Renamed
 
     -- ---- names
 
-    kept : Kept h s (x .image) m
-    kept = subst (λ (z : List ℕ). Kept h s z m) (sym image-same) (survives .names)
+    kept : NamesKept h s (x .image) m
+    kept = subst (λ (z : List ℕ). NamesKept h s z m) (sym image-same) (survives .names)
 
     named : (j : ℕ) × (j < now s plan q old new es .entries) × (entryUsed (now s plan q old new es) j ≡ true) × (now s plan q old new es .target j ≡ moved s plan q old new)
     unfolding moveOf

@@ -25,7 +25,7 @@ pub record Asked : Type 0 where
   pub new : List ℕ
 
 -- A directory entry, and the slot it stands in.
-pub record Entry : Type 0 where
+pub record EntrySeen : Type 0 where
   pub slot : ℕ
   pub parent : ℕ
   pub target : ℕ
@@ -34,7 +34,7 @@ pub record Entry : Type 0 where
 -- What a plan with rows says, and the image after all of them.
 pub record Applied : Type 0 where
   -- in that image, the entry in the new slot, which is the one that the journal record names
-  pub entry : Entry
+  pub entry : EntrySeen
   -- the link count of each inode, and the lowest inode that is all zero, or the number of inodes where none is
   pub links : List ℕ
   pub free : ℕ
@@ -46,14 +46,14 @@ pub record Applied : Type 0 where
   pub past : List ℕ
 
 -- The plan buffer after the job: its bytes where it has no rows, or what the rows do.
-pub data After : Type 0 where
-  bytes : List ℕ → After
-  planned : Applied → After
+pub data BufferAfter : Type 0 where
+  bytes : List ℕ → BufferAfter
+  planned : Applied → BufferAfter
 
 -- Number, rows and both walk counts, and the plan buffer.
 pub record Outcome : Type 0 where
   pub answer : Renamed
-  pub after : After
+  pub after : BufferAfter
 
 pub record Line : Type 0 where
   pub asked : Asked
@@ -72,25 +72,25 @@ below zero = []
 below (suc n) = below n ++ n ∷ []
 
 -- An image on the way through a plan, and whether the job land has answered 0 for every row so far.
-pub record Way : Type 0 where
+pub record Progress : Type 0 where
   pub image : List ℕ
   pub applies : Bool
 
-abbrev pub applyNext : List ℕ → ℕ → Way → Way
+abbrev pub applyNext : List ℕ → ℕ → Progress → Progress
 applyNext plan i w = record { image = appliedImage (w .image) plan i; applies = w .applies && eqb (applyNumber (w .image) plan i) 0 }
 
 -- through the first n rows, in listed order
-unfoldable pub applyRows : List ℕ → List ℕ → ℕ → Way
+unfoldable pub applyRows : List ℕ → List ℕ → ℕ → Progress
 applyRows image plan zero = record { image = image; applies = true }
 applyRows image plan (suc n) = applyNext plan n (applyRows image plan n)
 
-abbrev pub entryIn : View → ℕ → Entry
-entryIn v slot = record { slot = slot; parent = v .parent slot; target = v .target slot; name = v .name slot }
+abbrev pub entryOf : View → ℕ → EntrySeen
+entryOf v slot = record { slot = slot; parent = v .parent slot; target = v .target slot; name = v .name slot }
 
 -- w is the way through all rows, and v what its image says
-abbrev pub appliedOf : List ℕ → Way → View → Applied
+abbrev pub appliedOf : List ℕ → Progress → View → Applied
 appliedOf plan w v = record {
-  entry = entryIn v (journalNewSlot (rowAt plan 0 .body));
+  entry = entryOf v (journalNewSlot (rowAt plan 0 .body));
   links = map (v .links) (below (v .inodes));
   free = first (λ i. zeros (inodeAt (shapeOf (w .image)) (w .image) i) 0 (recordBytes (shapeOf (w .image)) 0)) (v .inodes);
   applies = w .applies;
@@ -99,15 +99,15 @@ appliedOf plan w v = record {
   past = drop planBytes plan;
 }
 
-abbrev pub appliedBy : List ℕ → Way → Applied
+abbrev pub appliedBy : List ℕ → Progress → Applied
 appliedBy plan w = appliedOf plan w (viewOf (shapeOf (w .image)) (w .image))
 
-abbrev pub afterwards : List ℕ → List ℕ → ℕ → After
+abbrev pub afterwards : List ℕ → List ℕ → ℕ → BufferAfter
 afterwards image plan rows = cond (eqb rows 0) (bytes plan) (planned (appliedBy plan (applyRows image plan rows)))
 
-abbrev pub outcomeOf : List ℕ → List ℕ → Renamed → Outcome
-outcomeOf image plan r = record { answer = r; after = afterwards image plan (r .rows) }
+abbrev pub outcomeBy : List ℕ → List ℕ → Renamed → Outcome
+outcomeBy image plan r = record { answer = r; after = afterwards image plan (r .rows) }
 
 unfoldable pub outcome : Asked → Outcome
 outcome a =
-    outcomeOf (a .image) (planAfter (a .image) dirty (a .request) (a .old) (a .new)) (renamed (a .image) dirty (a .request) (a .old) (a .new))
+    outcomeBy (a .image) (planAfter (a .image) dirty (a .request) (a .old) (a .new)) (renamed (a .image) dirty (a .request) (a .old) (a .new))

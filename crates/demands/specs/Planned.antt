@@ -10,17 +10,17 @@ use Rattle.layout.specs.Contents.{shapeOf}
 use Rattle.paths.specs.declared.request.Request.{Request}
 use Rattle.plan.specs.Form.{planBytes}
 use Rattle.plan.specs.Jobs.{Job, jobsIn}
-use Rattle.journal.specs.Change.{Change}
-use Rattle.journal.specs.Events as theory
-use Rattle.crash.specs.Job.{jobs}
+use Rattle.crash_theorem.specs.Change.{Change}
+use Rattle.crash_theorem.specs.Events as theory
+use Rattle.image_store.specs.Job.{jobs}
 use Rattle.results.specs.declared.Move.{Move}
 use Rattle.refusals.specs.declared.case.Answer.{Answer}
 use Rattle.refusals.specs.declared.case.Answer.the-variants.{Planned}
 use Rattle.moves.specs.Plan.{planned}
-use Rattle.rename.specs.Job.{answer, move, called, planOf, planAfter}
+use Rattle.rename.specs.Job.{answer, move, called, planBy, planAfter}
 use Rattle.outcome.specs.Called.{Called}
-use Rattle.replay.specs.Safe.{renameJobs, rename-first}
-use Rattle.replay.specs.Survives.{state}
+use Rattle.rename_survives.specs.Safe.{renameJobs, rename-first}
+use Rattle.rename_survives.specs.Survives.{state}
 use Rattle.demands.specs.Called.{planned-long, planned-called}
 use Rattle.demands.specs.Crashes.{Event, begun}
 use Rattle.demands.specs.Retold.{stateOf, eventOf, same-run}
@@ -48,7 +48,7 @@ module _ (s plan : List ℕ) (q : Request) (old new : List ℕ) (e : answer s pl
   -- the plan's bytes
   pub planned-bytes : thePlan s plan q old new ≡ planned h s m name plan
   unfolding planAfter
-  planned-bytes = ap (λ (a : Answer). planOf s plan q old new a) e
+  planned-bytes = ap (λ (a : Answer). planBy s plan q old new a) e
 
   waits : jobsIn (thePlan s plan q old new) ≡ theory.start change .waiting
   waits = ap jobsIn planned-bytes ∙ sym (rename-first planned-move plan planned-room)

@@ -8,18 +8,18 @@ use lib.Dec.{eqb}
 use Rattle.layout.specs.declared.Shape.{Shape}
 use Rattle.plan.specs.Form.{rowAt, entryGroup}
 use Rattle.apply.specs.Apply.{applyNumber}
-use Rattle.journal.specs.Pick.{All, Picked, pick}
-use Rattle.journal.specs.Turn.{lowest}
-use Rattle.journal.specs.Change.{Change}
-use Rattle.journal.specs.Finish.{Applies}
-use Rattle.crash.specs.Job.{jobs}
+use Rattle.crash_theorem.specs.Pick.{All, Picked, pick}
+use Rattle.crash_theorem.specs.Turn.{lowest}
+use Rattle.crash_theorem.specs.Change.{Change}
+use Rattle.crash_theorem.specs.Finish.{OnlyApplies}
+use Rattle.image_store.specs.Job.{jobs}
 use Rattle.plan.specs.Jobs.{Job}
-use Rattle.crash.specs.Buffers.{Buffers}
-use Rattle.crash.specs.Recovery.{answer}
+use Rattle.image_store.specs.Buffers.{Buffers}
+use Rattle.image_store.specs.Recovery.{answer}
 use Rattle.recover.specs.Job.{recovered}
 use Rattle.results.specs.declared.Move.{Move}
-use Rattle.replay.specs.Safe.{renameJobs}
-use Rattle.journal.specs.Events as theory
+use Rattle.rename_survives.specs.Safe.{renameJobs}
+use Rattle.crash_theorem.specs.Events as theory
 use Rattle.demands.specs.Crashes.{Event, apply, refused, crash, Whose, rename, recovery, nobody, State, groupOf, taken, atPlace, tried, answered, step, run, hasEntry}
 
 -- what waits, by whose it is
@@ -85,7 +85,7 @@ module _ (h : Shape) (s : List ℕ) (m : Move) (called buffer : List ℕ) where
 
   -- ---- events that only apply rows are places
 
-  pub places : (es : List (theory.EventOf (jobs h s))) → All Applies es → (is : List ℕ) × (map eventOf (map apply is) ≡ es)
+  pub places : (es : List (theory.EventOf (jobs h s))) → All OnlyApplies es → (is : List ℕ) × (map eventOf (map apply is) ≡ es)
   places [] a = ([], refl)
   places (theory.apply i ∷ es) a = let (is, e) = places es (a .1) in (i ∷ is, ap (λ (fs : List (theory.EventOf (jobs h s))). theory.apply i ∷ fs) e)
   places (theory.stray r ∷ es) a = absurd (a .0)

@@ -7,10 +7,10 @@ use Rattle.seq.specs.Bytes.{put}
 use Rattle.seq.specs.Number.{bytesOf}
 use Rattle.layout.specs.Bench.{bench}
 use Rattle.paths.specs.declared.request.Request.{Request}
-use Rattle.walk.specs.Walk.{noHandle}
+use Rattle.layout.specs.Limits.{noHandle}
 use Rattle.plan.specs.Form.{planBytes}
 use Rattle.rename.specs.declared.Renamed.{Renamed}
-use Rattle.demands.specs.Line.{Entry, Outcome, bytes, planned, Line, past, dirty}
+use Rattle.demands.specs.Line.{EntrySeen, Outcome, bytes, planned, Line, past, dirty}
 
 -- ---- what is asked
 
@@ -90,7 +90,7 @@ abbrev pub same : ℕ → ℕ → Outcome
 same old new = record { answer = answers 0 0 old new; after = bytes (replicate planBytes 0 ++ past) }
 
 -- slot, parent, target and name of the new entry
-abbrev pub entry : ℕ → ℕ → ℕ → List ℕ → Entry
+abbrev pub entry : ℕ → ℕ → ℕ → List ℕ → EntrySeen
 entry slot parent target name = record { slot = slot; parent = parent; target = target; name = name }
 
 -- group, length, offset and body of a row, as the bytes of its header
@@ -102,7 +102,7 @@ abbrev pub nine : List (List ℕ) → List (List ℕ)
 nine rows = rows ++ replicate (9 - length rows) (replicate 8 0)
 
 -- so many rows, and the walk counts: all rows are applied, and the image is consistent again
-abbrev pub moves : ℕ → ℕ → ℕ → Entry → List ℕ → ℕ → List (List ℕ) → Outcome
+abbrev pub moves : ℕ → ℕ → ℕ → EntrySeen → List ℕ → ℕ → List (List ℕ) → Outcome
 moves rows old new made links free plan = record {
   answer = answers 0 rows old new;
   after =

@@ -21,8 +21,8 @@ abbrev pub belowOrAbsent : ℕ → ℕ → Bool
 belowOrAbsent i n = implies (present i) (ltb i n)
 
 -- rule 105: the numbers are in range; that of the old parent is asked for by rule 106
-abbrev pub inRange : Shape → Journal → Bool
-inRange h j =
+abbrev pub numbersInRange : Shape → Journal → Bool
+numbersInRange h j =
     ltb (j .old) (h .entries) && ltb (j .new) (h .entries) && ltb (j .moved) (h .inodes) && belowOrAbsent (j .replaced) (h .inodes)
     && belowOrAbsent (j .text) (h .texts)
 
@@ -34,7 +34,7 @@ different j =
 
 -- rules 105 and 106: the record of a rename fits the image
 unfoldable pub renameFits : Shape → List ℕ → Journal → Bool
-renameFits h x j = inRange h j && different j && isDirectory (viewOf h x) (j .parent)
+renameFits h x j = numbersInRange h j && different j && isDirectory (viewOf h x) (j .parent)
 
 -- the move that the record names; the new parent is the one of the entry in the new slot
 abbrev pub moveFrom : View → Journal → Move
@@ -50,8 +50,8 @@ moveFrom v j = record {
 }
 
 -- rule 107: the new entry has been applied, so its slot is in use and targets the moved inode
-unfoldable pub decided : View → Move → Bool
-decided v m = entryUsed v (m .new) && eqb (v .target (m .new)) (m .moved)
+unfoldable pub entryStands : View → Move → Bool
+entryStands v m = entryUsed v (m .new) && eqb (v .target (m .new)) (m .moved)
 
 -- rule 108: the new parent is a directory, and neither moved nor replaced
 unfoldable pub intoGood : View → Move → Bool
@@ -68,7 +68,7 @@ module _ (h : Shape) (x : List ℕ) where
 
   -- rules 107 and 108: the rows of a move whose record fits
   unfoldable pub moveDraft : Move → Option (List Write)
-  moveDraft m = cond (decided (viewOf h x) m) (cond (intoGood (viewOf h x) m) (some (finishing m)) none) (some undoing)
+  moveDraft m = cond (entryStands (viewOf h x) m) (cond (intoGood (viewOf h x) m) (some (finishing m)) none) (some undoing)
 
   -- and of a pending rename
   unfoldable pub renameDraft : Journal → Option (List Write)

@@ -24,13 +24,13 @@ use Rattle.results.specs.declared.Move.{Move}
 use Rattle.results.specs.Results.{present, results, clearRow}
 use Rattle.results.specs.InImage.{InImage}
 use Rattle.results.specs.Owed.{results-write, clear-writes}
-use Rattle.results.specs.Rows.{results-le}
-use Rattle.drafts.specs.Draft.{belowOrAbsent, inRange, different, renameFits, moveFrom, decided, intoGood, undoing, finishing, moveDraft, renameDraft, kindDraft, draft}
+use Rattle.results.specs.ResultRows.{results-le}
+use Rattle.drafts.specs.Draft.{belowOrAbsent, numbersInRange, different, renameFits, moveFrom, entryStands, intoGood, undoing, finishing, moveDraft, renameDraft, kindDraft, draft}
 
 -- ---- the tests' last ways out
 
 pub range-last : (h : Shape) (j : Journal) → j .old < h .entries → j .new < h .entries → j .moved < h .inodes
-    → belowOrAbsent (j .replaced) (h .inodes) ≡ true → inRange h j ≡ belowOrAbsent (j .text) (h .texts)
+    → belowOrAbsent (j .replaced) (h .inodes) ≡ true → numbersInRange h j ≡ belowOrAbsent (j .text) (h .texts)
 range-last h j old new moved replaced = rw (lt-ltb _ _ old, lt-ltb _ _ new, lt-ltb _ _ moved, replaced)
 
 pub different-last : (j : Journal) → j .old ≢ j .new → j .moved ≢ 0 → j .moved ≢ j .parent → j .replaced ≢ j .moved
@@ -55,7 +55,7 @@ module _ (h : Shape) (x : List ℕ) (j : Journal) (fit : renameFits h x j ≡ tr
   range : (ltb (j .old) (h .entries) ≡ true) × (ltb (j .new) (h .entries) ≡ true) × (ltb (j .moved) (h .inodes) ≡ true)
       × (belowOrAbsent (j .replaced) (h .inodes) ≡ true) × (belowOrAbsent (j .text) (h .texts) ≡ true)
   unfolding renameFits
-  range = five _ _ _ _ _ (and-left (inRange h j) (different j) (and-left (inRange h j && different j) _ fit))
+  range = five _ _ _ _ _ (and-left (numbersInRange h j) (different j) (and-left (numbersInRange h j && different j) _ fit))
 
   pub fits-old : j .old < h .entries
   fits-old = ltb-true _ _ (range .0)
@@ -65,7 +65,7 @@ module _ (h : Shape) (x : List ℕ) (j : Journal) (fit : renameFits h x j ≡ tr
 
   pub fits-parent : isDirectory (viewOf h x) (j .parent) ≡ true
   unfolding renameFits
-  fits-parent = and-right (inRange h j && different j) _ fit
+  fits-parent = and-right (numbersInRange h j && different j) _ fit
 
   -- and with a good new parent those of its move are too
   pub fits-image : intoGood (viewOf h x) (moveFrom (viewOf h x) j) ≡ true → InImage h (moveFrom (viewOf h x) j)
@@ -100,15 +100,15 @@ module _ (h : Shape) (x : List ℕ) where
   rename-unfit j unfit = rw unfit
 
   module _ (m : Move) where
-    pub move-undone : decided (viewOf h x) m ≡ false → moveDraft h x m ≡ some (undoing h x)
+    pub move-undone : entryStands (viewOf h x) m ≡ false → moveDraft h x m ≡ some (undoing h x)
     unfolding moveDraft
     move-undone undecided = rw undecided
 
-    pub move-unfit : decided (viewOf h x) m ≡ true → intoGood (viewOf h x) m ≡ false → moveDraft h x m ≡ none
+    pub move-unfit : entryStands (viewOf h x) m ≡ true → intoGood (viewOf h x) m ≡ false → moveDraft h x m ≡ none
     unfolding moveDraft
     move-unfit done bad = rw (done, bad)
 
-    pub move-finished : decided (viewOf h x) m ≡ true → intoGood (viewOf h x) m ≡ true → moveDraft h x m ≡ some (finishing h x m)
+    pub move-finished : entryStands (viewOf h x) m ≡ true → intoGood (viewOf h x) m ≡ true → moveDraft h x m ≡ some (finishing h x m)
     unfolding moveDraft
     move-finished done good = rw (done, good)
 
@@ -158,7 +158,7 @@ module _ (h : Shape) (x : List ℕ) (laid : Laid h x) where
   move-owed : (m : Move) → (intoGood (viewOf h x) m ≡ true → InImage h m) → Owed h (moveDraft h x m)
   unfolding moveDraft
   move-owed m range =
-      by-test (Owed h) (decided (viewOf h x) m) _ _
+      by-test (Owed h) (entryStands (viewOf h x) m) _ _
       (λ _. by-test (Owed h) (intoGood (viewOf h x) m) (some (finishing h x m)) none (λ good. finishing-owed m (range good)) (λ _. tt)) (λ _. undoing-owed)
 
   rename-owed : (j : Journal) → Owed h (renameDraft h x j)

@@ -12,7 +12,7 @@ ghost use Rattle.layout.specs.View.{viewOf};
 ghost use Rattle.plan.specs.Form.{planBytes};
 ghost use Rattle.plan.specs.WriteLaws.{Filled};
 ghost use Rattle.results.specs.InImage.{InImage};
-ghost use Rattle.drafts.specs.Draft.{belowOrAbsent, inRange, different, renameFits, moveFrom, decided, intoGood, finishing, renameDraft};
+ghost use Rattle.drafts.specs.Draft.{belowOrAbsent, numbersInRange, different, renameFits, moveFrom, entryStands, intoGood, finishing, renameDraft};
 ghost use Rattle.drafts.specs.Drafted.{Drafted};
 
 fn below_or_absent(i: usize, n: usize) -> bool
@@ -25,7 +25,7 @@ fn below_or_absent(i: usize, n: usize) -> bool
 }
 
 fn in_range(h: Shape, j: Journal) -> bool
-    ensures { λ r. ⌜ r ≡ inRange h j ⌝ }
+    ensures { λ r. ⌜ r ≡ numbersInRange h j ⌝ }
 {
     if h.entries <= j.old {
         return false;
@@ -94,9 +94,9 @@ fn move_from(s: &[u8], h: Shape, j: Journal) -> Move
 }
 
 // Whether the new entry has been applied.
-fn decided(s: &[u8], h: Shape, m: Move) -> bool
+fn entryStands(s: &[u8], h: Shape, m: Move) -> bool
     requires { ⌜ Laid h (now s) × (m .new < h .entries) ⌝ }
-    ensures { λ r. ⌜ r ≡ decided (viewOf h (now (s .entry))) m ⌝ }
+    ensures { λ r. ⌜ r ≡ entryStands (viewOf h (now (s .entry))) m ⌝ }
 {
     let e = layout::records::entry(s, h, m.new);
     if layout::entry::name_length(e) == 0 {

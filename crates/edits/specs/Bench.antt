@@ -16,7 +16,7 @@ use Rattle.consistency.specs.Facts.{consistent-is}
 use Rattle.consistency.specs.Bench.{bench-consistent}
 use Rattle.edits.specs.ConsistentView.{ConsistentView}
 use Rattle.edits.specs.Moved.{Allowed}
-use Rattle.edits.specs.Renamed.{renamed, renamed-consistent}
+use Rattle.edits.specs.Renamed.{movedView, renamed-consistent}
 use Rattle.edits.specs.Refusals.{missing-of, unopened-of, not-above-of}
 use Rattle.edits.specs.Bodies.{bodies-consistent}
 
@@ -57,7 +57,7 @@ new-name = record {
   new-below = lit< tt;
 }
 
-pub new-name-consistent : ConsistentView (renamed v 3 7 3 1 1 k)
+pub new-name-consistent : ConsistentView (movedView v 3 7 3 1 1 k)
 new-name-consistent = renamed-consistent good new-name (eqb-false 1 0 refl)
 
 -- `/a/f` to `/b/g`: a file, from slot 3 to slot 5 of another directory, whose file has no other entry
@@ -81,7 +81,7 @@ file-replaced = record {
   new-below = lit< tt;
 }
 
-pub file-replaced-consistent : ConsistentView (renamed v 3 5 3 1 2 g)
+pub file-replaced-consistent : ConsistentView (movedView v 3 5 3 1 2 g)
 file-replaced-consistent = renamed-consistent good file-replaced (eqb-false 1 0 refl)
 
 -- `/a/d` to `/b/e/`: a directory, from slot 4 to the free slot 7 of another directory
@@ -105,5 +105,5 @@ directory-moved = record {
   new-below = lit< tt;
 }
 
-pub directory-moved-consistent : ConsistentView (renamed v 4 7 5 1 2 e)
+pub directory-moved-consistent : ConsistentView (movedView v 4 7 5 1 2 e)
 directory-moved-consistent = renamed-consistent good directory-moved (eqb-false 1 0 refl)

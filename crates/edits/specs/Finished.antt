@@ -14,7 +14,7 @@ use Rattle.edits.specs.Kinds.{IsDirectory, IsUsed, IsLeaf, EntryUsed, Ha
 use Rattle.edits.specs.Tests.{is-targets, no-targets, same-target, is-holds, no-holds}
 use Rattle.edits.specs.ConsistentView.{EntryLinked, ConsistentView, not-above-parent}
 use Rattle.edits.specs.Edit.{SameInode, Edit, was, stayed, entry-was, linked-new, entries-edited}
-use Rattle.edits.specs.Change.{Change, below, same-was, children-changed, handles-same}
+use Rattle.edits.specs.InodeChange.{InodeChange, below, same-was, children-changed, handles-same}
 use Rattle.edits.specs.TextChange.{TextChange, texts-freed}
 use Rattle.edits.specs.Settled.{SameEntries, SameChildren, DirectoryCount, LeafCount, change-consistent}
 use Rattle.edits.specs.Moved.{Allowed, Replaced, Gone, replaced?, gone?, Moved}
@@ -117,7 +117,7 @@ module _ {v : View} {old new moved from into : ℕ} {called : List ℕ} (good : 
         (count-unique (targets v moved) (v .entries) (good .placed .one-entry moved d moved-below-root) j old (l .0) (ok .old-used .0)
         (is-targets v moved j (l .1) (z ∙ e)) (is-targets v moved old (ok .old-used .1) (ok .old-target)))
 
-    change : Change v w slots (Gone v w new) (λ _. ⊥) Reparented
+    change : InodeChange v w slots (Gone v w new) (λ _. ⊥) Reparented
     change = record {
       edit = edit;
       gone? = gone? v w new;

@@ -3,7 +3,6 @@ pub mod Tests
 pub mod WayUp
 pub mod ConsistentView
 pub mod Edit
-pub mod Change
 pub mod TextChange
 pub mod Settled
 pub mod Moved
@@ -15,3 +14,4 @@ pub mod FinishedBodies
 pub mod Refusals
 pub mod Written
 pub mod Bench
+pub mod InodeChange

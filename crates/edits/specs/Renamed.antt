@@ -69,9 +69,9 @@ module _ (v : View) (old new moved from into : ℕ) (called : List ℕ) where
   textGone t = isGone (v .target new) && isSymlink v (v .target new) && eqb (v .field (v .target new)) t
 
   -- the finished view, but for the times: no rule of a consistent image speaks of them
-  unfoldable pub renamed : View
+  unfoldable pub movedView : View
   unfolding edited
-  renamed = record {
+  movedView = record {
     inodes = v .inodes;
     entries = v .entries;
     texts = v .texts;
@@ -102,7 +102,7 @@ module _ {v : View} {old new moved from into : ℕ} {called : List ℕ} (good : 
   e = edited v old new moved from into called
 
   abbrev w : View
-  w = renamed v old new moved from into called
+  w = movedView v old new moved from into called
 
   abbrev replaced : ℕ → Bool
   replaced = isReplaced v old new moved from into called
@@ -112,7 +112,7 @@ module _ {v : View} {old new moved from into : ℕ} {called : List ℕ} (good : 
 
   -- the recount does not see what becomes of the inodes
   recounted : Edit e w []
-  unfolding edited renamed
+  unfolding edited movedView
   recounted = record {
     size = record { inodes = refl; entries = refl; texts = refl; handles = refl };
     places = tt;
@@ -144,7 +144,7 @@ module _ {v : View} {old new moved from into : ℕ} {called : List ℕ} (good : 
 
   -- an inode that is not freed
   same : (i : ℕ) → (Gone v w new i → ⊥) → SameInode v w i
-  unfolding renamed
+  unfolding movedView
   same i n = let z = not-gone i n in record { kind = rw z; system = rw z; mode = rw z }
 
   named-kept : (j : ℕ) → EntryUsed e j → Gone v w new (e .target j) → ⊥
@@ -174,7 +174,7 @@ module _ {v : View} {old new moved from into : ℕ} {called : List ℕ} (good : 
       refuted _ (λ h. n (v .target new) (gone-is _ (search (and-left, and-right))) (kind-is v _ 3 (search (and-left, and-right))) (eqb-true _ _ (search (and-left, and-right))))
 
   pub renamed-moved : Moved v w old new moved from into called
-  unfolding edited renamed
+  unfolding edited movedView
   renamed-moved = record {
     size = record { inodes = refl; entries = refl; texts = refl; handles = refl };
     entry = λ j _ a b.

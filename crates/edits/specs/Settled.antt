@@ -12,7 +12,7 @@ use Rattle.layout.specs.Limits.{linkLimit}
 use Rattle.edits.specs.Kinds.{IsKind, IsDirectory, IsUsed, IsLeaf, EntryUsed, HandleOpen, directory-used, kind?}
 use Rattle.edits.specs.ConsistentView.{EntryLinked, Placed, Counted, ConsistentView}
 use Rattle.edits.specs.Edit.{kept, was, entries-edited, distinct-edited}
-use Rattle.edits.specs.Change.{Change, below, not-gone, same-was, same-is, entry-changed, children-changed, leads-changed, handles-changed}
+use Rattle.edits.specs.InodeChange.{InodeChange, below, not-gone, same-was, same-is, entry-changed, children-changed, leads-changed, handles-changed}
 use Rattle.edits.specs.TextChange.{TextChange, texts-changed}
 
 -- as many of the written entries name inode i after as before, and as many of them are child directories of d
@@ -56,7 +56,7 @@ pub record Settled (v w : View) (slots : List ℕ) (Gone Made Reparented : ℕ �
   -- rule 40
   pub handles : (n : ℕ) → HandleOpen w n → HandleOpen v n × (w .opened n ≡ v .opened n) × (Gone (v .opened n) → ⊥)
 
-module _ {v w : View} {slots : List ℕ} {Gone Made Reparented : ℕ → Type 0} (c : Change v w slots Gone Made Reparented) (good : ConsistentView v)
+module _ {v w : View} {slots : List ℕ} {Gone Made Reparented : ℕ → Type 0} (c : InodeChange v w slots Gone Made Reparented) (good : ConsistentView v)
     (o : Settled v w slots Gone Made Reparented) where
   same-entries : (i : ℕ) → SameEntries v w slots i → entriesOf w i ≡ entriesOf v i
   same-entries i e = omega (arith, entries-edited (c .edit) i)

@@ -9,7 +9,7 @@ use Rattle.layout.specs.View.{View}
 use Rattle.edits.specs.Kinds.{IsSymlink, TextUsed, symlink-used, kind?}
 use Rattle.edits.specs.ConsistentView.{Texts, ConsistentView}
 use Rattle.edits.specs.Edit.{SameSize, kept, was}
-use Rattle.edits.specs.Change.{Change, not-gone, same-was, same-is}
+use Rattle.edits.specs.InodeChange.{InodeChange, not-gone, same-was, same-is}
 
 pub record TextChange (v w : View) (Gone Made : ℕ → Type 0) : Type 0 where
   -- a text in use stays so, unless it was that of a freed symlink, and one in use now was so, unless it is that of a made one
@@ -60,7 +60,7 @@ module _ {v w : View} (Gone : ℕ → Type 0) (replaced : ℕ) (single : (i : �
       after t u (no n) = let l : t < v .texts = omega (arith, size, u .0) in (l, λ z. u .1 (same-length t l n ∙ z))
 
 -- Rules 36, 37 and 39 after a change.
-module _ {v w : View} {slots : List ℕ} {Gone Made Reparented : ℕ → Type 0} (c : Change v w slots Gone Made Reparented) (good : ConsistentView v)
+module _ {v w : View} {slots : List ℕ} {Gone Made Reparented : ℕ → Type 0} (c : InodeChange v w slots Gone Made Reparented) (good : ConsistentView v)
     (texts : TextChange v w Gone Made) where
   symlink-was : (i : ℕ) → IsSymlink w i → (Made i → ⊥) → IsSymlink v i
   symlink-was i s m = was (c .edit) i 3 (same-was c i (symlink-used w i s) m .kind) s

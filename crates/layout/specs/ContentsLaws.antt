@@ -115,7 +115,7 @@ module _ (s : List ℕ) (good : layoutGood s ≡ true) where
   }
 
 -- a count of two bytes, of any image
-pub record Counted (h : Shape) : Type 0 where
+pub record CountsFit (h : Shape) : Type 0 where
   pub inodes : h .inodes < 65536
   pub entries : h .entries < 65536
   pub texts : h .texts < 65536
@@ -123,7 +123,7 @@ pub record Counted (h : Shape) : Type 0 where
   pub width : h .width ≤ 48
 
 -- its entries end where 22 bits reach, so no sum of its places wraps
-pub product : (h : Shape) → Counted h → h .width * h .entries < 4194304
+pub product : (h : Shape) → CountsFit h → h .width * h .entries < 4194304
 product h c = let l = mul-le-mul-right (h .entries) (c .width) in omega (arith, c .entries)
 
 -- what a reader of the table of contents may conclude from its answer

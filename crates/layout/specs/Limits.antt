@@ -1,5 +1,5 @@
 -- The sizes and limits of the format and of the rules, each named once. A reader has to believe this file. Assumes nothing.
-use Prim.Native.Nat.{ℕ}
+use Prim.Native.Nat.{ℕ, _+_, _*_, _/_}
 
 -- form B: the table of contents has five rows of eight bytes
 abbrev pub contentsBytes : ℕ
@@ -22,8 +22,8 @@ abbrev pub journalSize : ℕ
 journalSize = 32
 
 -- form E: where in an entry its name begins, which has the rest
-abbrev pub nameAt : ℕ
-nameAt = 8
+abbrev pub nameOffset : ℕ
+nameOffset = 8
 
 -- form F and rule 11: the bytes that a record has for a text
 abbrev pub textRoom : ℕ
@@ -57,3 +57,27 @@ modeLimit = 4096
 -- rule 34: the most links of an inode
 abbrev pub linkLimit : ℕ
 linkLimit = 64
+
+-- rule 41: the start that stands for the current directory
+abbrev pub noHandle : ℕ
+noHandle = 255
+
+-- rules 47 and 57: how long a path may be, as supplied and with a symlink's text in it
+abbrev pub pathLimit : ℕ
+pathLimit = 255
+
+-- the bytes of a working path, as the build description has it
+abbrev pub pathBytes : ℕ
+pathBytes = 256
+
+-- rule 56: how many symlinks one path may lead through
+abbrev pub symlinkLimit : ℕ
+symlinkLimit = 8
+
+-- how many components a path can have: each has a byte and, but for the last, a slash
+abbrev pub pathComponents : ℕ
+pathComponents = (pathLimit + 1) / 2
+
+-- rule 61: what a walk is bounded by: so many components in each of the paths that it may go through
+abbrev pub stepLimit : ℕ
+stepLimit = pathComponents * (symlinkLimit + 1)

@@ -15,7 +15,7 @@ pub const HANDLE_BYTES: usize = 8;
 pub const JOURNAL_BYTES: usize = 32;
 
 // Where in an entry its name begins, and the bytes that a record has for a text.
-pub const NAME_AT: usize = 8;
+pub const NAME_OFFSET: usize = 8;
 
 pub const TEXT_ROOM: usize = 63;
 
@@ -38,3 +38,14 @@ pub const HANDLE_LIMIT: usize = 16;
 pub const MODE_LIMIT: usize = 4096;
 
 pub const LINK_LIMIT: usize = 64;
+
+// The start that stands for the current directory.
+pub const NO_HANDLE: usize = 255;
+
+// The longest path, as supplied and with a symlink's text in it, and the bytes of a working path.
+pub const PATH_LIMIT: usize = 255;
+
+pub const PATH_BYTES: usize = 256;
+
+// The symlinks that one path may lead through.
+pub const SYMLINK_LIMIT: usize = 8;

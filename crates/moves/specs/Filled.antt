@@ -10,7 +10,7 @@ use Rattle.plan.specs.Write.{rowFrom, rowsFrom}
 use Rattle.plan.specs.WriteLaws.{Filled, filled-one, filled-join}
 use Rattle.results.specs.declared.Move.{Move}
 use Rattle.results.specs.Results.{results, clearRow}
-use Rattle.results.specs.Rows.{results-le}
+use Rattle.results.specs.ResultRows.{results-le}
 use Rattle.moves.specs.Plan.{journalRow, entryRow, renameRows, planned}
 
 module _ (h : Shape) (s : List ℕ) (m : Move) (called : List ℕ) where

@@ -8,24 +8,24 @@ use lib.ListN.{length, length-append}
 use Rattle.layout.specs.declared.Shape.{Shape}
 use Rattle.plan.specs.Form.{planRows, planBytes, rowCount, resultGroup}
 use Rattle.plan.specs.Write.{Write}
-use Rattle.journal.specs.Pick.{All}
-use Rattle.journal.specs.PickLaws.{all-join, all-map}
-use Rattle.journal.specs.Store.{putAll}
-use Rattle.journal.specs.Order.{Permitted, Sorted}
-use Rattle.crash.specs.Image.{Fits, images}
-use Rattle.crash.specs.Job.{jobs}
+use Rattle.crash_theorem.specs.Pick.{All}
+use Rattle.crash_theorem.specs.PickLaws.{all-join, all-map}
+use Rattle.crash_theorem.specs.Store.{putAll}
+use Rattle.crash_theorem.specs.Order.{Permitted, Sorted}
+use Rattle.image_store.specs.Image.{Fits, images}
+use Rattle.image_store.specs.Job.{jobs}
 use Rattle.plan.specs.Jobs.{Job, jobsIn}
-use Rattle.crash.specs.Rows.{plan-count}
-use Rattle.crash.specs.Operation.{rowsIn}
-use Rattle.crash.specs.Safe.{planned-whole, planned-in-order}
+use Rattle.image_store.specs.JobRows.{plan-count}
+use Rattle.image_store.specs.Operation.{rowsIn}
+use Rattle.image_store.specs.Safe.{planned-whole, planned-in-order}
 use Rattle.results.specs.declared.Move.{Move}
 use Rattle.results.specs.Results.{results, clearRow}
-use Rattle.results.specs.Rows.{results-le}
+use Rattle.results.specs.ResultRows.{results-le}
 use Rattle.moves.specs.Plan.{renameRows, planned}
 use Rattle.outcome.specs.Outcome.{finished}
 use Rattle.outcome.specs.RenamePlan.{renamePlan, rename-rows, rename-planned}
 use Rattle.outcome.specs.Called.{Called}
-use Rattle.outcome.specs.Rows.{results-all, results-fit, well-formed}
+use Rattle.outcome.specs.PlanRows.{results-all, results-fit, well-formed}
 
 -- rows of one group stand in order, with others of no lower group behind them
 level-sorted : (h : Shape) (s : List ℕ) (g : ℕ) (us ws : List Write) → All (λ w. w .group ≡ g) us → All (λ w. g ≤ w .group) ws → Sorted (images h s) ws

@@ -32,7 +32,7 @@ use Rattle.edits.specs.Finished.{from-directory, from-stays, into-stays, moved-
 use Rattle.edits.specs.Bodies.{bodies-consistent}
 use Rattle.edits.specs.Written.{new-names}
 use Rattle.plan.specs.Write.{journalKey}
-use Rattle.crash.specs.Image.{recordOf, record-is}
+use Rattle.image_store.specs.Image.{recordOf, record-is}
 use Rattle.results.specs.declared.Move.{Move}
 use Rattle.results.specs.Results.{entriesAfter, freeRecord}
 use Rattle.results.specs.InImage.{InImage}

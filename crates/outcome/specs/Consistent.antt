@@ -33,7 +33,7 @@ use Rattle.results.specs.Records.{replaced-freed, moved-directory-says, moved-o
 use Rattle.afresh.specs.Recount.{Agrees, entries-agree, children-agree, Made, entries-made, children-made}
 use Rattle.outcome.specs.Outcome.{finished}
 use Rattle.outcome.specs.Called.{Called, before-good, replaced-is, is-replaced, replaced-present, replaced-below, text-is, in-image, entry-bytes, entry-names}
-use Rattle.outcome.specs.Rows.{inode-long, links-small}
+use Rattle.outcome.specs.PlanRows.{inode-long, links-small}
 use Rattle.outcome.specs.Finished.{finished-ok, new-written, old-cleared, moved-written, from-written, into-written, replaced-written, text-cleared, entry-kept, inode-kept, text-kept, handle-kept, journal-kept}
 
 -- an image is consistent by its parts

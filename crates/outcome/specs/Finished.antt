@@ -16,19 +16,19 @@ use Rattle.layout.specs.View.{inodeAt, entryAt, textAt, handleAt, journalAt}
 use Rattle.layout.specs.Limits.{absent}
 use Rattle.plan.specs.Write.{Write, inodeKey, entryKey, textKey, journalKey}
 use Rattle.plan.specs.WriteLaws.{other-section, other-index}
-use Rattle.journal.specs.Pick.{Has}
-use Rattle.journal.specs.PickLaws.{any-left, any-right}
-use Rattle.journal.specs.Store.{Spares, all-ok, all-same, all-other}
-use Rattle.journal.specs.Plan.{afterOf, writes}
-use Rattle.crash.specs.Image.{Ok, recordOf, record-is, images}
-use Rattle.crash.specs.Safe.{after-stored}
+use Rattle.crash_theorem.specs.Pick.{Has}
+use Rattle.crash_theorem.specs.PickLaws.{any-left, any-right}
+use Rattle.crash_theorem.specs.Store.{Spares, all-ok, all-same, all-other}
+use Rattle.crash_theorem.specs.Plan.{afterOf, writes}
+use Rattle.image_store.specs.Image.{Ok, recordOf, record-is, images}
+use Rattle.image_store.specs.Safe.{after-stored}
 use Rattle.results.specs.declared.Move.{Move}
 use Rattle.results.specs.Results.{when, freeRecord, movedAfter, holderAfter, replacedAfter, oldRow, movedRow, holderRow, replacedRow, textRow, intoRows, replacedRows, results}
 use Rattle.moves.specs.Plan.{newEntry, entryRow}
 use Rattle.outcome.specs.Outcome.{finished}
 use Rattle.outcome.specs.RenamePlan.{renamePlan}
 use Rattle.outcome.specs.Called.{Called, in-image}
-use Rattle.outcome.specs.Rows.{results-are, section-spared, entry-spared, text-spared, inode-spared, well-formed}
+use Rattle.outcome.specs.PlanRows.{results-are, section-spared, entry-spared, text-spared, inode-spared, well-formed}
 
 -- ---- which rows there are
 

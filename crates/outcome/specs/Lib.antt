@@ -1,8 +1,8 @@
 pub mod Outcome
 pub mod RenamePlan
 pub mod Called
-pub mod Rows
 pub mod Finished
 pub mod Applied
 pub mod Consistent
 pub mod Bench
+pub mod PlanRows

@@ -3,10 +3,10 @@ use mathlib.Core.Path.{_≡_, refl}
 use mathlib.Core.List.{List, []}
 use Prim.Native.Nat.{ℕ}
 use Rattle.layout.specs.declared.Shape.{Shape}
-use Rattle.journal.specs.Plan.{by-row, Plan}
-use Rattle.crash.specs.Image.{images}
-use Rattle.crash.specs.Rows.{planOf}
-use Rattle.crash.specs.Operation.{rowsIn}
+use Rattle.crash_theorem.specs.Plan.{by-row, Plan}
+use Rattle.image_store.specs.Image.{images}
+use Rattle.image_store.specs.JobRows.{planOf}
+use Rattle.image_store.specs.Operation.{rowsIn}
 use Rattle.results.specs.declared.Move.{Move}
 use Rattle.results.specs.Results.{results, clearRow}
 use Rattle.moves.specs.Plan.{journalRow, entryRow, renameRows, planned}

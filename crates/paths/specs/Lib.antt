@@ -6,4 +6,4 @@ pub mod Lookup
 pub mod LookupLaws
 pub mod PathLaws
 pub mod Plain
-pub mod Filled
+pub mod WorkingPath

@@ -1,11 +1,13 @@
 // A path and its components: slashes skipped, names delimited, a symlink's text spliced in.
+use layout::limits;
 ghost use mathlib.Core.Path.{_≡_};
 ghost use mathlib.Core.Bool.{cond};
 ghost use mathlib.Core.List.{_++_};
 ghost use Prim.Native.Nat.{_+_, _≤_};
 ghost use lib.ListN.{length};
+ghost use Rattle.layout.specs.Limits.{pathLimit};
 ghost use Rattle.paths.specs.Path.{slashes, untilSlash, bare, absolute, isDot, isDotDot};
-ghost use Rattle.paths.specs.Filled.{filled};
+ghost use Rattle.paths.specs.WorkingPath.{workingPath};
 
 // How many slashes a path begins with.
 pub fn slashes(p: &[u8]) -> usize
@@ -64,11 +66,11 @@ pub fn is_dot_dot(name: &[u8]) -> bool
 }
 
 // The working path made anew: a symlink's text, the unread rest, and zeros.
-pub fn splice(text: &[u8], rest: &[u8]) -> [u8; 256]
-    requires { ⌜ length (now text) + length (now rest) ≤ 255 ⌝ }
-    ensures { λ r. ⌜ r ≡ filled (now (text .entry) ++ now (rest .entry)) ⌝ }
+pub fn splice(text: &[u8], rest: &[u8]) -> [u8; limits::PATH_BYTES]
+    requires { ⌜ length (now text) + length (now rest) ≤ pathLimit ⌝ }
+    ensures { λ r. ⌜ r ≡ workingPath (now (text .entry) ++ now (rest .entry)) ⌝ }
 {
-    let mut path = [0u8; 256];
+    let mut path = [0u8; limits::PATH_BYTES];
     layout::bytes::copy(&mut path, 0, text);
     layout::bytes::copy(&mut path, text.len(), rest);
     path

@@ -7,7 +7,7 @@ use lib.ListN.{length}
 use Rattle.seq.specs.Bytes.{put}
 use Rattle.seq.specs.BytesLaws.{put-length, put-within}
 use Rattle.plan.specs.Form.{Row, planRows, bodyBytes, planBytes, headerAt, bodyAt, headerOf, rowPut, rowsPut}
-use Rattle.plan.specs.Rows.{Formed, header-length, row-length}
+use Rattle.plan.specs.RowLaws.{RowFormed, header-length, row-length}
 use Rattle.plan.specs.Many.{Each}
 
 module _ (buffer : List ℕ) (long : planBytes ≤ length buffer) where
@@ -19,7 +19,7 @@ module _ (buffer : List ℕ) (long : planBytes ≤ length buffer) where
       ap (λ (xs : List ℕ). put xs (bodyAt i) (r .body)) (put-within buffer plan (headerAt i) (headerOf i r) (omega arith) (omega (arith, header-length i r)))
       ∙ put-within buffer (put plan (headerAt i) (headerOf i r)) (bodyAt i) (r .body) (omega arith) (omega arith)
 
-  pub rows-copied : (rs : List Row) (plan : List ℕ) (i : ℕ) → length plan ≡ planBytes → i + length rs ≤ planRows → Each Formed rs
+  pub rows-copied : (rs : List Row) (plan : List ℕ) (i : ℕ) → length plan ≡ planBytes → i + length rs ≤ planRows → Each RowFormed rs
       → rowsPut (put buffer 0 plan) i rs ≡ put buffer 0 (rowsPut plan i rs)
   unfolding rowsPut
   rows-copied [] plan i whole room formed = refl

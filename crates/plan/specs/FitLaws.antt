@@ -14,7 +14,7 @@ use Rattle.layout.specs.ContentsLaws.{Laid}
 use Rattle.layout.specs.Place.{Key, recordBytes, records, place, imageBytes}
 use Rattle.layout.specs.PlaceLaws.{Valid, inside}
 use Rattle.plan.specs.Form.{Row, planRows, bodyBytes, planBytes, bodyAt, rowGroup, rowBlank, rowLength, rowOffset, rowPosition, rowAt, rowPut, lastGroup}
-use Rattle.plan.specs.Rows.{Formed, Stands, row-stands}
+use Rattle.plan.specs.RowLaws.{RowFormed, Stands, row-stands}
 use Rattle.plan.specs.Fit.{applicable, coverable, covers, coversRecord, coversSection, groupGood, rowFits, rowFor}
 
 -- The record that n bytes from at on are.
@@ -121,7 +121,7 @@ stands-applicable h plan i r below stands =
     rw (lt-ltb _ _ below, eq-eqb _ _ (stands .blank), eq-eqb _ _ (stands .position), stands .row)
 
 module _ (h : Shape) (s : List ℕ) (laid : Laid h s) (group : ℕ) (k : Key) (body : List ℕ) (w : Writes h group k body) where
-  pub written-formed : Formed (rowFor h group k body)
+  pub written-formed : RowFormed (rowFor h group k body)
   written-formed =
       let some = record-some h (omega (arith, laid .width-least)) (k .section) in
       let room = record-room h (laid .width-most) (k .section) in

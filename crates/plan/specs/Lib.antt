@@ -1,6 +1,5 @@
 pub mod Form
 pub mod Jobs
-pub mod Rows
 pub mod Many
 pub mod Unused
 pub mod Copied
@@ -9,3 +8,4 @@ pub mod FitLaws
 pub mod Write
 pub mod WriteLaws
 pub mod Bench
+pub mod RowLaws

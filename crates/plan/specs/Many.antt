@@ -14,7 +14,7 @@ use Rattle.seq.specs.SearchLaws.{any-false, all-not, all-of, first-hit, first-n
 use Rattle.seq.specs.Bytes.{put, zeros}
 use Rattle.seq.specs.BytesLaws.{part-byte, put-length, put-inside, put-after}
 use Rattle.plan.specs.Form.{Row, planRows, headerBytes, bodyBytes, planBytes, headerAt, rowGroup, rowAt, rowPut, rowsPut, cleared, noRow, rowCount}
-use Rattle.plan.specs.Rows.{Formed, Stands, header, row-length, row-past, row-stands, header-other, stands-other}
+use Rattle.plan.specs.RowLaws.{RowFormed, Stands, header, row-length, row-past, row-stands, header-other, stands-other}
 
 -- every row of a list is such
 abbrev pub Each : (Row → Type 0) → List Row → Type 0
@@ -40,24 +40,24 @@ rows-join (r ∷ rs) qs plan i =
     let e : i + 1 + length rs ≡ i + suc (length rs) = omega arith in
     rows-join rs qs (rowPut plan i r) (i + 1) ∙ ap (λ (n : ℕ). rowsPut (rowsPut (rowPut plan i r) (i + 1) rs) n qs) e
 
-fits : (r : Row) → Formed r → length (r .body) ≤ bodyBytes
+fits : (r : Row) → RowFormed r → length (r .body) ≤ bodyBytes
 fits r f = omega (arith, f .whole, f .body-fits)
 
-pub rows-past : (rs : List Row) (plan : List ℕ) (i : ℕ) → i + length rs ≤ planRows → Each Formed rs → (j : ℕ) → planBytes ≤ j → getD (rowsPut plan i rs) j 0 ≡ getD plan j 0
+pub rows-past : (rs : List Row) (plan : List ℕ) (i : ℕ) → i + length rs ≤ planRows → Each RowFormed rs → (j : ℕ) → planBytes ≤ j → getD (rowsPut plan i rs) j 0 ≡ getD plan j 0
 unfolding rowsPut
 rows-past [] plan i room formed j past = refl
 rows-past (r ∷ rs) plan i room formed j past =
     rows-past rs (rowPut plan i r) (i + 1) (omega arith) (formed .1) j past ∙ row-past plan i r (omega arith) (fits r (formed .0)) j past
 
 -- rows in front stand, and headers behind stay
-pub rows-before : (rs : List Row) (plan : List ℕ) (i j : ℕ) (q : Row) → j < i → i + length rs ≤ planRows → Each Formed rs → Formed q → Stands plan j q → Stands (rowsPut plan i rs) j q
+pub rows-before : (rs : List Row) (plan : List ℕ) (i j : ℕ) (q : Row) → j < i → i + length rs ≤ planRows → Each RowFormed rs → RowFormed q → Stands plan j q → Stands (rowsPut plan i rs) j q
 unfolding rowsPut
 rows-before [] plan i j q l room formed fq stands = stands
 rows-before (r ∷ rs) plan i j q l room formed fq stands =
     rows-before rs (rowPut plan i r) (i + 1) j q (omega arith) (omega arith) (formed .1) fq
     (stands-other plan j i r (fits r (formed .0)) (omega arith) (omega arith) (λ e. omega arith) q fq stands)
 
-pub rows-behind : (rs : List Row) (plan : List ℕ) (i j : ℕ) → i + length rs ≤ j → j < planRows → Each Formed rs → header (rowsPut plan i rs) j ≡ header plan j
+pub rows-behind : (rs : List Row) (plan : List ℕ) (i j : ℕ) → i + length rs ≤ j → j < planRows → Each RowFormed rs → header (rowsPut plan i rs) j ≡ header plan j
 unfolding rowsPut
 rows-behind [] plan i j l room formed = refl
 rows-behind (r ∷ rs) plan i j l room formed =
@@ -65,7 +65,7 @@ rows-behind (r ∷ rs) plan i j l room formed =
     ∙ header-other plan j i r (fits r (formed .0)) room (omega arith) (λ e. omega arith)
 
 -- each row stands in its place
-pub rows-stand : (d : Row) (rs : List Row) (plan : List ℕ) (i : ℕ) → planBytes ≤ length plan → i + length rs ≤ planRows → Each Formed rs
+pub rows-stand : (d : Row) (rs : List Row) (plan : List ℕ) (i : ℕ) → planBytes ≤ length plan → i + length rs ≤ planRows → Each RowFormed rs
     → (k : ℕ) → k < length rs → Stands (rowsPut plan i rs) (i + k) (getD rs k d)
 unfolding rowsPut
 rows-stand d [] plan i long room formed k l = absurd (not-suc-le-zero l)
@@ -110,7 +110,7 @@ one-there plan i some =
     all-not (λ k. eqb (getD plan (headerAt i + k) 0) 0) headerBytes 0 (omega arith) (rw add-zero (ne-eqb (rowGroup plan i) 0 (λ e. omega arith)))
 
 -- rows in a cleared plan: the count of rows is theirs
-module _ (rs : List Row) (plan : List ℕ) (long : planBytes ≤ length plan) (room : length rs ≤ planRows) (formed : Each Formed rs)
+module _ (rs : List Row) (plan : List ℕ) (long : planBytes ≤ length plan) (room : length rs ≤ planRows) (formed : Each RowFormed rs)
     (grouped : Each (λ r. 1 ≤ r .group) rs) where
   filled : List ℕ
   filled = rowsPut (cleared plan) 0 rs

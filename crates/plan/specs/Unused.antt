@@ -10,7 +10,7 @@ use borrow.Author.Tests.{leb-false, ltb-false}
 use Rattle.seq.specs.Bytes.{put}
 use Rattle.seq.specs.BytesLaws.{put-before, put-after}
 use Rattle.plan.specs.Form.{Row, headerBytes, planBytes, headerAt, bodyAt, headerOf, rowPut, rowsPut, cleared}
-use Rattle.plan.specs.Rows.{header-length}
+use Rattle.plan.specs.RowLaws.{header-length}
 use Rattle.plan.specs.Many.{cleared-byte}
 
 -- byte j is one of the n from at on

@@ -23,7 +23,7 @@ use Rattle.plan.specs.Form.{headerOf, rowPut, rowsPut, cleared, noRow, rowCount
 use Rattle.plan.specs.Write.{Write, entryKey, journalKey, storeAll}
 use Rattle.results.specs.declared.Move.{Move}
 use Rattle.results.specs.Results.{entriesAfter, childrenAfter, linksAfter, movedBytes, holderBytes, replacedBytes, holderRow, results}
-use Rattle.drafts.specs.Draft.{renameFits, decided, intoGood, moveDraft, renameDraft, draft}
+use Rattle.drafts.specs.Draft.{renameFits, entryStands, intoGood, moveDraft, renameDraft, draft}
 use Rattle.recover.specs.Recover.{pendingRows}
 use Rattle.recover.specs.Job.{Recovered, recovered}
 
@@ -75,13 +75,13 @@ pub bench-recovered : map (λ x. told (asked x)) inputs ≡
     (0 ∷ 0 ∷ 0 ∷ []) ∷ (0 ∷ 1 ∷ 1 ∷ []) ∷ (0 ∷ 6 ∷ 6 ∷ []) ∷ (0 ∷ 6 ∷ 6 ∷ [])
     ∷ (204 ∷ 0 ∷ 0 ∷ []) ∷ (204 ∷ 0 ∷ 0 ∷ []) ∷ (204 ∷ 0 ∷ 0 ∷ []) ∷ (204 ∷ 0 ∷ 0 ∷ []) ∷ (204 ∷ 0 ∷ 0 ∷ []) ∷ (204 ∷ 0 ∷ 0 ∷ []) ∷ (201 ∷ 0 ∷ 0 ∷ [])
     ∷ []
-unfolding bench any all first count part put store zeros sameBytes numberAt bytesOf nameIs rowIs shapeOf rowGood rowsGood layoutGood recordAt viewOf plainName isDots nameGood clash entriesOf childDirectories reaches textShared noZero textLinked journalClear bodiesGood consistent movedBytes holderBytes replacedBytes entriesAfter childrenAfter linksAfter results journalOf journalFormed journalHead journalBytes renameFits decided intoGood moveDraft renameDraft draft pendingRows recovered headerOf rowPut rowsPut cleared noRow rowCount
+unfolding bench any all first count part put store zeros sameBytes numberAt bytesOf nameIs rowIs shapeOf rowGood rowsGood layoutGood recordAt viewOf plainName isDots nameGood clash entriesOf childDirectories reaches textShared noZero textLinked journalClear bodiesGood consistent movedBytes holderBytes replacedBytes entriesAfter childrenAfter linksAfter results journalOf journalFormed journalHead journalBytes renameFits entryStands intoGood moveDraft renameDraft draft pendingRows recovered headerOf rowPut rowsPut cleared noRow rowCount
 bench-recovered = refl
 
 -- the outcome in scratch, zeros where the image cannot be recovered, and the byte past the image as it was
 pub bench-scratch : map (λ x. asked x .scratch) (bench ∷ begun ∷ going ∷ set going 592 2 ∷ []) ≡
     map (λ x. x ++ 7 ∷ []) (bench ∷ bench ∷ storeAll h bench (entryRow ∷ results h bench m) ∷ replicate 624 0 ∷ [])
-unfolding bench any all first count part put store zeros sameBytes numberAt bytesOf nameIs rowIs shapeOf rowGood rowsGood layoutGood recordAt viewOf plainName isDots nameGood clash entriesOf childDirectories reaches textShared noZero textLinked journalClear bodiesGood consistent movedBytes holderBytes replacedBytes entriesAfter childrenAfter linksAfter results journalOf journalFormed journalHead journalBytes renameFits decided intoGood moveDraft renameDraft draft pendingRows recovered headerOf rowPut rowsPut cleared noRow rowCount
+unfolding bench any all first count part put store zeros sameBytes numberAt bytesOf nameIs rowIs shapeOf rowGood rowsGood layoutGood recordAt viewOf plainName isDots nameGood clash entriesOf childDirectories reaches textShared noZero textLinked journalClear bodiesGood consistent movedBytes holderBytes replacedBytes entriesAfter childrenAfter linksAfter results journalOf journalFormed journalHead journalBytes renameFits entryStands intoGood moveDraft renameDraft draft pendingRows recovered headerOf rowPut rowsPut cleared noRow rowCount
 bench-scratch = refl
 
 -- buffers that are too short

@@ -19,8 +19,8 @@ use Rattle.plan.specs.Form.{planRows, planBytes}
 use Rattle.plan.specs.Write.{Write, storeAll}
 use Rattle.results.specs.declared.Move.{Move}
 use Rattle.results.specs.Results.{results, clearRow}
-use Rattle.results.specs.Rows.{results-le}
-use Rattle.drafts.specs.Draft.{renameFits, moveFrom, decided, intoGood, undoing, finishing, moveDraft, renameDraft, kindDraft, draft}
+use Rattle.results.specs.ResultRows.{results-le}
+use Rattle.drafts.specs.Draft.{renameFits, moveFrom, entryStands, intoGood, undoing, finishing, moveDraft, renameDraft, kindDraft, draft}
 use Rattle.recover.specs.Recover.{ifConsistent, pendingRows, recover}
 use Rattle.recover.specs.Job.{Recovered, refused, done, byRows, byJournal, recovered}
 
@@ -40,7 +40,7 @@ module _ (h : Shape) (x : List ℕ) where
   move-few : (m : Move) → Few (moveDraft h x m)
   unfolding moveDraft
   move-few m =
-      few-cond (decided (viewOf h x) m) _ (some (undoing h x))
+      few-cond (entryStands (viewOf h x) m) _ (some (undoing h x))
       (few-cond (intoGood (viewOf h x) m) (some (finishing h x m)) none (finishing-few m) tt) (lit≤ tt)
 
   rename-few : (j : Journal) → Few (renameDraft h x j)

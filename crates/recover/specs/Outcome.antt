@@ -12,7 +12,7 @@ use Rattle.layout.specs.ContentsLaws.{Laid, Read, good-laid}
 use Rattle.layout.specs.Record.{store}
 use Rattle.layout.specs.Commute.{store-shape, store-layout}
 use Rattle.plan.specs.Form.{Row, planRows, planBytes, rowsPut}
-use Rattle.plan.specs.Rows.{Formed, Stands}
+use Rattle.plan.specs.RowLaws.{RowFormed, Stands}
 use Rattle.plan.specs.Many.{Each, rows-length, rows-stand}
 use Rattle.plan.specs.FitLaws.{Writes, written-formed}
 use Rattle.plan.specs.Write.{Write, storeAll, rowFrom, rowsFrom}
@@ -59,7 +59,7 @@ module _ (h : Shape) where
       let shape = read .shape ∙ sym (store-shape h x k body) in
       record { good = good; shape = shape; laid = subst (λ (g : Shape). Laid g (store h x k body)) (sym shape) (good-laid _ good) }
 
-  pub rows-formed : (x : List ℕ) → Read x h → (ws : List Write) → AllWrites h ws → Each Formed (rowsFrom h ws)
+  pub rows-formed : (x : List ℕ) → Read x h → (ws : List Write) → AllWrites h ws → Each RowFormed (rowsFrom h ws)
   rows-formed x read [] a = tt
   rows-formed x read (w ∷ ws) a =
       (written-formed h x (read .laid) (w .group) (w .key) (w .body) (a .0), rows-formed x read ws (a .1))

@@ -38,29 +38,29 @@ abbrev pub refusedBy : ℕ → Answer
 refusedBy n = record { number = n; rows = 0 }
 
 -- The job answers so, and leaves these buffers.
-pub record Answers (o : Recovered) (r : Answer) (plan scratch : List ℕ) : Type 0 where
+pub record RecoverAnswers (o : Recovered) (r : Answer) (plan scratch : List ℕ) : Type 0 where
   pub is : r ≡ answerOf o
   pub plan-is : plan ≡ o .plan
   pub scratch-is : scratch ≡ o .scratch
 
-pub answers-as : {o p : Recovered} {r t : Answer} {plan scratch : List ℕ} → Answers o r plan scratch → t ≡ r → o ≡ p → Answers p t plan scratch
-answers-as {o} {p} {r} {t} {plan} {scratch} a e f = subst (λ (q : Recovered). Answers q t plan scratch) f (record { is = e ∙ a .is; plan-is = a .plan-is; scratch-is = a .scratch-is })
+pub answers-as : {o p : Recovered} {r t : Answer} {plan scratch : List ℕ} → RecoverAnswers o r plan scratch → t ≡ r → o ≡ p → RecoverAnswers p t plan scratch
+answers-as {o} {p} {r} {t} {plan} {scratch} a e f = subst (λ (q : Recovered). RecoverAnswers q t plan scratch) f (record { is = e ∙ a .is; plan-is = a .plan-is; scratch-is = a .scratch-is })
 
 -- the rows fit a plan
-pub answers-few : (plan scratch x : List ℕ) {r : Answer} {q z : List ℕ} → Answers (recovered plan scratch x) r q z → r .rows ≤ planRows
+pub answers-few : (plan scratch x : List ℕ) {r : Answer} {q z : List ℕ} → RecoverAnswers (recovered plan scratch x) r q z → r .rows ≤ planRows
 answers-few plan scratch x a = subst (λ (r : Answer). r .rows ≤ planRows) (sym (a .is)) (recovered-few plan scratch x)
 
 -- a refusal leaves both buffers as they were
-pub answers-refused : (plan scratch x : List ℕ) (n : ℕ) {o : Recovered} → o ≡ refused plan scratch x n → Answers o (refusedBy n) plan scratch
+pub answers-refused : (plan scratch x : List ℕ) (n : ℕ) {o : Recovered} → o ≡ refused plan scratch x n → RecoverAnswers o (refusedBy n) plan scratch
 answers-refused plan scratch x n e = answers-as (record { is = refl; plan-is = refl; scratch-is = refl }) refl (sym e)
 
 -- A draft of so many rows of an image is ready to be settled.
-pub record Ready (x : List ℕ) (h : Shape) (n : ℕ) (plan : List ℕ) : Type 0 where
+pub record DraftReady (x : List ℕ) (h : Shape) (n : ℕ) (plan : List ℕ) : Type 0 where
   pub read : Read x h
   pub drafted : Drafted h (replicate planBytes 0) (draft h x) (Rows n) plan
 
 -- it is exactly a plan
-pub ready-exact : {x : List ℕ} {h : Shape} {n : ℕ} {d : List ℕ} → Ready x h n d → length d ≡ planBytes
+pub ready-exact : {x : List ℕ} {h : Shape} {n : ℕ} {d : List ℕ} → DraftReady x h n d → length d ≡ planBytes
 ready-exact {x} {h} {n} {d} ready = go (draft h x) (ready .drafted)
   where
     go : (o : Option (List Write)) → Drafted h (replicate planBytes 0) o (Rows n) d → length d ≡ planBytes
@@ -74,7 +74,7 @@ outcome-length h x (some ws) = stored-length h ws x
 
 -- not recoverable
 pub answers-none : (plan scratch x : List ℕ) (h : Shape) → length scratch ≡ length x → pendingRows h x ≡ none → (z : List ℕ) → z ≡ replicate (length scratch) 0
-    → Answers (byRows plan scratch x h (pendingRows h x)) (refusedBy notRecoverable) plan z
+    → RecoverAnswers (byRows plan scratch x h (pendingRows h x)) (refusedBy notRecoverable) plan z
 answers-none plan scratch x h whole e z f =
     answers-as (record {
       is = refl;
@@ -122,7 +122,7 @@ module _ (plan scratch x : List ℕ) (h : Shape) (whole : length scratch ≡ len
       stored = outcome ∙ outcome-is
 
       rows-refused : checkNumber y ≢ 0 → (z : List ℕ) → z ≡ replicate (length y) 0
-          → Answers (byRows plan scratch x h (pendingRows h x)) (refusedBy notRecoverable) plan z
+          → RecoverAnswers (byRows plan scratch x h (pendingRows h x)) (refusedBy notRecoverable) plan z
       unfolding pendingRows
       rows-refused bad z e =
           let not-consistent : consistent (storeAll h x ws) ≡ false = refuted _ (λ t. bad (ap checkNumber stored ∙ consistent-checked _ t)) in
@@ -130,7 +130,7 @@ module _ (plan scratch x : List ℕ) (h : Shape) (whole : length scratch ≡ len
           (ap (ifConsistent h x) is ∙ ap (λ (b : Bool). cond b (some ws) none) not-consistent) z
           (e ∙ ap (λ (xs : List ℕ). replicate (length xs) 0) stored ∙ ap (λ (n : ℕ). replicate n 0) (stored-length h ws x ∙ sym whole))
 
-      rows-done : checkNumber y ≡ 0 → (q : List ℕ) → q ≡ put plan 0 d → Answers (byRows plan scratch x h (pendingRows h x)) (record { number = 0; rows = n }) q y
+      rows-done : checkNumber y ≡ 0 → (q : List ℕ) → q ≡ put plan 0 d → RecoverAnswers (byRows plan scratch x h (pendingRows h x)) (record { number = 0; rows = n }) q y
       unfolding pendingRows
       rows-done fine q e =
           let good : consistent (storeAll h x ws) ≡ true = ap consistent (sym stored) ∙ checked-consistent y fine in
@@ -142,21 +142,21 @@ module _ (plan scratch x : List ℕ) (h : Shape) (whole : length scratch ≡ len
           }) (λ i. record { number = 0; rows = rows i })
           (ap (byRows plan scratch x h) (sym (ap (ifConsistent h x) is ∙ ap (λ (b : Bool). cond b (some ws) none) good)))
 
-  module _ (n : ℕ) (d : List ℕ) (ready : Ready x h n d) (y : List ℕ) (outcome : y ≡ appliedFrom (put scratch 0 x) d 0 n) where
+  module _ (n : ℕ) (d : List ℕ) (ready : DraftReady x h n d) (y : List ℕ) (outcome : y ≡ appliedFrom (put scratch 0 x) d 0 n) where
     pub settle-refused : checkNumber y ≢ 0 → (z : List ℕ) → z ≡ replicate (length y) 0
-        → Answers (byRows plan scratch x h (pendingRows h x)) (refusedBy notRecoverable) plan z
+        → RecoverAnswers (byRows plan scratch x h (pendingRows h x)) (refusedBy notRecoverable) plan z
     settle-refused bad z e = go (draft h x) refl (ready .drafted)
       where
         go : (o : Option (List Write)) → draft h x ≡ o → Drafted h (replicate planBytes 0) o (Rows n) d
-            → Answers (byRows plan scratch x h (pendingRows h x)) (refusedBy notRecoverable) plan z
+            → RecoverAnswers (byRows plan scratch x h (pendingRows h x)) (refusedBy notRecoverable) plan z
         go none is f = absurd f
         go (some ws) is f = rows-refused ws is (replicate planBytes 0) refl d n f y outcome bad z e
 
-    pub settle-done : checkNumber y ≡ 0 → (q : List ℕ) → q ≡ put plan 0 d → Answers (byRows plan scratch x h (pendingRows h x)) (record { number = 0; rows = n }) q y
+    pub settle-done : checkNumber y ≡ 0 → (q : List ℕ) → q ≡ put plan 0 d → RecoverAnswers (byRows plan scratch x h (pendingRows h x)) (record { number = 0; rows = n }) q y
     settle-done fine q e = go (draft h x) refl (ready .drafted)
       where
         go : (o : Option (List Write)) → draft h x ≡ o → Drafted h (replicate planBytes 0) o (Rows n) d
-            → Answers (byRows plan scratch x h (pendingRows h x)) (record { number = 0; rows = n }) q y
+            → RecoverAnswers (byRows plan scratch x h (pendingRows h x)) (record { number = 0; rows = n }) q y
         go none is f = absurd f
         go (some ws) is f = rows-done ws is (replicate planBytes 0) refl d n f y outcome fine q e
 
@@ -173,13 +173,13 @@ module _ (plan scratch x : List ℕ) (h : Shape) where
         ap (λ (ys : List ℕ). ys ++ drop (length x) scratch) (put-whole (take (length x) scratch) (outcomeOf h x o) (l ∙ sym n))
         ∙ ap (λ (k : ℕ). outcomeOf h x o ++ drop k scratch) (sym m) ∙ sym (put-eq scratch 0 (outcomeOf h x o) (omega arith))
 
-    front-answers : (o : Option (List Write)) {r : Answer} {q front : List ℕ} → Answers (byRows plan (take (length x) scratch) x h o) r q front
-        → Answers (byRows plan scratch x h o) r q (front ++ drop (length x) scratch)
+    front-answers : (o : Option (List Write)) {r : Answer} {q front : List ℕ} → RecoverAnswers (byRows plan (take (length x) scratch) x h o) r q front
+        → RecoverAnswers (byRows plan scratch x h o) r q (front ++ drop (length x) scratch)
     front-answers none a = record { is = a .is; plan-is = a .plan-is; scratch-is = ap (λ (ys : List ℕ). ys ++ drop (length x) scratch) (a .scratch-is) ∙ front-put none }
     front-answers (some ws) a = record { is = a .is; plan-is = a .plan-is; scratch-is = ap (λ (ys : List ℕ). ys ++ drop (length x) scratch) (a .scratch-is) ∙ front-put (some ws) }
 
-    pub answers-pending : journalClear h x ≡ false → {r : Answer} {q front : List ℕ} → Answers (byRows plan (take (length x) scratch) x h (pendingRows h x)) r q front
-        → Answers (byJournal plan scratch x h) r q (front ++ drop (length x) scratch)
+    pub answers-pending : journalClear h x ≡ false → {r : Answer} {q front : List ℕ} → RecoverAnswers (byRows plan (take (length x) scratch) x h (pendingRows h x)) r q front
+        → RecoverAnswers (byJournal plan scratch x h) r q (front ++ drop (length x) scratch)
     answers-pending set a = answers-as (front-answers (pendingRows h x) a) refl (rw set)
 
   -- clear: the bodies decide
@@ -188,9 +188,9 @@ module _ (plan scratch x : List ℕ) (h : Shape) where
     unfolding consistent
     by-bodies = rw (read .good, ← read .shape, clear)
 
-    pub answers-unsound : bodiesGood h x ≡ false → Answers (byJournal plan scratch x h) (refusedBy inconsistent) plan scratch
+    pub answers-unsound : bodiesGood h x ≡ false → RecoverAnswers (byJournal plan scratch x h) (refusedBy inconsistent) plan scratch
     answers-unsound bad = answers-as (record { is = refl; plan-is = refl; scratch-is = refl }) refl (rw (clear, by-bodies, bad))
 
-    pub answers-nothing : bodiesGood h x ≡ true → {q z : List ℕ} → q ≡ cleared plan → z ≡ put scratch 0 x → Answers (byJournal plan scratch x h) (refusedBy 0) q z
+    pub answers-nothing : bodiesGood h x ≡ true → {q z : List ℕ} → q ≡ cleared plan → z ≡ put scratch 0 x → RecoverAnswers (byJournal plan scratch x h) (refusedBy 0) q z
     unfolding rowsPut
     answers-nothing good e f = answers-as {o = done plan scratch x h []} (record { is = refl; plan-is = e; scratch-is = f }) refl (rw (clear, by-bodies, good))

@@ -11,7 +11,7 @@ ghost use Rattle.layout.specs.ContentsLaws.{Read};
 ghost use Rattle.plan.specs.Form.{planBytes};
 ghost use Rattle.recover.specs.Recover.{pendingRows};
 ghost use Rattle.recover.specs.Job.{byRows, byJournal, recovered};
-ghost use Rattle.recover.specs.Outs.{refusedBy, Ready, Answers};
+ghost use Rattle.recover.specs.Outs.{refusedBy, DraftReady, RecoverAnswers};
 
 pub mod outcome;
 
@@ -36,8 +36,8 @@ fn settle(
     plan: &mut [u8],
     scratch: &mut [u8],
 ) -> Answer
-    requires { ⌜ Ready (now s) h rows (now draft) × (planBytes ≤ length (now plan)) × (length (now scratch) ≡ length (now s)) ⌝ }
-    ensures { λ r. ⌜ Answers (byRows (now (plan .entry)) (now (scratch .entry)) (now (s .entry)) h (pendingRows h (now (s .entry)))) r (now (plan .exit)) (now (scratch .exit)) ⌝ }
+    requires { ⌜ DraftReady (now s) h rows (now draft) × (planBytes ≤ length (now plan)) × (length (now scratch) ≡ length (now s)) ⌝ }
+    ensures { λ r. ⌜ RecoverAnswers (byRows (now (plan .entry)) (now (scratch .entry)) (now (s .entry)) h (pendingRows h (now (s .entry)))) r (now (plan .exit)) (now (scratch .exit)) ⌝ }
 {
     layout::bytes::copy(scratch, 0, s);
     outcome::apply(scratch, draft, rows);
@@ -52,7 +52,7 @@ fn settle(
 // A journal record that is set. Scratch is as long as the image.
 fn pending(s: &[u8], h: Shape, plan: &mut [u8], scratch: &mut [u8]) -> Answer
     requires { ⌜ Read (now s) h × (planBytes ≤ length (now plan)) × (length (now scratch) ≡ length (now s)) ⌝ }
-    ensures { λ r. ⌜ Answers (byRows (now (plan .entry)) (now (scratch .entry)) (now (s .entry)) h (pendingRows h (now (s .entry)))) r (now (plan .exit)) (now (scratch .exit)) ⌝ }
+    ensures { λ r. ⌜ RecoverAnswers (byRows (now (plan .entry)) (now (scratch .entry)) (now (s .entry)) h (pendingRows h (now (s .entry)))) r (now (plan .exit)) (now (scratch .exit)) ⌝ }
 {
     let mut draft = [0u8; plan::BYTES];
     let found = draft::make(&mut draft, s, h);
@@ -68,7 +68,7 @@ fn pending(s: &[u8], h: Shape, plan: &mut [u8], scratch: &mut [u8]) -> Answer
 // An image of a good layout: its journal record decides.
 fn by_journal(s: &[u8], h: Shape, plan: &mut [u8], scratch: &mut [u8]) -> Answer
     requires { ⌜ Read (now s) h × (planBytes ≤ length (now plan)) × (length (now s) ≤ length (now scratch)) ⌝ }
-    ensures { λ r. ⌜ Answers (byJournal (now (plan .entry)) (now (scratch .entry)) (now (s .entry)) h) r (now (plan .exit)) (now (scratch .exit)) ⌝ }
+    ensures { λ r. ⌜ RecoverAnswers (byJournal (now (plan .entry)) (now (scratch .entry)) (now (s .entry)) h) r (now (plan .exit)) (now (scratch .exit)) ⌝ }
 {
     if !consistency::journal_clear(s, h) {
         let n = s.len();
@@ -84,7 +84,7 @@ fn by_journal(s: &[u8], h: Shape, plan: &mut [u8], scratch: &mut [u8]) -> Answer
 
 // The job repair. The image is only read. At 0 the plan has the rows and scratch their outcome.
 pub fn recover(s: &[u8], plan: &mut [u8], scratch: &mut [u8]) -> Answer
-    ensures { λ r. ⌜ Answers (recovered (now (plan .entry)) (now (scratch .entry)) (now (s .entry))) r (now (plan .exit)) (now (scratch .exit)) ⌝ }
+    ensures { λ r. ⌜ RecoverAnswers (recovered (now (plan .entry)) (now (scratch .entry)) (now (s .entry))) r (now (plan .exit)) (now (scratch .exit)) ⌝ }
 {
     if plan.len() < plan::BYTES {
         return refused(errno::SHORT_BUFFER);

@@ -23,16 +23,16 @@ isPlanned Same = false
 isPlanned Planned = true
 
 -- no rule of the list plans
-abbrev pub deciding : List Rule → Bool
-deciding [] = true
-deciding (r ∷ rs) = not (isPlanned (r .answer)) && deciding rs
+abbrev pub decidingRules : List Rule → Bool
+decidingRules [] = true
+decidingRules (r ∷ rs) = not (isPlanned (r .answer)) && decidingRules rs
 
-pub passes : (rs : List Rule) → deciding rs ≡ true → decide rs ≡ Planned → Passes rs
+pub passes : (rs : List Rule) → decidingRules rs ≡ true → decide rs ≡ Planned → Passes rs
 passes [] each e = tt
 passes (r ∷ rs) each e = go (passes rs (and-right (not (isPlanned (r .answer))) _ each)) (r .test) e
   where
     go : (decide rs ≡ Planned → Passes rs) → (b : Bool) → cond b (r .answer) (decide rs) ≡ Planned → (b ≡ false) × Passes rs
-    go rest true e = absurd (false≢true (sym (not-true (isPlanned (r .answer)) (and-left _ (deciding rs) each)) ∙ ap isPlanned e))
+    go rest true e = absurd (false≢true (sym (not-true (isPlanned (r .answer)) (and-left _ (decidingRules rs) each)) ∙ ap isPlanned e))
     go rest false e = (refl, rest e)
 
 pub record Passed (v : View) (c : Case) : Type 0 where

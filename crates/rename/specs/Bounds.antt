@@ -11,21 +11,22 @@ use Rattle.layout.specs.View.{View}
 use Rattle.layout.specs.Contents.{shapeOf}
 use Rattle.paths.specs.declared.request.Request.{Request}
 use Rattle.component.specs.declared.state.Final.the-variants.{MustExist, MayBeMissing}
-use Rattle.component.specs.Step.{stepLimit, End}
+use Rattle.component.specs.Step.{End}
+use Rattle.layout.specs.Limits.{stepLimit}
 use Rattle.walk.specs.Bound.{walk-bound}
 use Rattle.walk.specs.Both.{walksOf, oldWalk}
 use Rattle.plan.specs.Form.{planRows}
 use Rattle.results.specs.declared.Move.{Move}
 use Rattle.results.specs.Results.{results, clearRow}
-use Rattle.results.specs.Rows.{results-le}
+use Rattle.results.specs.ResultRows.{results-le}
 use Rattle.refusals.specs.declared.case.Answer.{Answer}
 use Rattle.refusals.specs.declared.case.Answer.the-variants.{Refused, Same, Planned}
 use Rattle.refusals.specs.Steps.{decide}
 use Rattle.rename.specs.declared.Renamed.{Renamed}
 use Rattle.moves.specs.Plan.{renameRows}
 use Rattle.rename.specs.Order.{view, early}
-use Rattle.rename.specs.Job.{answer, move, called, rowsOf, countOf, renamed}
-use Rattle.rename.specs.Outs.{Answers}
+use Rattle.rename.specs.Job.{answer, move, called, rowsBy, countBy, renamed}
+use Rattle.rename.specs.Outs.{RenameAnswers}
 
 pub record Small (r : Renamed) : Type 0 where
   pub rows : r .rows ≤ planRows
@@ -47,12 +48,12 @@ new-bound v q old new =
     (λ z. walk-bound v (q .who) MayBeMissing (q .current) (q .starts .new) new) (λ z. zero-le)
 
 module _ (s plan : List ℕ) (q : Request) (old new : List ℕ) where
-  answered-rows : (a : Answer) → rowsOf s plan q old new a ≤ planRows
+  answered-rows : (a : Answer) → rowsBy s plan q old new a ≤ planRows
   answered-rows (Refused n) = zero-le
   answered-rows Same = zero-le
   answered-rows Planned = rows-le (shapeOf s) s (move s plan q old new) (called s plan q old new)
 
-  counted : (a : Answer) (n : ℕ) → n ≤ stepLimit → countOf s plan q old new a n ≤ stepLimit
+  counted : (a : Answer) (n : ℕ) → n ≤ stepLimit → countBy s plan q old new a n ≤ stepLimit
   counted (Refused k) n l = zero-le
   counted Same n l = zero-le
   counted Planned n l = l
@@ -65,5 +66,5 @@ module _ (s plan : List ℕ) (q : Request) (old new : List ℕ) where
     new = counted (decide (early s plan q old new)) _ (new-bound (view s plan q old new) q old new);
   }
 
-pub answers-small : {s plan : List ℕ} {q : Request} {old new : List ℕ} {r : Renamed} {after : List ℕ} → Answers s plan q old new r after → Small r
+pub answers-small : {s plan : List ℕ} {q : Request} {old new : List ℕ} {r : Renamed} {after : List ℕ} → RenameAnswers s plan q old new r after → Small r
 answers-small {s} {plan} {q} {old} {new} a = subst Small (sym (a .is)) (renamed-small s plan q old new)

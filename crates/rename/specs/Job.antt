@@ -26,29 +26,29 @@ module _ (s plan : List ℕ) (q : Request) (old new : List ℕ) where
   called = nameOf (walks s plan q old new .new .found)
 
   -- the rows of each answer, and the plan buffer: a refusal leaves it as it was, two names of one file give a plan of no rows
-  abbrev pub rowsOf : Answer → ℕ
-  rowsOf (Refused n) = 0
-  rowsOf Same = 0
-  rowsOf Planned = length (renameRows (shapeOf s) s move called)
+  abbrev pub rowsBy : Answer → ℕ
+  rowsBy (Refused n) = 0
+  rowsBy Same = 0
+  rowsBy Planned = length (renameRows (shapeOf s) s move called)
 
-  abbrev pub planOf : Answer → List ℕ
-  planOf (Refused n) = plan
-  planOf Same = cleared plan
-  planOf Planned = planned (shapeOf s) s move called plan
+  abbrev pub planBy : Answer → List ℕ
+  planBy (Refused n) = plan
+  planBy Same = cleared plan
+  planBy Planned = planned (shapeOf s) s move called plan
 
   -- a count, 0 where no walk began
-  abbrev pub countOf : Answer → ℕ → ℕ
-  countOf (Refused n) steps = 0
-  countOf Same steps = 0
-  countOf Planned steps = steps
+  abbrev pub countBy : Answer → ℕ → ℕ
+  countBy (Refused n) steps = 0
+  countBy Same steps = 0
+  countBy Planned steps = steps
 
   unfoldable pub renamed : Renamed
   renamed = record {
     number = numberOf answer;
-    rows = rowsOf answer;
-    old = countOf (decide (early s plan q old new)) (walks s plan q old new .old .steps);
-    new = countOf (decide (early s plan q old new)) (walks s plan q old new .new .steps);
+    rows = rowsBy answer;
+    old = countBy (decide (early s plan q old new)) (walks s plan q old new .old .steps);
+    new = countBy (decide (early s plan q old new)) (walks s plan q old new .new .steps);
   }
 
   unfoldable pub planAfter : List ℕ
-  planAfter = planOf answer
+  planAfter = planBy answer

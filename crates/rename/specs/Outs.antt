@@ -26,15 +26,15 @@ use Rattle.refusals.specs.Steps.{numberOf, decide, steps}
 use Rattle.refusals.specs.Decide.{decide-refused, decide-passed}
 use Rattle.rename.specs.declared.Renamed.{Renamed}
 use Rattle.rename.specs.Order.{walks, caseOf, early, late, order}
-use Rattle.rename.specs.Job.{rowsOf, planOf, renamed, planAfter}
+use Rattle.rename.specs.Job.{rowsBy, planBy, renamed, planAfter}
 
 -- What the job answers, and the plan buffer after it.
-pub record Answers (s plan : List ℕ) (q : Request) (old new : List ℕ) (r : Renamed) (after : List ℕ) : Type 0 where
+pub record RenameAnswers (s plan : List ℕ) (q : Request) (old new : List ℕ) (r : Renamed) (after : List ℕ) : Type 0 where
   pub is : r ≡ renamed s plan q old new
   pub buffer : after ≡ planAfter s plan q old new
 
-pub answers-as : {s plan : List ℕ} {q : Request} {old new : List ℕ} {r t : Renamed} {after : List ℕ} → Answers s plan q old new r after → t ≡ r
-    → Answers s plan q old new t after
+pub answers-as : {s plan : List ℕ} {q : Request} {old new : List ℕ} {r t : Renamed} {after : List ℕ} → RenameAnswers s plan q old new r after → t ≡ r
+    → RenameAnswers s plan q old new t after
 answers-as a e = record { is = e ∙ a .is; buffer = a .buffer }
 
 -- a refusal before any walk
@@ -54,7 +54,7 @@ walked-old v q old new e = go (ℕ-discrete (walksOf v q old new .old .number) 0
     go (no some) = sym (ap (λ (b : Bool). cond b (newWalk v q new) (halt (walksOf v q old new .old .number)) .number) (ne-eqb _ 0 some)) ∙ e
 
 module _ (s plan : List ℕ) (q : Request) (old new : List ℕ) where
-  early-refused : (n : ℕ) → n ≢ 0 → decide (early s plan q old new) ≡ Refused n → Answers s plan q old new (refusedBy n) plan
+  early-refused : (n : ℕ) → n ≢ 0 → decide (early s plan q old new) ≡ Refused n → RenameAnswers s plan q old new (refusedBy n) plan
   unfolding renamed planAfter order
   early-refused n some e =
       let d : decide (early s plan q old new ++ late s plan q old new) ≡ Refused n =
@@ -62,20 +62,20 @@ module _ (s plan : List ℕ) (q : Request) (old new : List ℕ) where
       record { is = rw (d, e); buffer = rw d }
 
   -- the plan is too short
-  pub answers-short : length plan < planBytes → Answers s plan q old new (refusedBy shortBuffer) plan
+  pub answers-short : length plan < planBytes → RenameAnswers s plan q old new (refusedBy shortBuffer) plan
   answers-short l = early-refused shortBuffer (λ z. omega arith) (rw (lt-ltb _ _ l))
 
   module _ (long : planBytes ≤ length plan) where
-    pub answers-layout : layoutGood s ≡ false → Answers s plan q old new (refusedBy inconsistent) plan
+    pub answers-layout : layoutGood s ≡ false → RenameAnswers s plan q old new (refusedBy inconsistent) plan
     answers-layout bad = early-refused inconsistent (λ z. omega arith) (rw (le-ltb _ _ long, bad))
 
     module _ (h : Shape) (read : Read s h) where
       -- the journal record, and then the bodies
-      pub answers-records : (n : ℕ) → n ≡ recordsNumber h s → n ≢ 0 → Answers s plan q old new (refusedBy n) plan
+      pub answers-records : (n : ℕ) → n ≡ recordsNumber h s → n ≢ 0 → RenameAnswers s plan q old new (refusedBy n) plan
       unfolding recordsNumber
       answers-records n is some = go (journalClear h s) (bodiesGood h s) refl refl
         where
-          go : (a b : Bool) → journalClear h s ≡ a → bodiesGood h s ≡ b → Answers s plan q old new (refusedBy n) plan
+          go : (a b : Bool) → journalClear h s ≡ a → bodiesGood h s ≡ b → RenameAnswers s plan q old new (refusedBy n) plan
           go true true c d = absurd (some (is ∙ rw (c, d)))
           go true false c d = let e : n ≡ 201 = is ∙ rw (c, d) in early-refused n some (rw (le-ltb _ _ long, read .good, ← read .shape, c, d, e))
           go false b c d = let e : n ≡ 203 = is ∙ rw c in early-refused n some (rw (le-ltb _ _ long, read .good, ← read .shape, c, e))
@@ -91,7 +91,7 @@ module _ (s plan : List ℕ) (q : Request) (old new : List ℕ) where
             go false b c d = let e : _≡_ {A = ℕ} 203 0 = sym (rw c) ∙ fine in absurd (omega arith)
 
         -- the request
-        pub answers-request : requestGood (viewOf h s) q old new ≡ false → Answers s plan q old new (refusedBy wrongRequest) plan
+        pub answers-request : requestGood (viewOf h s) q old new ≡ false → RenameAnswers s plan q old new (refusedBy wrongRequest) plan
         answers-request bad =
             early-refused wrongRequest (λ z. omega arith)
             (rw (le-ltb _ _ long, read .good, ← read .shape, records-fine .0, records-fine .1, bad))
@@ -113,9 +113,9 @@ module _ (s plan : List ℕ) (q : Request) (old new : List ℕ) where
 
           -- the answer that the late part gives
           abbrev pub answerWith : Answer → Renamed
-          answerWith a = record { number = numberOf a; rows = rowsOf s plan q old new a; old = ends .old .steps; new = ends .new .steps }
+          answerWith a = record { number = numberOf a; rows = rowsBy s plan q old new a; old = ends .old .steps; new = ends .new .steps }
 
-          late-answered : (a : Answer) → decide (late s plan q old new) ≡ a → Answers s plan q old new (answerWith a) (planOf s plan q old new a)
+          late-answered : (a : Answer) → decide (late s plan q old new) ≡ a → RenameAnswers s plan q old new (answerWith a) (planBy s plan q old new a)
           unfolding renamed planAfter order
           late-answered a e =
               let d : decide (early s plan q old new ++ late s plan q old new) ≡ a = decide-passed (late s plan q old new) (early s plan q old new) refl (ap numberOf begins) ∙ e in
@@ -123,7 +123,7 @@ module _ (s plan : List ℕ) (q : Request) (old new : List ℕ) where
 
           -- a walk is refused
           pub answers-walk : ends .new .number ≢ 0
-              → Answers s plan q old new (record { number = ends .new .number; rows = 0; old = ends .old .steps; new = ends .new .steps }) plan
+              → RenameAnswers s plan q old new (record { number = ends .new .number; rows = 0; old = ends .old .steps; new = ends .new .steps }) plan
           answers-walk some = late-answered (Refused (ends .new .number)) (go (ℕ-discrete (ends .old .number) 0))
             where
               go : Dec (ends .old .number ≡ 0) → decide (late s plan q old new) ≡ Refused (ends .new .number)
@@ -132,6 +132,6 @@ module _ (s plan : List ℕ) (q : Request) (old new : List ℕ) where
 
           -- both are whole: the steps answer
           pub answers-steps : ends .new .number ≡ 0 → (a : Answer) → a ≡ decide (steps (viewOf h s) (caseOf (viewOf h s) q ends))
-              → Answers s plan q old new (answerWith a) (planOf s plan q old new a)
+              → RenameAnswers s plan q old new (answerWith a) (planBy s plan q old new a)
           answers-steps none a e =
               late-answered a (rw (← same-ends, eq-eqb (ends .old .number) 0 (walked-old (viewOf h s) q old new none), eq-eqb (ends .new .number) 0 none, ← read .shape) (sym e))

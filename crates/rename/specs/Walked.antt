@@ -31,7 +31,7 @@ use Rattle.results.specs.InImage.{InImage}
 use Rattle.rename.specs.declared.Renamed.{Renamed}
 use Rattle.moves.specs.Plan.{moveOf, renameRows, planned}
 use Rattle.rename.specs.Order.{nameOf, caseOf}
-use Rattle.rename.specs.Outs.{Answers, answers-as, walked-old, answers-walk, answers-steps}
+use Rattle.rename.specs.Outs.{RenameAnswers, answers-as, walked-old, answers-walk, answers-steps}
 use Rattle.rename.specs.Known.{case-in, called-fits, move-in}
 
 abbrev pub endsOf : Walks → Ends
@@ -53,7 +53,7 @@ module _ (s plan : List ℕ) (q : Request) (old new : List ℕ) (long : planByte
     abbrev answer : ℕ → ℕ → Renamed
     answer number rows = record { number = number; rows = rows; old = w .old .steps; new = w .new .steps }
 
-    pub refused-walk : w .new .number ≢ 0 → Answers s plan q old new (answer (w .new .number) 0) plan
+    pub refused-walk : w .new .number ≢ 0 → RenameAnswers s plan q old new (answer (w .new .number) 0) plan
     refused-walk some =
         let e = ap (λ (x : Ends). x .new .number) same-ends in
         answers-as (answers-walk s plan q old new long h read fine good (λ z. some (e ∙ z)))
@@ -74,14 +74,14 @@ module _ (s plan : List ℕ) (q : Request) (old new : List ℕ) (long : planByte
         decided : a ≡ decide (steps v (caseOf v q (walksOf v q old new)))
         decided = judged ∙ ap (λ (x : Case). decide (steps v x)) (is ∙ ap (λ (x : Ends). caseOf v q x) same-ends)
 
-        pub steps-refuse : (n : ℕ) → a ≡ Refused n → Answers s plan q old new (answer n 0) plan
+        pub steps-refuse : (n : ℕ) → a ≡ Refused n → RenameAnswers s plan q old new (answer n 0) plan
         steps-refuse n e =
             answers-as (answers-steps s plan q old new long h read fine good new-whole (Refused n) (sym e ∙ decided))
             (λ t. record { number = n; rows = 0; old = same-ends t .old .steps; new = same-ends t .new .steps })
 
-        pub steps-same : a ≡ Same → (after : List ℕ) → after ≡ cleared plan → Answers s plan q old new (answer (w .new .number) 0) after
+        pub steps-same : a ≡ Same → (after : List ℕ) → after ≡ cleared plan → RenameAnswers s plan q old new (answer (w .new .number) 0) after
         steps-same e after f =
-            subst (λ (x : List ℕ). Answers s plan q old new (answer (w .new .number) 0) x) (sym f)
+            subst (λ (x : List ℕ). RenameAnswers s plan q old new (answer (w .new .number) 0) x) (sym f)
             (answers-as (answers-steps s plan q old new long h read fine good new-whole Same (sym e ∙ decided))
             (λ t. record { number = none t; rows = 0; old = same-ends t .old .steps; new = same-ends t .new .steps }))
 
@@ -106,7 +106,7 @@ module _ (s plan : List ℕ) (q : Request) (old new : List ℕ) (long : planByte
           pub steps-plan : (after : List ℕ) (n : ℕ)
               → (after ≡ planned h s (moveOf v c (q .now)) (nameOf (endOf (w .new) .found)) plan)
               × (n ≡ length (renameRows h s (moveOf v c (q .now)) (nameOf (endOf (w .new) .found))))
-              → Answers s plan q old new (answer (w .new .number) n) after
+              → RenameAnswers s plan q old new (answer (w .new .number) n) after
           steps-plan after n (filled, counted) =
               let f : after ≡ planIn (shapeOf s) (walksOf (viewOf (shapeOf s) s) q old new) =
               filled ∙ ap (λ (x : Case). planned h s (moveOf v x (q .now)) (nameOf (endOf (w .new) .found)) plan) is ∙ ap (λ (y : Ends). planIn h y) same-ends
@@ -114,6 +114,6 @@ module _ (s plan : List ℕ) (q : Request) (old new : List ℕ) (long : planByte
               let k : n ≡ length (rowsIn (shapeOf s) (walksOf (viewOf (shapeOf s) s) q old new)) =
               counted ∙ ap (λ (x : Case). length (renameRows h s (moveOf v x (q .now)) (nameOf (endOf (w .new) .found)))) is ∙ ap (λ (y : Ends). length (rowsIn h y)) same-ends
               ∙ ap (λ (x : Shape). length (rowsIn x (walksOf (viewOf x s) q old new))) (read .shape) in
-              subst (λ (x : List ℕ). Answers s plan q old new (answer (w .new .number) n) x) (sym f)
+              subst (λ (x : List ℕ). RenameAnswers s plan q old new (answer (w .new .number) n) x) (sym f)
               (answers-as (answers-steps s plan q old new long h read fine good new-whole Planned (sym e ∙ decided))
               (λ t. record { number = none t; rows = k t; old = same-ends t .old .steps; new = same-ends t .new .steps }))

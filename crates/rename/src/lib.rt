@@ -21,7 +21,7 @@ ghost use Rattle.plan.specs.Form.{planBytes};
 ghost use Rattle.results.specs.InImage.{InImage};
 ghost use Rattle.moves.specs.Plan.{moveOf, renameRows, planned};
 ghost use Rattle.rename.specs.Order.{nameOf};
-ghost use Rattle.rename.specs.Outs.{refusedBy, Answers};
+ghost use Rattle.rename.specs.Outs.{refusedBy, RenameAnswers};
 
 pub mod found;
 
@@ -75,7 +75,7 @@ fn write(plan: &mut [u8], s: &[u8], h: Shape, c: Case, time: u64, new: Walked) -
 // Both walks of a good request, and what the steps make of them.
 fn walked(s: &[u8], h: Shape, q: Request, old: &[u8], new: &[u8], plan: &mut [u8]) -> Renamed
     requires { ⌜ (planBytes ≤ length (now plan)) × Read (now s) h × (recordsNumber h (now s) ≡ 0) × (requestGood (viewOf h (now s)) q (now old) (now new) ≡ true) ⌝ }
-    ensures { λ r. ⌜ Answers (now (s .entry)) (now (plan .entry)) q (now (old .entry)) (now (new .entry)) r (now (plan .exit)) ⌝ }
+    ensures { λ r. ⌜ RenameAnswers (now (s .entry)) (now (plan .entry)) q (now (old .entry)) (now (new .entry)) r (now (plan .exit)) ⌝ }
 {
     let w = walk::both::both(s, h, q, old, new);
     let first = w.old;
@@ -102,7 +102,7 @@ fn walked(s: &[u8], h: Shape, q: Request, old: &[u8], new: &[u8], plan: &mut [u8
 // A request on an image of a good layout.
 fn asked(s: &[u8], h: Shape, q: Request, old: &[u8], new: &[u8], plan: &mut [u8]) -> Renamed
     requires { ⌜ (planBytes ≤ length (now plan)) × Read (now s) h ⌝ }
-    ensures { λ r. ⌜ Answers (now (s .entry)) (now (plan .entry)) q (now (old .entry)) (now (new .entry)) r (now (plan .exit)) ⌝ }
+    ensures { λ r. ⌜ RenameAnswers (now (s .entry)) (now (plan .entry)) q (now (old .entry)) (now (new .entry)) r (now (plan .exit)) ⌝ }
 {
     let number = consistency::records_number(s, h);
     if number != 0 {
@@ -116,7 +116,7 @@ fn asked(s: &[u8], h: Shape, q: Request, old: &[u8], new: &[u8], plan: &mut [u8]
 
 // The job rename. The image is only read; the plan is written where the answer is 0, and else as it was.
 pub fn rename(s: &[u8], q: Request, old: &[u8], new: &[u8], plan: &mut [u8]) -> Renamed
-    ensures { λ r. ⌜ Answers (now (s .entry)) (now (plan .entry)) q (now (old .entry)) (now (new .entry)) r (now (plan .exit)) ⌝ }
+    ensures { λ r. ⌜ RenameAnswers (now (s .entry)) (now (plan .entry)) q (now (old .entry)) (now (new .entry)) r (now (plan .exit)) ⌝ }
 {
     if plan.len() < plan::BYTES {
         return refused(errno::SHORT_BUFFER);

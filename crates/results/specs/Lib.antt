@@ -4,6 +4,6 @@ pub mod Edited
 pub mod Links
 pub mod Records
 pub mod Again
-pub mod Rows
 pub mod Owed
 pub mod Bench
+pub mod ResultRows

@@ -6,7 +6,8 @@ use Rattle.component.specs.declared.state.Walk.{Walk}
 use Rattle.component.specs.declared.state.Final.{Final}
 use Rattle.component.specs.declared.state.Final.the-variants.{MustExist, MayBeMissing}
 use Rattle.component.specs.declared.state.Found.{Found}
-use Rattle.component.specs.Step.{stepLimit, End, Step, ends}
+use Rattle.component.specs.Step.{End, Step, ends}
+use Rattle.layout.specs.Limits.{stepLimit}
 use Rattle.component.specs.State.{findingOf, Ranged}
 use Rattle.walk.specs.declared.resolve.Walked.{Walked}
 use Rattle.walk.specs.declared.both.Walks.{Walks}

@@ -11,7 +11,8 @@ use Rattle.component.specs.declared.state.Found.{Found}
 use Rattle.component.specs.declared.state.Found.the-variants.{Nothing}
 use Rattle.component.specs.declared.state.Leave.the-variants.{Refuses, Finds}
 use Rattle.component.specs.declared.state.Turn.{Turn}
-use Rattle.component.specs.Step.{stepLimit, End, Step}
+use Rattle.component.specs.Step.{End, Step}
+use Rattle.layout.specs.Limits.{stepLimit}
 use Rattle.component.specs.State.{leaveOf, Left, Turned}
 use Rattle.walk.specs.declared.resolve.Walked.{Walked}
 use Rattle.walk.specs.Walk.{walk}

@@ -16,7 +16,8 @@ use Rattle.paths.specs.Lookup.{isNamed, lookup}
 use Rattle.component.specs.Step.{Finding, End, existing, missing, nothing, step}
 use Rattle.component.specs.declared.state.Final.{Final}
 use Rattle.component.specs.declared.state.Final.the-variants.{MustExist, MayBeMissing}
-use Rattle.walk.specs.Walk.{noHandle, halt, walkFrom, walk}
+use Rattle.walk.specs.Walk.{halt, walkFrom, walk}
+use Rattle.layout.specs.Limits.{noHandle}
 
 abbrev pub benchView : View
 benchView = viewOf (shapeOf bench) bench

@@ -12,7 +12,8 @@ use Rattle.paths.specs.declared.request.Credentials.{Credentials}
 use Rattle.paths.specs.Path.{behind, bare}
 use Rattle.paths.specs.PathLaws.{skip-le, skip-more, behind-le, behind-short, bare-append}
 use Rattle.component.specs.declared.state.Final.{Final}
-use Rattle.component.specs.Step.{symlinkLimit, pathLimit, pathComponents, stepLimit, Position, End, Step, goes, ends, step}
+use Rattle.component.specs.Step.{Position, End, Step, goes, ends, step}
+use Rattle.layout.specs.Limits.{symlinkLimit, pathLimit, pathComponents, stepLimit}
 use Rattle.component.specs.Ways.{Way, refuses, moves, follows, exists, lacks}
 use Rattle.component.specs.WayLaws.{step-way}
 use Rattle.walk.specs.Walk.{startAt, walkFrom, walk}

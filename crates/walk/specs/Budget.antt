@@ -8,7 +8,8 @@ use Rattle.layout.specs.View.{View}
 use Rattle.paths.specs.declared.request.Credentials.{Credentials}
 use Rattle.paths.specs.Path.{skip, behind, bare}
 use Rattle.component.specs.declared.state.Final.{Final}
-use Rattle.component.specs.Step.{symlinkLimit, pathLimit, pathComponents, stepLimit, Position, End, Step, goes, ends, step}
+use Rattle.component.specs.Step.{Position, End, Step, goes, ends, step}
+use Rattle.layout.specs.Limits.{symlinkLimit, pathLimit, pathComponents, stepLimit}
 
 -- A step that goes on from w to u: the component counts, another is left, and either u is behind the component just read, or one more
 -- symlink, which was not one too many, has led into a path of its own.

@@ -4,21 +4,19 @@ use mathlib.Core.List.{List}
 use Prim.Native.Nat.{ℕ, zero, suc}
 use lib.Dec.{eqb, ltb}
 use lib.ListN.{length}
+use Rattle.layout.specs.Errno.{EBADF, EBUSY, ELOOP, ENAMETOOLONG, ENOENT}
 use Rattle.layout.specs.View.{View, handleOpen}
 use Rattle.paths.specs.declared.request.Credentials.{Credentials}
 use Rattle.paths.specs.Path.{empty, bare, absolute}
 use Rattle.component.specs.declared.state.Final.{Final}
-use Rattle.component.specs.Step.{pathLimit, stepLimit, Position, End, nothing, goes, ends, step}
+use Rattle.component.specs.Step.{Position, End, nothing, goes, ends, step}
+use Rattle.layout.specs.Limits.{pathLimit, stepLimit, noHandle}
 use Rattle.walk.specs.declared.start.Start.{Start}
 use Rattle.walk.specs.declared.start.Start.the-variants.{Closed, At}
 
--- rule 41: the start that stands for the current directory
-abbrev pub noHandle : ℕ
-noHandle = 255
-
 -- the numbers that a path is refused by before its walk begins
 abbrev pub haltNumber : ℕ → Bool
-haltNumber n = eqb n 2 || eqb n 36 || eqb n 9 || eqb n 16
+haltNumber n = eqb n ENOENT || eqb n ENAMETOOLONG || eqb n EBADF || eqb n EBUSY
 
 -- a path that no walk begins on
 abbrev pub halt : ℕ → End
@@ -40,15 +38,15 @@ startAt directory waived path = record { rest = path; directory = directory; lin
 module _ (v : View) (who : Credentials) (last : Final) where
   -- as many components as there are, up to a number of them that is never reached (see Bound)
   unfoldable pub walkFrom : ℕ → Position → End
-  walkFrom zero w = record { number = 40; steps = w .steps; found = nothing }
+  walkFrom zero w = record { number = ELOOP; steps = w .steps; found = nothing }
   walkFrom (suc n) w = elim (step v who last w) [ goes u ↦ walkFrom n u | ends e ↦ e ]
 
   -- rules 48 and 49: a handle that is closed, and then a path of slashes only
   abbrev pub begun : Start → List ℕ → End
-  begun Closed path = halt 9
-  begun (At directory waived) path = cond (bare path) (halt 16) (walkFrom stepLimit (startAt directory waived path))
+  begun Closed path = halt EBADF
+  begun (At directory waived) path = cond (bare path) (halt EBUSY) (walkFrom stepLimit (startAt directory waived path))
 
   -- rules 46 and 47: the walk of a path from the current directory and a start
   unfoldable pub walk : ℕ → ℕ → List ℕ → End
   walk current start path =
-      cond (empty path) (halt 2) (cond (ltb pathLimit (length path)) (halt 36) (begun (startOf v current start path) path))
+      cond (empty path) (halt ENOENT) (cond (ltb pathLimit (length path)) (halt ENAMETOOLONG) (begun (startOf v current start path) path))

@@ -6,6 +6,8 @@ use component::state::Found;
 use component::state::Leave;
 use component::state::Walk;
 use layout::Shape;
+use layout::errno;
+use layout::limits;
 use paths::path;
 use paths::request::Credentials;
 ghost use mathlib.Core.Path.{_≡_};
@@ -15,8 +17,8 @@ ghost use lib.ListN.{length};
 ghost use Rattle.seq.specs.Bytes.{noZero};
 ghost use Rattle.layout.specs.View.{viewOf};
 ghost use Rattle.layout.specs.ViewLaws.{Readable};
-ghost use Rattle.paths.specs.Filled.{filled};
-ghost use Rattle.component.specs.Step.{pathLimit, stepLimit};
+ghost use Rattle.paths.specs.WorkingPath.{workingPath};
+ghost use Rattle.layout.specs.Limits.{pathLimit, stepLimit};
 ghost use Rattle.component.specs.State.{positionOf, beginning, Fit};
 ghost use Rattle.walk.specs.Walk.{halt, walkFrom, begun, walk};
 ghost use Rattle.walk.specs.Answer.{endOf, answerOf, Ended, Answered};
@@ -27,7 +29,7 @@ pub struct Walked {
     pub number: u8,
     pub steps: usize,
     pub found: Found,
-    pub path: [u8; state::PATH_BYTES],
+    pub path: [u8; limits::PATH_BYTES],
 }
 
 // The answer of a walk that ends here.
@@ -62,11 +64,11 @@ fn run(s: &[u8], h: Shape, who: Credentials, last: Final, w: Walk) -> Walked
 }
 
 // A working path that holds this path, and then zeros.
-fn working(path: &[u8]) -> [u8; state::PATH_BYTES]
+fn working(path: &[u8]) -> [u8; limits::PATH_BYTES]
     requires { ⌜ length (now path) ≤ pathLimit ⌝ }
-    ensures { λ r. ⌜ r ≡ filled (now (path .entry)) ⌝ }
+    ensures { λ r. ⌜ r ≡ workingPath (now (path .entry)) ⌝ }
 {
-    let mut bytes = [0u8; state::PATH_BYTES];
+    let mut bytes = [0u8; limits::PATH_BYTES];
     layout::bytes::copy(&mut bytes, 0, path);
     bytes
 }
@@ -96,7 +98,7 @@ pub fn stop(number: u8) -> Walked
         number,
         steps: 0,
         found: Found::Nothing,
-        path: [0u8; state::PATH_BYTES],
+        path: [0u8; limits::PATH_BYTES],
     }
 }
 
@@ -113,10 +115,10 @@ fn from_start(
     ensures { λ r. ⌜ Ended r (begun (viewOf h (now (s .entry))) who last start (now (path .entry))) ⌝ }
 {
     match start {
-        Start::Closed => stop(9),
+        Start::Closed => stop(errno::EBADF),
         Start::At { directory, waived } => {
             if path::is_bare(path) {
-                return stop(16);
+                return stop(errno::EBUSY);
             }
             let w = begin(path, directory, waived);
             run(s, h, who, last, w)
@@ -138,10 +140,10 @@ fn resolve(
     ensures { λ r. ⌜ Ended r (walk (viewOf h (now (s .entry))) who last current start (now (path .entry))) ⌝ }
 {
     if path.len() == 0 {
-        return stop(2);
+        return stop(errno::ENOENT);
     }
-    if state::PATH_LIMIT < path.len() {
-        return stop(36);
+    if limits::PATH_LIMIT < path.len() {
+        return stop(errno::ENAMETOOLONG);
     }
     let from = crate::start::locate(s, h, current, start, path);
     from_start(s, h, who, last, from, path)

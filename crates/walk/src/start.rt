@@ -1,13 +1,11 @@
 // Where a path begins: the directory, and whether search permission is waived for its first component.
 use layout::Shape;
+use layout::limits;
 use paths::path;
 ghost use mathlib.Core.Path.{_≡_};
 ghost use Rattle.layout.specs.ContentsLaws.{Laid};
 ghost use Rattle.layout.specs.View.{viewOf};
 ghost use Rattle.walk.specs.Walk.{startOf};
-
-// The start that stands for the current directory.
-pub const NO_HANDLE: usize = 255;
 
 // A relative path from a handle that is closed, or does not exist, begins nowhere.
 pub enum Start {
@@ -26,7 +24,7 @@ pub fn locate(s: &[u8], h: Shape, current: usize, start: usize, path: &[u8]) -> 
             waived: false,
         };
     }
-    if start == NO_HANDLE {
+    if start == limits::NO_HANDLE {
         return Start::At {
             directory: current,
             waived: false,

@@ -33,7 +33,7 @@ use Rattle.refusals.specs.Case.{stickyDenied, hasEntries, isOpened}
 use Rattle.moves.specs.Plan.{moveOf, renameRows, planned}
 use Rattle.rename.specs.Order.{freeSlot, order}
 use Rattle.rename.specs.Job.{renamed, planAfter}
-use Rattle.drafts.specs.Draft.{renameFits, decided, intoGood, moveDraft, renameDraft, draft}
+use Rattle.drafts.specs.Draft.{renameFits, entryStands, intoGood, moveDraft, renameDraft, draft}
 use Rattle.recover.specs.Recover.{pendingRows}
 use Rattle.recover.specs.Job.{recovered}
 use Rattle.outcome.specs.Outcome.{finished}
@@ -81,10 +81,10 @@ pub seen-so : map seen (early ∷ back ∷ late ∷ again ∷ through ∷ [])
     ∷ (false, true, 3 ∷ 3 ∷ 3 ∷ 3 ∷ 3 ∷ 4 ∷ [])
     ∷ (true, true, [])
     ∷ []
-unfolding bench any all first count part put store zeros noZero sameBytes numberAt bytesOf nameIs rowIs shapeOf rowGood rowsGood layoutGood recordAt viewOf plainName isDots nameGood clash entriesOf childDirectories reaches textShared textLinked journalClear bodiesGood consistent recordsNumber checkNumber allows path.slashes path.untilSlash isNamed lookup requestGood step walkFrom walk walksOf entryBytes journalOf journalFormed journalHead journalBytes rowAt headerOf rowPut rowsPut cleared noRow rowCount coversSection covers rowFits applicable applyNumber appliedImage movedBytes holderBytes replacedBytes entriesAfter childrenAfter linksAfter results stickyDenied hasEntries isOpened moveOf renameRows planned freeSlot order renamed planAfter renameFits decided intoGood moveDraft renameDraft draft pendingRows recovered finished
+unfolding bench any all first count part put store zeros noZero sameBytes numberAt bytesOf nameIs rowIs shapeOf rowGood rowsGood layoutGood recordAt viewOf plainName isDots nameGood clash entriesOf childDirectories reaches textShared textLinked journalClear bodiesGood consistent recordsNumber checkNumber allows path.slashes path.untilSlash isNamed lookup requestGood step walkFrom walk walksOf entryBytes journalOf journalFormed journalHead journalBytes rowAt headerOf rowPut rowsPut cleared noRow rowCount coversSection covers rowFits applicable applyNumber appliedImage movedBytes holderBytes replacedBytes entriesAfter childrenAfter linksAfter results stickyDenied hasEntries isOpened moveOf renameRows planned freeSlot order renamed planAfter renameFits entryStands intoGood moveDraft renameDraft draft pendingRows recovered finished
 seen-so = refl
 
 -- the image before, and the finished one
 pub ended-so : at back .image ∷ at through .image ∷ [] ≡ bench ∷ finishedImage bench dirty owner /a/f /b/g ∷ []
-unfolding bench any all first count part put store zeros noZero sameBytes numberAt bytesOf nameIs rowIs shapeOf rowGood rowsGood layoutGood recordAt viewOf plainName isDots nameGood clash entriesOf childDirectories reaches textShared textLinked journalClear bodiesGood consistent recordsNumber checkNumber allows path.slashes path.untilSlash isNamed lookup requestGood step walkFrom walk walksOf entryBytes journalOf journalFormed journalHead journalBytes rowAt headerOf rowPut rowsPut cleared noRow rowCount coversSection covers rowFits applicable applyNumber appliedImage movedBytes holderBytes replacedBytes entriesAfter childrenAfter linksAfter results stickyDenied hasEntries isOpened moveOf renameRows planned freeSlot order renamed planAfter renameFits decided intoGood moveDraft renameDraft draft pendingRows recovered finished
+unfolding bench any all first count part put store zeros noZero sameBytes numberAt bytesOf nameIs rowIs shapeOf rowGood rowsGood layoutGood recordAt viewOf plainName isDots nameGood clash entriesOf childDirectories reaches textShared textLinked journalClear bodiesGood consistent recordsNumber checkNumber allows path.slashes path.untilSlash isNamed lookup requestGood step walkFrom walk walksOf entryBytes journalOf journalFormed journalHead journalBytes rowAt headerOf rowPut rowsPut cleared noRow rowCount coversSection covers rowFits applicable applyNumber appliedImage movedBytes holderBytes replacedBytes entriesAfter childrenAfter linksAfter results stickyDenied hasEntries isOpened moveOf renameRows planned freeSlot order renamed planAfter renameFits entryStands intoGood moveDraft renameDraft draft pendingRows recovered finished
 ended-so = refl

@@ -1,6 +1,6 @@
 -- `plan::body` meets its contract. Assumes nothing.
 use native.Mathlib.Omega.{arith}
-use Rattle.plan.specs.Rows.{reads-body}
+use Rattle.plan.specs.RowLaws.{reads-body}
 use borrow.Author.Needs.{needs}
 use Rattle.plan.proofs.body.Statement.{statement}
 use Rattle.plan.proofs.body.Tie as tie

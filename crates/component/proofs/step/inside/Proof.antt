@@ -9,7 +9,7 @@ use Rattle.seq.specs.BytesLaws.{part-length}
 use Rattle.seq.specs.Truth.{fails, holds}
 use Rattle.layout.specs.View.{viewOf}
 use Rattle.paths.specs.Permission.{searchBit, allows}
-use Rattle.component.specs.State.{Ahead, positionOf}
+use Rattle.component.specs.State.{ReadUpTo, positionOf}
 use Rattle.component.specs.Turns.{inside-denied, inside-reads, component-range, behind-range}
 use Rattle.component.proofs.step.inside.Statement.{statement}
 use Rattle.component.proofs.step.inside.Tie as tie
@@ -72,7 +72,7 @@ component-requires c κs =
     let few = slashes .ensures .1 in
     let k = part-length (args .w .path) a (args .w .len - a) (omega (arith, fit .within, fit .short, fit .whole)) in
     let more = c .name-bytes .ensures .1 in
-    let ahead : Ahead (args .w) (a + c .name-bytes .result) = record { within = omega (arith, fit .within); short = fit .short; whole = fit .whole; few = pre .2 } in
+    let ahead : ReadUpTo (args .w) (a + c .name-bytes .result) = record { within = omega (arith, fit .within); short = fit .short; whole = fit .whole; few = pre .2 } in
     (search needs, ahead, omega arith, pre .3)
 
 returns-2 : tie.Need-returns-2

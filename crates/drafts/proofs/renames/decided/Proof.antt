@@ -5,7 +5,7 @@ use borrow.Author.Needs.{needs}
 use Rattle.layout.specs.View.{viewOf}
 use Rattle.layout.specs.Fields.{entryNameLength, entryTarget}
 use Rattle.layout.specs.RecordLaws.{field-of}
-use Rattle.drafts.specs.Draft.{decided}
+use Rattle.drafts.specs.Draft.{entryStands}
 use Rattle.drafts.proofs.renames.decided.Statement.{statement}
 use Rattle.drafts.proofs.renames.decided.Tie as tie
 
@@ -16,7 +16,7 @@ name-length-requires : tie.Need-name-length-requires
 name-length-requires c κs = search needs
 
 returns : tie.Need-returns
-unfolding decided viewOf
+unfolding entryStands viewOf
 returns c =
     let l = field-of entryNameLength (c .before .before .entry .ensures) (c .before .name-length .ensures .0) in
     simp (eq-eqb _ _ (sym l ∙ c .if1 .taken))
@@ -25,7 +25,7 @@ target-requires : tie.Need-target-requires
 target-requires c κs = search needs
 
 returns-2 : tie.Need-returns-2
-unfolding decided viewOf
+unfolding entryStands viewOf
 returns-2 c =
     let asked = c .before in
     let entry = asked .before .before .before .entry .ensures in

@@ -6,7 +6,7 @@ use Rattle.seq.specs.Truth.{fails, holds}
 use Rattle.layout.specs.View.{View, viewOf}
 use Rattle.plan.specs.WriteLaws.{filled-one}
 use Rattle.results.specs.Results.{clearRow}
-use Rattle.drafts.specs.Draft.{renameFits, decided, intoGood, moveDraft, renameDraft}
+use Rattle.drafts.specs.Draft.{renameFits, entryStands, intoGood, moveDraft, renameDraft}
 use Rattle.drafts.specs.Fit.{fits-new, move-new, move-image, rename-move, rename-unfit, move-undone, move-unfit, move-finished}
 use Rattle.drafts.proofs.renames.draft.Statement.{statement}
 use Rattle.drafts.proofs.renames.draft.Tie as tie
@@ -21,7 +21,7 @@ view c = viewOf (start c .args .h) (start c .args .s .now)
 fit : (c : tie.Else1) → renameFits (start c .args .h) (start c .args .s .now) (start c .args .j) ≡ true
 fit c = holds (c .before .fits2 .ensures) (c .if1 .left)
 
-done : (c : tie.Else2) → decided (view (c .before .before .before)) (c .before .before .move-from .result) ≡ true
+done : (c : tie.Else2) → entryStands (view (c .before .before .before)) (c .before .before .move-from .result) ≡ true
 done c = holds (c .before .decided .ensures) (c .if2 .left)
 
 good : (c : tie.Else3) → intoGood (view (c .before .before .before .before .before)) (c .before .before .before .before .move-from .result) ≡ true

@@ -4,8 +4,8 @@ use native.Mathlib.Omega.{arith}
 use lib.ListN.{length}
 use borrow.Author.Needs.{needs}
 use Rattle.seq.specs.Bytes.{put}
-use Rattle.paths.specs.Filled.{twice}
-use Rattle.paths.specs.Filled.{filled}
+use Rattle.paths.specs.WorkingPath.{twice}
+use Rattle.paths.specs.WorkingPath.{workingPath}
 use Rattle.paths.proofs.path.splice.Statement.{statement}
 use Rattle.paths.proofs.path.splice.Tie as tie
 
@@ -22,7 +22,7 @@ copy-requires-2 : tie.Need-copy-requires-2
 copy-requires-2 c κs = search needs
 
 returns : tie.Need-returns
-unfolding filled
+unfolding workingPath
 returns c =
     let args = c .before .before .before .before .before .before .before .before .args in
     let pre = c .before .before .before .before .before .before .before .before .pre in

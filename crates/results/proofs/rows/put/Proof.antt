@@ -4,7 +4,7 @@ use native.Mathlib.Omega.{arith}
 use borrow.Author.Needs.{needs}
 use Rattle.plan.specs.WriteLaws.{row-put}
 use Rattle.results.specs.Results.{textRow}
-use Rattle.results.specs.Rows.{into-le, replaced-le, text-one, text-none, results-filled}
+use Rattle.results.specs.ResultRows.{into-le, replaced-le, text-one, text-none, results-filled}
 use Rattle.results.proofs.rows.put.Statement.{statement}
 use Rattle.results.proofs.rows.put.Tie as tie
 

@@ -3,7 +3,7 @@ use mathlib.Core.Path.{refl}
 use borrow.Author.Needs.{needs}
 use Rattle.plan.specs.WriteLaws.{row-put}
 use Rattle.results.specs.Results.{oldRow}
-use Rattle.results.specs.Rows.{always-filled}
+use Rattle.results.specs.ResultRows.{always-filled}
 use Rattle.results.proofs.rows.put_always.Statement.{statement}
 use Rattle.results.proofs.rows.put_always.Tie as tie
 

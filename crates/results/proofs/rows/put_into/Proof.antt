@@ -1,6 +1,6 @@
 -- `results::rows::put_into` meets its contract. Assumes nothing.
 use borrow.Author.Needs.{needs}
-use Rattle.results.specs.Rows.{into-one, into-none}
+use Rattle.results.specs.ResultRows.{into-one, into-none}
 use Rattle.results.proofs.rows.put_into.Statement.{statement}
 use Rattle.results.proofs.rows.put_into.Tie as tie
 

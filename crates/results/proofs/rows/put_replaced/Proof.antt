@@ -2,7 +2,7 @@
 use borrow.Author.Needs.{needs}
 use Rattle.plan.specs.WriteLaws.{row-put}
 use Rattle.results.specs.Results.{replacedRow}
-use Rattle.results.specs.Rows.{replaced-one, replaced-none}
+use Rattle.results.specs.ResultRows.{replaced-one, replaced-none}
 use Rattle.results.proofs.rows.put_replaced.Statement.{statement}
 use Rattle.results.proofs.rows.put_replaced.Tie as tie
 

@@ -2,7 +2,7 @@
 use mathlib.Core.Path.{sym, _∙_, ap, subst}
 use borrow.Author.Needs.{needs}
 use Rattle.layout.specs.View.{viewOf}
-use Rattle.component.specs.Step.{stepLimit}
+use Rattle.layout.specs.Limits.{stepLimit}
 use Rattle.component.specs.State.{positionOf, Fit}
 use Rattle.component.specs.StateLaws.{begins-at, begins-fit}
 use Rattle.walk.specs.Walk.{walkFrom, begun}

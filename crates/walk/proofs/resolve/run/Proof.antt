@@ -3,7 +3,7 @@ use mathlib.Core.Path.{_≡_, sym, _∙_, refl}
 use native.Mathlib.Omega.{arith}
 use borrow.Author.Needs.{needs}
 use Rattle.layout.specs.View.{viewOf}
-use Rattle.component.specs.Step.{stepLimit}
+use Rattle.layout.specs.Limits.{stepLimit}
 use Rattle.component.specs.State.{positionOf, Fit}
 use Rattle.component.specs.StateLaws.{turned-goes, turned-fit, fit-short}
 use Rattle.walk.specs.Walk.{walkFrom}

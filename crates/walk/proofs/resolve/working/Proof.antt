@@ -3,8 +3,8 @@ use mathlib.Core.Path.{_∙_}
 use native.Mathlib.Omega.{arith}
 use borrow.Author.Needs.{needs}
 use Rattle.seq.specs.BytesLaws.{put-zeros}
-use Rattle.paths.specs.Filled.{filled}
-use Rattle.component.specs.State.{pathBytes}
+use Rattle.paths.specs.WorkingPath.{workingPath}
+use Rattle.layout.specs.Limits.{pathBytes}
 use Rattle.walk.proofs.resolve.working.Statement.{statement}
 use Rattle.walk.proofs.resolve.working.Tie as tie
 
@@ -15,7 +15,7 @@ copy-requires : tie.Need-copy-requires
 copy-requires c κs = search needs
 
 returns : tie.Need-returns
-unfolding filled
+unfolding workingPath
 returns c =
     let args = c .before .before .before .before .args in
     let pre = c .before .before .before .before .pre in

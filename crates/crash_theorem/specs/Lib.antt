@@ -1,0 +1,24 @@
+-- The laws, each file below those that it uses.
+pub mod Pick
+pub mod PickLaws
+pub mod Turn
+pub mod TurnLaws
+pub mod Store
+pub mod Change
+pub mod Events
+pub mod Obligations
+pub mod Settle
+pub mod Opening
+pub mod Invariant
+pub mod Finish
+pub mod Crash
+pub mod Order
+pub mod Form
+pub mod FormLaws
+pub mod Plan
+pub mod Planned
+pub mod Queue
+pub mod Chain
+pub mod Example
+pub mod FormExample
+pub mod QueuePlaces
