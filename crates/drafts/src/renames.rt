@@ -94,7 +94,7 @@ fn move_from(s: &[u8], h: Shape, j: Journal) -> Move
 }
 
 // Whether the new entry has been applied.
-fn entryStands(s: &[u8], h: Shape, m: Move) -> bool
+fn entry_stands(s: &[u8], h: Shape, m: Move) -> bool
     requires { ⌜ Laid h (now s) × (m .new < h .entries) ⌝ }
     ensures { λ r. ⌜ r ≡ entryStands (viewOf h (now (s .entry))) m ⌝ }
 {
@@ -138,7 +138,7 @@ pub fn draft(plan: &mut [u8], s: &[u8], h: Shape, j: Journal) -> Draft
         return Draft::Unfit;
     }
     let m = move_from(s, h, j);
-    if !decided(s, h, m) {
+    if !entry_stands(s, h, m) {
         results::rows::put_clear(plan, 0, s, h);
         return Draft::Rows(1);
     }

@@ -22,7 +22,7 @@ fit : (c : tie.Else1) → renameFits (start c .args .h) (start c .args .s .now) 
 fit c = holds (c .before .fits2 .ensures) (c .if1 .left)
 
 done : (c : tie.Else2) → entryStands (view (c .before .before .before)) (c .before .before .move-from .result) ≡ true
-done c = holds (c .before .decided .ensures) (c .if2 .left)
+done c = holds (c .before .entry-stands .ensures) (c .if2 .left)
 
 good : (c : tie.Else3) → intoGood (view (c .before .before .before .before .before)) (c .before .before .before .before .move-from .result) ≡ true
 good c = holds (c .before .into-good .ensures) (c .if3 .left)
@@ -47,8 +47,8 @@ move-from-requires c κs =
     let args = start c .args in
     (search needs, fits-new (args .h) (args .s .now) (args .j) (fit c))
 
-decided-requires : tie.Need-decided-requires
-decided-requires c κs =
+entry-stands-requires : tie.Need-entry-stands-requires
+entry-stands-requires c κs =
     let args = start (c .before) .args in
     (search needs, move-new (args .h) (args .s .now) (args .j) (fit (c .before)) _ (c .move-from .ensures))
 
@@ -64,7 +64,7 @@ returns-2 c =
     let asked = cleared .before .before in
     let moved = asked .before .before in
     let args = start (moved .before) .args in
-    rw (of-move moved ∙ move-undone (args .h) (args .s .now) _ (fails (asked .before .decided .ensures) (asked .if2 .taken)))
+    rw (of-move moved ∙ move-undone (args .h) (args .s .now) _ (fails (asked .before .entry-stands .ensures) (asked .if2 .taken)))
     (filled-one (args .h) (clearRow (args .h)) (cleared .put-clear .ensures))
 
 into-good-requires : tie.Need-into-good-requires
@@ -102,7 +102,7 @@ draft-spec =
     fits-requires
     returns
     move-from-requires
-    decided-requires
+    entry-stands-requires
     put-clear-requires
     same-length
     returns-2

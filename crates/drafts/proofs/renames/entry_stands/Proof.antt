@@ -1,4 +1,4 @@
--- `drafts::renames::decided` meets its contract. Assumes nothing.
+-- `drafts::renames::entry_stands` meets its contract. Assumes nothing.
 use mathlib.Core.Path.{sym, _∙_}
 use borrow.Author.Tests.{eq-eqb, ne-eqb}
 use borrow.Author.Needs.{needs}
@@ -6,8 +6,8 @@ use Rattle.layout.specs.View.{viewOf}
 use Rattle.layout.specs.Fields.{entryNameLength, entryTarget}
 use Rattle.layout.specs.RecordLaws.{field-of}
 use Rattle.drafts.specs.Draft.{entryStands}
-use Rattle.drafts.proofs.renames.decided.Statement.{statement}
-use Rattle.drafts.proofs.renames.decided.Tie as tie
+use Rattle.drafts.proofs.renames.entry_stands.Statement.{statement}
+use Rattle.drafts.proofs.renames.entry_stands.Tie as tie
 
 entry-requires : tie.Need-entry-requires
 entry-requires c κs = search needs
@@ -33,6 +33,6 @@ returns-2 c =
     let t = field-of entryTarget entry (asked .target .ensures .0) in
     simp (ne-eqb _ _ (λ e. asked .before .if1 .left (l ∙ e)), t)
 
-pub decided-spec : {M : Type 1} → statement M
-decided-spec =
+pub entry-stands-spec : {M : Type 1} → statement M
+entry-stands-spec =
     tie.close (tie.spec entry-requires name-length-requires returns target-requires returns-2)
