@@ -33,7 +33,7 @@ use Rattle.image_store.specs.Owed.{carries}
 use Rattle.image_store.specs.Safe.{planned-first, planned-owed, planned-safe, planned-zero, planned-recovers, planned-refuses, planned-decided, planned-undecided}
 use Rattle.edits.specs.Kinds.{EntryUsed}
 use Rattle.results.specs.declared.Move.{Move}
-use Rattle.moves.specs.Plan.{newEntry, plannedChange as plannedBytes}
+use Rattle.moves.specs.Plan.{newEntry, planned as plannedBytes}
 use Rattle.recover.specs.Recover.{recover}
 use Rattle.recover.specs.Job.{Recovered, recovered}
 use Rattle.recover.specs.JobLaws.{recovered-short, recovered-done}

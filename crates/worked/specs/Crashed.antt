@@ -39,9 +39,8 @@ use Rattle.recover.specs.Job.{recovered}
 use Rattle.outcome.specs.Outcome.{finished}
 use Rattle.demands.specs.Line.{dirty}
 use Rattle.demands.specs.Table.{owner, /a/f, /b/g}
-use Rattle.demands.specs.Crashes.{Event, apply, refused, crash, State, groupOf, entryApplied}
+use Rattle.demands.specs.Crashes.{Event, apply, refused, crash, State, groupOf, step as stepped, begun, entryApplied}
 use Rattle.demands.specs.Demand2.{finishedImage}
-use Rattle.demands.specs.Demand2.{after}
 
 -- a crash, with buffers of these lengths filled with a byte
 abbrev crashed : ℕ → ℕ → ℕ → Event
@@ -67,24 +66,51 @@ again = late ++ apply 3 ∷ apply 0 ∷ crashed 650 624 3 ∷ []
 abbrev pub through : List Event
 through = again ++ apply 4 ∷ apply 2 ∷ apply 0 ∷ apply 0 ∷ apply 0 ∷ apply 0 ∷ []
 
-abbrev at : List Event → State
-at es = after bench dirty owner /a/f /b/g es
-
 -- whether a recovery is done, whether the new entry was applied, and the groups of the rows that wait
-abbrev pub seen : List Event → Bool × Bool × List ℕ
-seen es = (at es .done, entryApplied (at es), map groupOf (at es .waiting))
+abbrev pub Seen : Type 0
+Seen = Bool × Bool × List ℕ
 
-pub seen-so : map seen (early ∷ back ∷ late ∷ again ∷ through ∷ [])
-    ≡ (false, false, [])
+abbrev pub seen : State → Seen
+seen x = (x .done, entryApplied x, map groupOf (x .waiting))
+
+-- what is seen before the first event and after each, and the image in the end: one pass, so that no event is computed twice
+abbrev pub passing : State → List Event → List Seen × List ℕ
+passing x [] = (seen x ∷ [], x .image)
+passing x (e ∷ es) = let rest = passing (stepped x e) es in (seen x ∷ rest .0, rest .1)
+
+abbrev pub passed : List Event → List Seen × List ℕ
+passed es = passing (begun bench (planAfter bench dirty owner /a/f /b/g)) es
+
+-- eight rows wait at first; recovery is refused twice, and then its one row leaves the image before
+pub taken-back : passed back
+    ≡ ((false, false, 1 ∷ 2 ∷ 3 ∷ 3 ∷ 3 ∷ 3 ∷ 3 ∷ 4 ∷ [])
+    ∷ (false, false, 2 ∷ 3 ∷ 3 ∷ 3 ∷ 3 ∷ 3 ∷ 4 ∷ [])
+    ∷ (false, false, 2 ∷ 3 ∷ 3 ∷ 3 ∷ 3 ∷ 3 ∷ 4 ∷ [])
+    ∷ (false, false, [])
+    ∷ (false, false, [])
+    ∷ (false, false, 4 ∷ [])
     ∷ (true, false, [])
-    ∷ (false, true, 3 ∷ 3 ∷ 3 ∷ 3 ∷ 3 ∷ 4 ∷ [])
-    ∷ (false, true, 3 ∷ 3 ∷ 3 ∷ 3 ∷ 3 ∷ 4 ∷ [])
-    ∷ (true, true, [])
-    ∷ []
+    ∷ [], bench)
 unfolding bench any all first count part put store zeros noZero sameBytes numberAt bytesOf nameIs rowIs shapeOf rowGood rowsGood layoutGood recordAt viewOf plainName isDots nameGood clash entriesOf childDirectories reaches textShared textLinked journalClear bodiesGood consistent recordsNumber checkNumber allows path.slashes path.untilSlash isNamed lookup requestGood step walkFrom walk walksOf entryBytes journalOf journalFormed journalHead journalBytes rowAt headerOf rowPut rowsPut cleared noRow rowCount coversSection covers rowFits applicable applyNumber appliedImage movedBytes holderBytes replacedBytes entriesAfter childrenAfter linksAfter results stickyDenied hasEntries isOpened moveOf renameRows planned freeSlot order renamed planAfter renameFits entryStands intoGood moveDraft renameDraft draft pendingRows recovered finished
-seen-so = refl
+taken-back = refl
 
--- the image before, and the finished one
-pub ended-so : at back .image ∷ at through .image ∷ [] ≡ bench ∷ finishedImage bench dirty owner /a/f /b/g ∷ []
+-- once the new entry is applied, recovery has six rows, also the second time; they leave the finished image
+pub carried-through : passed through
+    ≡ ((false, false, 1 ∷ 2 ∷ 3 ∷ 3 ∷ 3 ∷ 3 ∷ 3 ∷ 4 ∷ [])
+    ∷ (false, false, 2 ∷ 3 ∷ 3 ∷ 3 ∷ 3 ∷ 3 ∷ 4 ∷ [])
+    ∷ (false, true, 3 ∷ 3 ∷ 3 ∷ 3 ∷ 3 ∷ 4 ∷ [])
+    ∷ (false, true, 3 ∷ 3 ∷ 3 ∷ 3 ∷ 3 ∷ 4 ∷ [])
+    ∷ (false, true, 3 ∷ 3 ∷ 3 ∷ 3 ∷ 4 ∷ [])
+    ∷ (false, true, 3 ∷ 3 ∷ 3 ∷ 3 ∷ 3 ∷ 4 ∷ [])
+    ∷ (false, true, 3 ∷ 3 ∷ 3 ∷ 3 ∷ 4 ∷ [])
+    ∷ (false, true, 3 ∷ 3 ∷ 3 ∷ 4 ∷ [])
+    ∷ (false, true, 3 ∷ 3 ∷ 3 ∷ 3 ∷ 3 ∷ 4 ∷ [])
+    ∷ (false, true, 3 ∷ 3 ∷ 3 ∷ 3 ∷ 4 ∷ [])
+    ∷ (false, true, 3 ∷ 3 ∷ 3 ∷ 4 ∷ [])
+    ∷ (false, true, 3 ∷ 3 ∷ 4 ∷ [])
+    ∷ (false, true, 3 ∷ 4 ∷ [])
+    ∷ (false, true, 4 ∷ [])
+    ∷ (true, true, [])
+    ∷ [], finishedImage bench dirty owner /a/f /b/g)
 unfolding bench any all first count part put store zeros noZero sameBytes numberAt bytesOf nameIs rowIs shapeOf rowGood rowsGood layoutGood recordAt viewOf plainName isDots nameGood clash entriesOf childDirectories reaches textShared textLinked journalClear bodiesGood consistent recordsNumber checkNumber allows path.slashes path.untilSlash isNamed lookup requestGood step walkFrom walk walksOf entryBytes journalOf journalFormed journalHead journalBytes rowAt headerOf rowPut rowsPut cleared noRow rowCount coversSection covers rowFits applicable applyNumber appliedImage movedBytes holderBytes replacedBytes entriesAfter childrenAfter linksAfter results stickyDenied hasEntries isOpened moveOf renameRows planned freeSlot order renamed planAfter renameFits entryStands intoGood moveDraft renameDraft draft pendingRows recovered finished
-ended-so = refl
+carried-through = refl
