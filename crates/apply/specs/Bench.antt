@@ -8,7 +8,7 @@ use lib.ListN.{replicate}
 use Rattle.seq.specs.Search.{any, all}
 use Rattle.seq.specs.Bytes.{part, put}
 use Rattle.seq.specs.Number.{numberAt, bytesOf}
-use Rattle.layout.specs.Contents.{nameIs, rowIs, shapeOf, rowGood, rowsGood, layoutGood}
+use Rattle.layout.specs.Contents.{nameIs, shapeOf, layoutGood}
 use Rattle.plan.specs.Form.{rowOf, rowAt, headerOf, rowPut}
 use Rattle.plan.specs.Fit.{coversSection, covers, rowFits, applicable}
 use Rattle.apply.specs.Apply.{applyNumber, appliedImage}
@@ -33,9 +33,9 @@ numbers =
     && eqb (applyNumber contents (planOf 1) 2) 201 && eqb (applyNumber contents (planOf 5) 9) 201 && eqb (applyNumber contents contents 9) 205
 
 pub bench-numbers : numbers ≡ true
-unfolding applyNumber applicable rowFits covers coversSection any layoutGood rowsGood rowGood rowIs nameIs shapeOf all numberAt rowAt rowPut headerOf bytesOf put part
+unfolding applyNumber applicable rowFits covers coversSection any layoutGood nameIs shapeOf all numberAt rowAt rowPut headerOf bytesOf put part
 bench-numbers = refl
 
 pub bench-image : appliedImage image (planOf 1) 2 ≡ contents ++ replicate 32 0 ++ replicate 32 7
-unfolding appliedImage applyNumber applicable rowFits covers coversSection any layoutGood rowsGood rowGood rowIs nameIs shapeOf all numberAt rowAt rowPut headerOf bytesOf put part
+unfolding appliedImage applyNumber applicable rowFits covers coversSection any layoutGood nameIs shapeOf all numberAt rowAt rowPut headerOf bytesOf put part
 bench-image = refl

@@ -2,17 +2,13 @@
 use mathlib.Core.Path.{_≡_, refl, sym, _∙_}
 use mathlib.Core.Bool.{Bool, true, false, _&&_, not}
 use mathlib.Core.List.{List, [], _∷_}
-use Prim.Native.Nat.{ℕ, _+_, _*_, _<_}
-use lib.Dec.{leb}
-use lib.ListN.{length}
+use Prim.Native.Nat.{ℕ, _<_}
 use borrow.Author.Tests.{not-true}
-use Rattle.seq.specs.Truth.{and-left, and-right, and-both}
-use Rattle.seq.specs.Search.{all}
+use Rattle.seq.specs.Truth.{and-left, and-right}
+use Rattle.seq.specs.Search.{all, allPass}
 use Rattle.seq.specs.SearchLaws.{any-not, any-false, all-at, all-of}
-use Rattle.seq.specs.Number.{numberAt}
 use Rattle.layout.specs.declared.Shape.{Shape}
-use Rattle.layout.specs.Limits.{contentsBytes}
-use Rattle.layout.specs.Contents.{fewest, rowIs, shapeOf, rowGood, rowsGood, layoutGood}
+use Rattle.layout.specs.Contents.{shapeOf, layoutGood}
 use Rattle.layout.specs.View.{viewOf, isDirectory}
 use Rattle.names.specs.Name.{clash}
 use Rattle.names.specs.NameTests.{hasDuplicate}
@@ -20,10 +16,10 @@ use Rattle.tree.specs.Inode.{inodeGood}
 use Rattle.tree.specs.InodeFacts.{inode-is, is-inode}
 use Rattle.consistency.specs.Entry.{entryGood}
 use Rattle.consistency.specs.Others.{textGood, handleGood}
-use Rattle.consistency.specs.Sound.{journalClear, allPass, sectionNamed, sectionPlaced, sectionCounted, layoutRules, bodiesGood, soundRules}
+use Rattle.consistency.specs.Sound.{journalClear, bodiesGood, soundRules}
 use Rattle.consistency.specs.RecordFacts.{entry-is, is-entry, text-is, is-text, handle-is, is-handle, Bodies}
 use Rattle.consistency.specs.Consistent.{consistent}
-use Rattle.consistency.specs.SoundFacts.{no-more, _&_, is-every, every-at, bodies-is, is-bodies}
+use Rattle.consistency.specs.SoundFacts.{bodies-is, is-bodies}
 
 unfoldable pub bodiesChecked : Shape → List ℕ → Bool
 bodiesChecked h s =
@@ -37,41 +33,10 @@ one-truth true false f g = sym (f refl)
 one-truth false true f g = g refl
 one-truth false false f g = refl
 
--- the layout, section by section and rule by rule
-module _ (s : List ℕ) where
-  layout-is : layoutGood s ≡ true → allPass (layoutRules s) ≡ true
-  unfolding layoutGood rowsGood rowGood rowIs
-  layout-is e =
-      let rows = and-left (all (rowGood s (shapeOf s)) 5) _ (and-right (leb contentsBytes (length s)) _ e) in
-      let row : (k : ℕ) → k < 5 → rowGood s (shapeOf s) k ≡ true = all-at (rowGood s (shapeOf s)) 5 rows in
-      is-every (
-      and-left (leb contentsBytes (length s)) _ e
-      & all-of (sectionNamed s) 5 (λ k l. let r = row k l in search (and-left, and-right))
-      & all-of (sectionPlaced s) 5 (λ k l. let r = row k l in search (and-left, and-right))
-      & and-right (all (rowGood s (shapeOf s)) 5) _ (and-right (leb contentsBytes (length s)) _ e)
-      & all-of (sectionCounted s) 5 (λ k l. let r = row k l in and-both (leb (fewest k) _) _ (search (and-left, and-right)) (search (and-left, and-right)))
-      & no-more
-      )
-
-  is-layout : allPass (layoutRules s) ≡ true → layoutGood s ≡ true
-  unfolding layoutGood rowsGood rowGood rowIs
-  is-layout e =
-      let rule = every-at (layoutRules s) e in
-      rw (
-        rule 0,
-        all-of (rowGood s (shapeOf s)) 5 (λ k l.
-            let c = all-at (sectionCounted s) 5 (rule 4) k l in
-            rw (all-at (sectionNamed s) 5 (rule 1) k l, all-at (sectionPlaced s) 5 (rule 2) k l, and-left (leb (fewest k) (numberAt 2 s (8 * k + 6))) _ c) (and-right (leb (fewest k) _) _ c)),
-        rule 3,
-      )
-
-  pub layout-same : layoutGood s ≡ allPass (layoutRules s)
-  layout-same = one-truth _ _ layout-is is-layout
-
 -- A consistent image is one that every rule passes.
 pub consistent-rules : (s : List ℕ) → consistent s ≡ allPass (soundRules s)
 unfolding consistent
-consistent-rules s = rw (layout-same s) (go (allPass (layoutRules s)) (journalClear (shapeOf s) s) (bodiesGood (shapeOf s) s))
+consistent-rules s = go (layoutGood s) (journalClear (shapeOf s) s) (bodiesGood (shapeOf s) s)
   where
     go : (a b c : Bool) → (a && b && c) ≡ allPass (a ∷ b ∷ c ∷ [])
     go true true true = refl

@@ -1,50 +1,17 @@
--- A consistent image (the papers' word is sound), one test for each rule, in the order of the rules. A reader has to believe this file. Assumes nothing.
-use mathlib.Core.Bool.{Bool, true, _&&_, _||_, not}
+-- A consistent image (the papers' word is sound): one test for each of rules 6 to 40, in the order of the rules; rules 1 to 5, the layout, are in
+-- layout/specs/Contents.antt. A reader has to believe this file. Assumes nothing.
+use mathlib.Core.Bool.{Bool, _&&_, _||_, not}
 use mathlib.Core.List.{List, [], _∷_}
-use Prim.Native.Nat.{ℕ, _+_, _-_, _*_}
+use Prim.Native.Nat.{ℕ, _+_, _-_}
 use lib.Dec.{eqb, ltb, leb}
-use lib.ListN.{length}
-use Rattle.seq.specs.Truth.{implies}
-use Rattle.seq.specs.Search.{any, all}
+use Rattle.seq.specs.Search.{implies, allPass, any, all}
 use Rattle.seq.specs.Bytes.{zeros, noZero}
-use Rattle.seq.specs.Number.{numberAt}
-use Rattle.layout.specs.Limits.{journalSize, inodeSize, textSize, handleSize, nameOffset, modeLimit, contentsBytes, linkLimit, textRoom}
+use Rattle.layout.specs.Limits.{journalSize, inodeSize, textSize, handleSize, nameOffset, modeLimit, linkLimit, textRoom}
 use Rattle.layout.specs.declared.Shape.{Shape}
-use Rattle.layout.specs.Place.{base, imageBytes}
-use Rattle.layout.specs.Contents.{sectionName, fewest, most, nameIs, shapeOf}
+use Rattle.layout.specs.Contents.{shapeOf, layoutGood}
 use Rattle.layout.specs.View.{View, viewOf, inodeAt, entryAt, textAt, handleAt, journalAt, nameRoom, isKind, isDirectory, isUsed, entryUsed, textUsed}
 use Rattle.names.specs.Name.{plainName, isDots, clash}
 use Rattle.tree.specs.Tree.{entriesOf, childDirectories, reaches, textShared, hasText}
-
--- all of a list of tests pass
-abbrev pub allPass : List Bool → Bool
-allPass [] = true
-allPass (b ∷ bs) = b && allPass bs
-
--- ---- the layout
-
-module _ (s : List ℕ) where
-  -- rule 1
-  abbrev pub contentsThere : Bool
-  contentsThere = leb contentsBytes (length s)
-
-  -- rules 2 and 3, of section k: by the counts as they stand
-  abbrev pub sectionNamed : ℕ → Bool
-  sectionNamed k = nameIs s (8 * k) (sectionName (shapeOf s .width) k)
-
-  abbrev pub sectionPlaced : ℕ → Bool
-  sectionPlaced k = eqb (numberAt 2 s (8 * k + 4)) (base (shapeOf s) k)
-
-  -- rule 4
-  abbrev pub imageEnds : Bool
-  imageEnds = eqb (length s) (imageBytes (shapeOf s))
-
-  -- rule 5, of section k
-  abbrev pub sectionCounted : ℕ → Bool
-  sectionCounted k = leb (fewest k) (numberAt 2 s (8 * k + 6)) && leb (numberAt 2 s (8 * k + 6)) (most (shapeOf s .width) k)
-
-  abbrev pub layoutRules : List Bool
-  layoutRules = contentsThere ∷ all sectionNamed 5 ∷ all sectionPlaced 5 ∷ imageEnds ∷ all sectionCounted 5 ∷ []
 
 -- ---- the records
 
@@ -227,4 +194,4 @@ module _ (h : Shape) (s : List ℕ) where
 
 -- rules 1 to 40: a consistent image (rule 14 ahead of the other records, as check asks)
 abbrev pub soundRules : List ℕ → List Bool
-soundRules s = allPass (layoutRules s) ∷ journalClear (shapeOf s) s ∷ bodiesGood (shapeOf s) s ∷ []
+soundRules s = layoutGood s ∷ journalClear (shapeOf s) s ∷ bodiesGood (shapeOf s) s ∷ []

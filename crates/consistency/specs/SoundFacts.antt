@@ -2,7 +2,7 @@
 use mathlib.Core.Path.{_≡_, refl, sym, ap, _∙_}
 use mathlib.Core.Logic.{_⊎_, inl, inr, ⊎-elim}
 use mathlib.Core.Bool.{Bool, true, false, _&&_, _||_, not, and-false}
-use mathlib.Core.List.{List, [], _∷_}
+use mathlib.Core.List.{List}
 use Prim.Native.Nat.{ℕ, zero, suc, _+_, _-_, _≤_, _<_}
 use native.Mathlib.Nat.{zero-add}
 use native.Mathlib.Decide.{ℕ-discrete}
@@ -10,6 +10,7 @@ use native.Mathlib.Omega.{arith}
 use lib.Dec.{eqb, ltb, leb}
 use lib.ListN.{getD}
 use borrow.Author.Tests.{eqb-true, eqb-false, eq-eqb, ne-eqb, ltb-true, lt-ltb, leb-true, le-leb, not-true, not-false}
+use Rattle.seq.specs.AllPass.{no-more, _&_, is-every, every-at}
 use Rattle.seq.specs.Truth.{refuted, implies-at, implies-of, and-left, and-right, and-both, or-left, or-right, not-both}
 use Rattle.seq.specs.Search.{any}
 use Rattle.seq.specs.SearchLaws.{any-not, any-false, all-none, all-at, all-of}
@@ -22,27 +23,11 @@ use Rattle.names.specs.NameTests.{nameGood}
 use Rattle.tree.specs.Tree.{reaches, textShared}
 use Rattle.tree.specs.TreeLaws.{reaches-goal}
 use Rattle.tree.specs.InodeFacts.{Leaf, File, Directory, Symlink, Inode}
-use Rattle.consistency.specs.Sound.{allPass, free, file, directory, symlink, leaf, known, opened, typeKnown, stateKnown, fileField, rootField, entryZeros, textShort, textZeros, handleZeros, inodeFree, entryFree, textFree, handleClosed, modeSmall, targetBelowRoot, parentDirectory, targetUsed, nameShort, namePlain, nameNoDots, nameOnce, oneEntry, fieldParent, leadsToRoot, directoryCount, leafCount, leafLinked, linksWithin, systemShared, hasTextInUse, symlinkText, textOwn, textPlain, textHeld, handleNames, bodyRules, bodiesGood}
+use Rattle.consistency.specs.Sound.{free, file, directory, symlink, leaf, known, opened, typeKnown, stateKnown, fileField, rootField, entryZeros, textShort, textZeros, handleZeros, inodeFree, entryFree, textFree, handleClosed, modeSmall, targetBelowRoot, parentDirectory, targetUsed, nameShort, namePlain, nameNoDots, nameOnce, oneEntry, fieldParent, leadsToRoot, directoryCount, leafCount, leafLinked, linksWithin, systemShared, hasTextInUse, symlinkText, textOwn, textPlain, textHeld, handleNames, bodyRules, bodiesGood}
 use Rattle.layout.specs.Limits.{textRoom}
 use Rattle.consistency.specs.RecordFacts.{Used, Entry, Text, Open, Handle, Bodies}
 
 -- ---- lists of tests
-
--- each of them passes
-infixr 5 _&_
-pub data Every : List Bool → Type 0 where
-  no-more : Every []
-  _&_ : {b : Bool} {bs : List Bool} → b ≡ true → Every bs → Every (b ∷ bs)
-
-pub is-every : {bs : List Bool} → Every bs → allPass bs ≡ true
-is-every no-more = refl
-is-every (_&_ {b} {bs} e t) = and-both b (allPass bs) e (is-every t)
-
--- the one at a place
-pub every-at : (bs : List Bool) → allPass bs ≡ true → (k : ℕ) → getD bs k true ≡ true
-every-at [] e k = refl
-every-at (b ∷ bs) e zero = and-left b (allPass bs) e
-every-at (b ∷ bs) e (suc k) = every-at bs (and-right b (allPass bs) e) k
 
 or-is : (a b : Bool) → (a || b) ≡ true → (a ≡ true) ⊎ (b ≡ true)
 or-is true b e = inl refl

@@ -4,7 +4,7 @@ use mathlib.Core.List.{map}
 use Rattle.seq.specs.Search.{any, all, first, count}
 use Rattle.seq.specs.Bytes.{part, put, zeros, noZero, sameBytes}
 use Rattle.seq.specs.Number.{numberAt, bytesOf}
-use Rattle.layout.specs.Contents.{nameIs, rowIs, shapeOf, rowGood, rowsGood, layoutGood}
+use Rattle.layout.specs.Contents.{nameIs, shapeOf, layoutGood}
 use Rattle.layout.specs.Record.{recordAt}
 use Rattle.layout.specs.View.{viewOf}
 use Rattle.layout.specs.Bench.{bench}
@@ -34,5 +34,5 @@ use Rattle.demands.specs.Line.{below, applyRows, outcome}
 use Rattle.demands.specs.Table.{table}
 
 pub bench-table : map (λ l. outcome (l .asked)) table ≡ map (λ l. l .expected) table
-unfolding bench any all first count part put zeros noZero sameBytes numberAt bytesOf nameIs rowIs shapeOf rowGood rowsGood layoutGood recordAt viewOf plainName isDots nameGood clash entriesOf childDirectories reaches textShared textLinked journalClear bodiesGood recordsNumber checkNumber allows path.slashes path.untilSlash isNamed lookup requestGood step walkFrom walk walksOf entryBytes journalHead journalBytes rowAt headerOf rowPut rowsPut cleared coversSection covers rowFits applicable applyNumber appliedImage movedBytes holderBytes replacedBytes entriesAfter childrenAfter linksAfter results stickyDenied hasEntries isOpened moveOf renameRows planned freeSlot order renamed planAfter below applyRows outcome table
+unfolding bench any all first count part put zeros noZero sameBytes numberAt bytesOf nameIs shapeOf layoutGood recordAt viewOf plainName isDots nameGood clash entriesOf childDirectories reaches textShared textLinked journalClear bodiesGood recordsNumber checkNumber allows path.slashes path.untilSlash isNamed lookup requestGood step walkFrom walk walksOf entryBytes journalHead journalBytes rowAt headerOf rowPut rowsPut cleared coversSection covers rowFits applicable applyNumber appliedImage movedBytes holderBytes replacedBytes entriesAfter childrenAfter linksAfter results stickyDenied hasEntries isOpened moveOf renameRows planned freeSlot order renamed planAfter below applyRows outcome table
 bench-table = refl

@@ -5,7 +5,7 @@ use mathlib.Core.List.{List, [], _∷_, _++_}
 use mathlib.Core.Option.{Option, none, some}
 use Prim.Native.Nat.{ℕ, zero, suc}
 use lib.Dec.{eqb, ltb}
-use Rattle.seq.specs.Truth.{implies}
+use Rattle.seq.specs.Search.{implies}
 use Rattle.layout.specs.declared.Shape.{Shape}
 use Rattle.layout.specs.View.{View, viewOf, journalAt, entryUsed, isDirectory}
 use Rattle.encode.specs.declared.journal.Journal.{Journal}

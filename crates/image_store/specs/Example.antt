@@ -16,7 +16,7 @@ use Rattle.seq.specs.Number.{numberAt, bytesOf}
 use Rattle.layout.specs.declared.Shape.{Shape}
 use Rattle.layout.specs.Place.{Key, recordBytes}
 use Rattle.layout.specs.PlaceLaws.{Valid}
-use Rattle.layout.specs.Contents.{nameIs, rowIs, shapeOf, rowGood, rowsGood, layoutGood}
+use Rattle.layout.specs.Contents.{nameIs, shapeOf, layoutGood}
 use Rattle.layout.specs.ContentsLaws.{Read}
 use Rattle.layout.specs.Record.{recordAt, store}
 use Rattle.plan.specs.Form.{planRows, planBytes, rowAt, headerOf, rowPut, rowsPut, cleared, noRow, rowCount}
@@ -56,7 +56,7 @@ abbrev pub image : List ℕ
 image = imageOf 0 0 0
 
 image-read : Read image shape
-unfolding layoutGood rowsGood rowGood rowIs nameIs shapeOf all numberAt
+unfolding layoutGood nameIs shapeOf all numberAt
 image-read = read-of shape image refl refl
 
 -- ---- the call: the journal record is set, the entry decides, the inode follows, the journal record is cleared
@@ -241,5 +241,5 @@ pub crashes : map seen (refused ∷ early ∷ late ∷ during ∷ again ∷ [])
     ∷ (false, true, 650 ∷ 650 ∷ [], imageOf 7 5 1)
     ∷ (true, true, [], imageOf 7 5 0)
     ∷ []
-unfolding recordOf isValid recordAt part put zeros planOf rowsPut rowPut headerOf rowAt cleared rowCount noRow first bytesOf numberAt appliedImage applyNumber applicable rowFits covers coversSection any all layoutGood rowsGood rowGood rowIs nameIs shapeOf
+unfolding recordOf isValid recordAt part put zeros planOf rowsPut rowPut headerOf rowAt cleared rowCount noRow first bytesOf numberAt appliedImage applyNumber applicable rowFits covers coversSection any all layoutGood nameIs shapeOf
 crashes = refl

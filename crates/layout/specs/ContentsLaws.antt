@@ -1,5 +1,5 @@
 -- Laws of the table of contents: the ways out of reading it, and what a good layout gives to a reader of records. Assumes nothing.
-use mathlib.Core.Path.{_≡_, refl, sym, subst}
+use mathlib.Core.Path.{_≡_, refl, sym, subst, _∙_}
 use mathlib.Core.Bool.{Bool, true, false, _&&_, and-false}
 use mathlib.Core.List.{List}
 use Prim.Native.Nat.{ℕ, _+_, _*_, _≤_, _<_}
@@ -8,16 +8,17 @@ use lib.ListN.{length, getD}
 use native.Mathlib.Nat.{mul-le-mul-right}
 use native.Mathlib.Omega.{arith}
 use borrow.Author.Tests.{leb-true, eqb-true, eq-eqb, ne-eqb, le-leb, lt-leb}
-use Rattle.seq.specs.Truth.{and-left, and-right}
+use Rattle.seq.specs.Truth.{and-left, and-right, and-both, same-truth}
 use Rattle.seq.specs.Search.{all}
-use Rattle.seq.specs.SearchLaws.{all-at, all-not}
+use Rattle.seq.specs.SearchLaws.{all-at, all-not, all-of}
 use Rattle.seq.specs.Number.{numberAt, span}
-use Rattle.seq.specs.Letters.{A}
 use Rattle.layout.specs.declared.Shape.{Shape}
 use Rattle.layout.specs.Limits.{entrySize, inodeLimit, entryLimit, textLimit, handleLimit, contentsBytes}
 use Rattle.layout.specs.declared.contents.Contents.the-variants.{Bad, Good}
 use Rattle.layout.specs.Place.{imageBytes}
-use Rattle.layout.specs.Contents.{contentsOf, fewest, layoutGood, most, nameIs, pickContents, rowGood, rowIs, rowsGood, shapeOf, widthOf}
+use Rattle.layout.specs.Contents.{fewest, layoutGood, most, nameIs, shapeOf, widthOf, sectionNamed, sectionPlaced, sectionCounted, layoutRules}
+use Rattle.layout.specs.ContentsRead.{contentsOf, pickContents, rowGood, rowIs, rowsGood, layoutRead}
+use Rattle.seq.specs.AllPass.{no-more, _&_, is-every, every-at}
 
 -- the ways out of comparing a name: three bytes agree, and the fourth decides
 pub name-last : (s : List ℕ) (at : ℕ) (name : List ℕ) → getD s at 0 ≡ getD name 0 0 → getD s (at + 1) 0 ≡ getD name 1 0 → getD s (at + 2) 0 ≡ getD name 2 0
@@ -46,16 +47,16 @@ module _ (s : List ℕ) (at : ℕ) (name : List ℕ) (offset least limit : ℕ) 
 
 -- the ways out of reading the table of contents
 pub contents-short : (s : List ℕ) → length s < contentsBytes → contentsOf s ≡ Bad
-unfolding contentsOf layoutGood
+unfolding contentsOf layoutRead
 contents-short s l = rw (lt-leb _ _ l)
 
 module _ (s : List ℕ) (h : Shape) (long : contentsBytes ≤ length s) (shape : h ≡ shapeOf s) where
   pub contents-right : rowsGood s h ≡ true → contentsOf s ≡ Good h
-  unfolding contentsOf layoutGood
+  unfolding contentsOf layoutRead
   contents-right e = rw (le-leb _ _ long, ← shape, e)
 
   pub contents-wrong : rowsGood s h ≡ false → contentsOf s ≡ Bad
-  unfolding contentsOf layoutGood
+  unfolding contentsOf layoutRead
   contents-wrong e = rw (le-leb _ _ long, ← shape, e)
 
 -- the shape, field by field
@@ -88,20 +89,51 @@ module _ (s : List ℕ) (h : Shape) where
   unfolding rowsGood all
   rows-end a b c d e = rw (a, b, c, d, e)
 
+-- what the code reads is the rules, section by section
+module _ (s : List ℕ) where
+  read-good : layoutRead s ≡ true → layoutGood s ≡ true
+  unfolding layoutGood layoutRead rowsGood rowGood rowIs
+  read-good e =
+      let rows = and-left (all (rowGood s (shapeOf s)) 5) _ (and-right (leb contentsBytes (length s)) _ e) in
+      let row : (k : ℕ) → k < 5 → rowGood s (shapeOf s) k ≡ true = all-at (rowGood s (shapeOf s)) 5 rows in
+      is-every (
+      and-left (leb contentsBytes (length s)) _ e
+      & all-of (sectionNamed s) 5 (λ k l. let r = row k l in search (and-left, and-right))
+      & all-of (sectionPlaced s) 5 (λ k l. let r = row k l in search (and-left, and-right))
+      & and-right (all (rowGood s (shapeOf s)) 5) _ (and-right (leb contentsBytes (length s)) _ e)
+      & all-of (sectionCounted s) 5 (λ k l. let r = row k l in and-both (leb (fewest k) _) _ (search (and-left, and-right)) (search (and-left, and-right)))
+      & no-more
+      )
+
+  good-read : layoutGood s ≡ true → layoutRead s ≡ true
+  unfolding layoutGood layoutRead rowsGood rowGood rowIs
+  good-read e =
+      let rule = every-at (layoutRules s) e in
+      rw (
+        rule 0,
+        all-of (rowGood s (shapeOf s)) 5 (λ k l.
+            let c = all-at (sectionCounted s) 5 (rule 4) k l in
+            rw (all-at (sectionNamed s) 5 (rule 1) k l, all-at (sectionPlaced s) 5 (rule 2) k l, and-left (leb (fewest k) (numberAt 2 s (8 * k + 6))) _ c) (and-right (leb (fewest k) _) _ c)),
+        rule 3,
+      )
+
+  pub layout-read : layoutRead s ≡ layoutGood s
+  layout-read = same-truth _ _ read-good good-read
+
 -- the parts of a good layout
 module _ (s : List ℕ) (good : layoutGood s ≡ true) where
-  rows : all (rowGood s (shapeOf s)) 5 ≡ true
-  unfolding layoutGood rowsGood
-  rows = search (and-left, and-right)
+  rule : (k : ℕ) → getD (layoutRules s) k true ≡ true
+  unfolding layoutGood
+  rule = every-at (layoutRules s) good
 
   count-within : (k : ℕ) → k < 5 → (fewest k ≤ numberAt 2 s (8 * k + 6)) × (numberAt 2 s (8 * k + 6) ≤ most (widthOf s) k)
-  unfolding rowGood rowIs shapeOf
+  unfolding shapeOf
   count-within k l =
-      let row = all-at (rowGood s (shapeOf s)) 5 rows k l in
-      (leb-true _ _ (search (and-left, and-right)), leb-true _ _ (search (and-left, and-right)))
+      let c = all-at (sectionCounted s) 5 (rule 4) k l in
+      (leb-true _ _ (and-left (leb (fewest k) (numberAt 2 s (8 * k + 6))) _ c), leb-true _ _ (and-right (leb (fewest k) (numberAt 2 s (8 * k + 6))) _ c))
 
   pub good-laid : Laid (shapeOf s) s
-  unfolding layoutGood rowsGood shapeOf
+  unfolding shapeOf
   good-laid = record {
     inodes-least = count-within 0 (lit< tt) .0;
     inodes-most = count-within 0 (lit< tt) .1;
@@ -111,7 +143,7 @@ module _ (s : List ℕ) (good : layoutGood s ≡ true) where
     width-least = lit≤ tt;
     width-most = lit≤ tt;
     small = omega (arith, count-within 0 (lit< tt) .1, count-within 1 (lit< tt) .1, count-within 2 (lit< tt) .1, count-within 3 (lit< tt) .1);
-    long = eqb-true _ _ (search (and-left, and-right));
+    long = eqb-true _ _ (rule 3);
   }
 
 -- a count of two bytes, of any image
@@ -134,17 +166,18 @@ pub record Read (s : List ℕ) (h : Shape) : Type 0 where
 
 pub contents-good : (s : List ℕ) (h : Shape) → contentsOf s ≡ Good h → Read s h
 unfolding contentsOf
-contents-good s h e = go (layoutGood s) refl e
+contents-good s h e = go (layoutRead s) refl e
   where
-    go : (b : Bool) → layoutGood s ≡ b → pickContents b (shapeOf s) ≡ Good h → Read s h
+    go : (b : Bool) → layoutRead s ≡ b → pickContents b (shapeOf s) ≡ Good h → Read s h
     go true g q =
         let z : h ≡ shapeOf s = cc in
-        record { good = g; shape = z; laid = subst (λ (x : Shape). Laid x s) (sym z) (good-laid s g) }
+        let good = sym (layout-read s) ∙ g in
+        record { good = good; shape = z; laid = subst (λ (x : Shape). Laid x s) (sym z) (good-laid s good) }
     go false g q = let z : _≡_ {A = ℕ} 0 1 = cc in absurd (omega arith)
 
 pub contents-bad : (s : List ℕ) → contentsOf s ≡ Bad → layoutGood s ≡ false
 unfolding contentsOf
-contents-bad s e = go (layoutGood s) e
+contents-bad s e = sym (layout-read s) ∙ go (layoutRead s) e
   where
     go : (b : Bool) → pickContents b (shapeOf s) ≡ Bad → b ≡ false
     go true q = cc

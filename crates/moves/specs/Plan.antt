@@ -1,4 +1,5 @@
--- The rows of a rename that is not refused: the journal record, the new entry, the results, the journal record cleared (rules 85 to 87). Assumes nothing.
+-- The rows of a rename that is not refused: the journal record, the new entry, the results, the journal record cleared (rules 85 to 87). A reader has to
+-- believe this file. Assumes nothing.
 use mathlib.Core.Bool.{_&&_, cond}
 use mathlib.Core.List.{List, [], _∷_, _++_}
 use Prim.Native.Nat.{ℕ}

@@ -1,4 +1,4 @@
--- A path and its components (rule 44). Assumes nothing.
+-- A path and its components (rule 44). A reader has to believe this file. Assumes nothing.
 use mathlib.Core.Bool.{Bool, not}
 use mathlib.Core.List.{List, [], _∷_}
 use Prim.Native.Nat.{ℕ}

@@ -1,4 +1,4 @@
--- Permission: the class that a caller falls in, and its bits (rule 43). Assumes nothing.
+-- Permission: the class that a caller falls in, and its bits (rule 43). A reader has to believe this file. Assumes nothing.
 use mathlib.Core.Bool.{Bool, _||_, cond}
 use Prim.Native.Nat.{ℕ, _*_, _/_, _%_}
 use lib.Dec.{eqb}

@@ -1,4 +1,4 @@
--- The form of a plan (rules 79 to 83): nine rows, each a header and a body, in 648 bytes. Assumes nothing.
+-- The form of a plan (rules 79 to 83): nine rows, each a header and a body, in 648 bytes. A reader has to believe this file. Assumes nothing.
 use mathlib.Core.Bool.{Bool}
 use mathlib.Core.List.{List, [], _∷_, _++_}
 use Prim.Native.Nat.{ℕ, _+_, _*_}

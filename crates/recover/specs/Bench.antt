@@ -7,7 +7,7 @@ use Rattle.seq.specs.Search.{any, all, first, count}
 use Rattle.seq.specs.Bytes.{part, put, zeros, noZero, sameBytes}
 use Rattle.seq.specs.Number.{numberAt, bytesOf}
 use Rattle.layout.specs.declared.Shape.{Shape}
-use Rattle.layout.specs.Contents.{nameIs, rowIs, shapeOf, rowGood, rowsGood, layoutGood}
+use Rattle.layout.specs.Contents.{nameIs, shapeOf, layoutGood}
 use Rattle.layout.specs.Record.{recordAt, store}
 use Rattle.layout.specs.View.{viewOf, entryAt}
 use Rattle.layout.specs.Bench.{bench}
@@ -75,13 +75,13 @@ pub bench-recovered : map (λ x. told (asked x)) inputs ≡
     (0 ∷ 0 ∷ 0 ∷ []) ∷ (0 ∷ 1 ∷ 1 ∷ []) ∷ (0 ∷ 6 ∷ 6 ∷ []) ∷ (0 ∷ 6 ∷ 6 ∷ [])
     ∷ (204 ∷ 0 ∷ 0 ∷ []) ∷ (204 ∷ 0 ∷ 0 ∷ []) ∷ (204 ∷ 0 ∷ 0 ∷ []) ∷ (204 ∷ 0 ∷ 0 ∷ []) ∷ (204 ∷ 0 ∷ 0 ∷ []) ∷ (204 ∷ 0 ∷ 0 ∷ []) ∷ (201 ∷ 0 ∷ 0 ∷ [])
     ∷ []
-unfolding bench any all first count part put store zeros sameBytes numberAt bytesOf nameIs rowIs shapeOf rowGood rowsGood layoutGood recordAt viewOf plainName isDots nameGood clash entriesOf childDirectories reaches textShared noZero textLinked journalClear bodiesGood consistent movedBytes holderBytes replacedBytes entriesAfter childrenAfter linksAfter results journalOf journalFormed journalHead journalBytes renameFits entryStands intoGood moveDraft renameDraft draft pendingRows recovered headerOf rowPut rowsPut cleared noRow rowCount
+unfolding bench any all first count part put store zeros sameBytes numberAt bytesOf nameIs shapeOf layoutGood recordAt viewOf plainName isDots nameGood clash entriesOf childDirectories reaches textShared noZero textLinked journalClear bodiesGood consistent movedBytes holderBytes replacedBytes entriesAfter childrenAfter linksAfter results journalOf journalFormed journalHead journalBytes renameFits entryStands intoGood moveDraft renameDraft draft pendingRows recovered headerOf rowPut rowsPut cleared noRow rowCount
 bench-recovered = refl
 
 -- the outcome in scratch, zeros where the image cannot be recovered, and the byte past the image as it was
 pub bench-scratch : map (λ x. asked x .scratch) (bench ∷ begun ∷ going ∷ set going 592 2 ∷ []) ≡
     map (λ x. x ++ 7 ∷ []) (bench ∷ bench ∷ storeAll h bench (entryRow ∷ results h bench m) ∷ replicate 624 0 ∷ [])
-unfolding bench any all first count part put store zeros sameBytes numberAt bytesOf nameIs rowIs shapeOf rowGood rowsGood layoutGood recordAt viewOf plainName isDots nameGood clash entriesOf childDirectories reaches textShared noZero textLinked journalClear bodiesGood consistent movedBytes holderBytes replacedBytes entriesAfter childrenAfter linksAfter results journalOf journalFormed journalHead journalBytes renameFits entryStands intoGood moveDraft renameDraft draft pendingRows recovered headerOf rowPut rowsPut cleared noRow rowCount
+unfolding bench any all first count part put store zeros sameBytes numberAt bytesOf nameIs shapeOf layoutGood recordAt viewOf plainName isDots nameGood clash entriesOf childDirectories reaches textShared noZero textLinked journalClear bodiesGood consistent movedBytes holderBytes replacedBytes entriesAfter childrenAfter linksAfter results journalOf journalFormed journalHead journalBytes renameFits entryStands intoGood moveDraft renameDraft draft pendingRows recovered headerOf rowPut rowsPut cleared noRow rowCount
 bench-scratch = refl
 
 -- buffers that are too short

@@ -1,4 +1,5 @@
--- Steps 1 to 13 of the order of refusal (rules 65 to 77): a list of tests and answers, of which the first that holds decides. Assumes nothing.
+-- Steps 1 to 13 of the order of refusal (rules 65 to 77): a list of tests and answers, of which the first that holds decides. A reader has to believe this
+-- file. Assumes nothing.
 use mathlib.Core.Bool.{Bool, cond}
 use mathlib.Core.List.{List, [], _∷_, _++_}
 use Prim.Native.Nat.{ℕ}

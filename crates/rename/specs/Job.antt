@@ -1,4 +1,5 @@
--- The job rename as definitions: its number, its rows, both walk counts, and the whole plan buffer after it, for any bytes (rules 63 and 78). Assumes nothing.
+-- The job rename as definitions: its number, its rows, both walk counts, and the whole plan buffer after it, for any bytes (rules 63 and 78). A reader has to
+-- believe this file. Assumes nothing.
 use mathlib.Core.List.{List}
 use Prim.Native.Nat.{ℕ}
 use lib.ListN.{length}

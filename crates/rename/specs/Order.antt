@@ -1,4 +1,5 @@
--- The whole order of refusal of a rename, for any bytes: buffer, layout, journal record, bodies, request, old's walk, new's walk, steps 1 to 13 (rules 63 and 64). Assumes nothing.
+-- The whole order of refusal of a rename, for any bytes: buffer, layout, journal record, bodies, request, old's walk, new's walk, steps 1 to 13 (rules 63 and
+-- 64). A reader has to believe this file. Assumes nothing.
 use mathlib.Core.Bool.{Bool, false, not}
 use mathlib.Core.List.{List, [], _∷_, _++_}
 use Prim.Native.Nat.{ℕ}

@@ -1,4 +1,4 @@
--- Bytes by the letters that they stand for. Assumes nothing.
+-- Bytes by the letters that they stand for. A reader has to believe this file. Assumes nothing.
 use Prim.Native.Nat.{ℕ}
 
 abbrev pub A : ℕ

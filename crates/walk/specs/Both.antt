@@ -1,4 +1,4 @@
--- Both walks of a request: old's whole walk, then new's (rules 41 to 61). Assumes nothing.
+-- Both walks of a request: old's whole walk, then new's (rules 41 to 61). A reader has to believe this file. Assumes nothing.
 use mathlib.Core.Bool.{cond}
 use mathlib.Core.List.{List}
 use Prim.Native.Nat.{ℕ}

@@ -1,4 +1,5 @@
--- The walk of a whole path: where it begins, and component after component to its end (rules 41 and 46 to 49). Assumes nothing.
+-- The walk of a whole path: where it begins, and component after component to its end (rules 41 and 46 to 49). A reader has to believe this file. Assumes
+-- nothing.
 use mathlib.Core.Bool.{Bool, false, _&&_, _||_, cond}
 use mathlib.Core.List.{List}
 use Prim.Native.Nat.{ℕ, zero, suc}

@@ -7,7 +7,7 @@ use lib.ListN.{replicate}
 use Rattle.seq.specs.Search.{any, all, first, count}
 use Rattle.seq.specs.Bytes.{part, put, zeros, noZero, sameBytes}
 use Rattle.seq.specs.Number.{numberAt, bytesOf}
-use Rattle.layout.specs.Contents.{nameIs, rowIs, shapeOf, rowGood, rowsGood, layoutGood}
+use Rattle.layout.specs.Contents.{nameIs, shapeOf, layoutGood}
 use Rattle.layout.specs.Record.{recordAt, store}
 use Rattle.layout.specs.View.{viewOf}
 use Rattle.layout.specs.Bench.{bench}
@@ -83,34 +83,40 @@ passed es = passing (begun bench (planAfter bench dirty owner /a/f /b/g)) es
 
 -- eight rows wait at first; recovery is refused twice, and then its one row leaves the image before
 pub taken-back : passed back
-    ≡ ((false, false, 1 ∷ 2 ∷ 3 ∷ 3 ∷ 3 ∷ 3 ∷ 3 ∷ 4 ∷ [])
-    ∷ (false, false, 2 ∷ 3 ∷ 3 ∷ 3 ∷ 3 ∷ 3 ∷ 4 ∷ [])
-    ∷ (false, false, 2 ∷ 3 ∷ 3 ∷ 3 ∷ 3 ∷ 3 ∷ 4 ∷ [])
-    ∷ (false, false, [])
-    ∷ (false, false, [])
-    ∷ (false, false, 4 ∷ [])
-    ∷ (true, false, [])
-    ∷ [], bench)
-unfolding bench any all first count part put store zeros noZero sameBytes numberAt bytesOf nameIs rowIs shapeOf rowGood rowsGood layoutGood recordAt viewOf plainName isDots nameGood clash entriesOf childDirectories reaches textShared textLinked journalClear bodiesGood consistent recordsNumber checkNumber allows path.slashes path.untilSlash isNamed lookup requestGood step walkFrom walk walksOf entryBytes journalOf journalFormed journalHead journalBytes rowAt headerOf rowPut rowsPut cleared noRow rowCount coversSection covers rowFits applicable applyNumber appliedImage movedBytes holderBytes replacedBytes entriesAfter childrenAfter linksAfter results stickyDenied hasEntries isOpened moveOf renameRows planned freeSlot order renamed planAfter renameFits entryStands intoGood moveDraft renameDraft draft pendingRows recovered finished
+    ≡ (
+      (false, false, 1 ∷ 2 ∷ 3 ∷ 3 ∷ 3 ∷ 3 ∷ 3 ∷ 4 ∷ [])
+          ∷ (false, false, 2 ∷ 3 ∷ 3 ∷ 3 ∷ 3 ∷ 3 ∷ 4 ∷ [])
+          ∷ (false, false, 2 ∷ 3 ∷ 3 ∷ 3 ∷ 3 ∷ 3 ∷ 4 ∷ [])
+          ∷ (false, false, [])
+          ∷ (false, false, [])
+          ∷ (false, false, 4 ∷ [])
+          ∷ (true, false, [])
+          ∷ [],
+      bench,
+    )
+unfolding bench any all first count part put store zeros noZero sameBytes numberAt bytesOf nameIs shapeOf layoutGood recordAt viewOf plainName isDots nameGood clash entriesOf childDirectories reaches textShared textLinked journalClear bodiesGood consistent recordsNumber checkNumber allows path.slashes path.untilSlash isNamed lookup requestGood step walkFrom walk walksOf entryBytes journalOf journalFormed journalHead journalBytes rowAt headerOf rowPut rowsPut cleared noRow rowCount coversSection covers rowFits applicable applyNumber appliedImage movedBytes holderBytes replacedBytes entriesAfter childrenAfter linksAfter results stickyDenied hasEntries isOpened moveOf renameRows planned freeSlot order renamed planAfter renameFits entryStands intoGood moveDraft renameDraft draft pendingRows recovered finished
 taken-back = refl
 
 -- once the new entry is applied, recovery has six rows, also the second time; they leave the finished image
 pub carried-through : passed through
-    ≡ ((false, false, 1 ∷ 2 ∷ 3 ∷ 3 ∷ 3 ∷ 3 ∷ 3 ∷ 4 ∷ [])
-    ∷ (false, false, 2 ∷ 3 ∷ 3 ∷ 3 ∷ 3 ∷ 3 ∷ 4 ∷ [])
-    ∷ (false, true, 3 ∷ 3 ∷ 3 ∷ 3 ∷ 3 ∷ 4 ∷ [])
-    ∷ (false, true, 3 ∷ 3 ∷ 3 ∷ 3 ∷ 3 ∷ 4 ∷ [])
-    ∷ (false, true, 3 ∷ 3 ∷ 3 ∷ 3 ∷ 4 ∷ [])
-    ∷ (false, true, 3 ∷ 3 ∷ 3 ∷ 3 ∷ 3 ∷ 4 ∷ [])
-    ∷ (false, true, 3 ∷ 3 ∷ 3 ∷ 3 ∷ 4 ∷ [])
-    ∷ (false, true, 3 ∷ 3 ∷ 3 ∷ 4 ∷ [])
-    ∷ (false, true, 3 ∷ 3 ∷ 3 ∷ 3 ∷ 3 ∷ 4 ∷ [])
-    ∷ (false, true, 3 ∷ 3 ∷ 3 ∷ 3 ∷ 4 ∷ [])
-    ∷ (false, true, 3 ∷ 3 ∷ 3 ∷ 4 ∷ [])
-    ∷ (false, true, 3 ∷ 3 ∷ 4 ∷ [])
-    ∷ (false, true, 3 ∷ 4 ∷ [])
-    ∷ (false, true, 4 ∷ [])
-    ∷ (true, true, [])
-    ∷ [], finishedImage bench dirty owner /a/f /b/g)
-unfolding bench any all first count part put store zeros noZero sameBytes numberAt bytesOf nameIs rowIs shapeOf rowGood rowsGood layoutGood recordAt viewOf plainName isDots nameGood clash entriesOf childDirectories reaches textShared textLinked journalClear bodiesGood consistent recordsNumber checkNumber allows path.slashes path.untilSlash isNamed lookup requestGood step walkFrom walk walksOf entryBytes journalOf journalFormed journalHead journalBytes rowAt headerOf rowPut rowsPut cleared noRow rowCount coversSection covers rowFits applicable applyNumber appliedImage movedBytes holderBytes replacedBytes entriesAfter childrenAfter linksAfter results stickyDenied hasEntries isOpened moveOf renameRows planned freeSlot order renamed planAfter renameFits entryStands intoGood moveDraft renameDraft draft pendingRows recovered finished
+    ≡ (
+      (false, false, 1 ∷ 2 ∷ 3 ∷ 3 ∷ 3 ∷ 3 ∷ 3 ∷ 4 ∷ [])
+          ∷ (false, false, 2 ∷ 3 ∷ 3 ∷ 3 ∷ 3 ∷ 3 ∷ 4 ∷ [])
+          ∷ (false, true, 3 ∷ 3 ∷ 3 ∷ 3 ∷ 3 ∷ 4 ∷ [])
+          ∷ (false, true, 3 ∷ 3 ∷ 3 ∷ 3 ∷ 3 ∷ 4 ∷ [])
+          ∷ (false, true, 3 ∷ 3 ∷ 3 ∷ 3 ∷ 4 ∷ [])
+          ∷ (false, true, 3 ∷ 3 ∷ 3 ∷ 3 ∷ 3 ∷ 4 ∷ [])
+          ∷ (false, true, 3 ∷ 3 ∷ 3 ∷ 3 ∷ 4 ∷ [])
+          ∷ (false, true, 3 ∷ 3 ∷ 3 ∷ 4 ∷ [])
+          ∷ (false, true, 3 ∷ 3 ∷ 3 ∷ 3 ∷ 3 ∷ 4 ∷ [])
+          ∷ (false, true, 3 ∷ 3 ∷ 3 ∷ 3 ∷ 4 ∷ [])
+          ∷ (false, true, 3 ∷ 3 ∷ 3 ∷ 4 ∷ [])
+          ∷ (false, true, 3 ∷ 3 ∷ 4 ∷ [])
+          ∷ (false, true, 3 ∷ 4 ∷ [])
+          ∷ (false, true, 4 ∷ [])
+          ∷ (true, true, [])
+          ∷ [],
+      finishedImage bench dirty owner /a/f /b/g,
+    )
+unfolding bench any all first count part put store zeros noZero sameBytes numberAt bytesOf nameIs shapeOf layoutGood recordAt viewOf plainName isDots nameGood clash entriesOf childDirectories reaches textShared textLinked journalClear bodiesGood consistent recordsNumber checkNumber allows path.slashes path.untilSlash isNamed lookup requestGood step walkFrom walk walksOf entryBytes journalOf journalFormed journalHead journalBytes rowAt headerOf rowPut rowsPut cleared noRow rowCount coversSection covers rowFits applicable applyNumber appliedImage movedBytes holderBytes replacedBytes entriesAfter childrenAfter linksAfter results stickyDenied hasEntries isOpened moveOf renameRows planned freeSlot order renamed planAfter renameFits entryStands intoGood moveDraft renameDraft draft pendingRows recovered finished
 carried-through = refl
