@@ -95,12 +95,12 @@ module _ (h : Shape) (s : List ℕ) where
   abbrev pub handleClosed : ℕ → Bool
   handleClosed n = implies (eqb (v .state n) 0) (zeros (handleAt h s n) 0 handleSize)
 
-  -- rules 19 and 20
+  -- rules 19 and 20; of a root of an unknown type rule 6 alone is told
   abbrev pub modeSmall : ℕ → Bool
   modeSmall i = implies (known v i) (ltb (v .mode i) modeLimit)
 
   abbrev pub rootDirectory : Bool
-  rootDirectory = isDirectory v 0
+  rootDirectory = implies (not (ltb 0 (v .inodes) && ltb 3 (v .kind 0))) (isDirectory v 0)
 
   -- rules 21 to 26, of an entry
   abbrev pub targetBelowRoot : ℕ → Bool
@@ -115,15 +115,19 @@ module _ (h : Shape) (s : List ℕ) where
   abbrev pub nameShort : ℕ → Bool
   nameShort j = implies (entryUsed v j) (leb (v .nameLength j) (nameRoom h))
 
+  -- of a name that is longer than its room rules 25 to 27 ask nothing
+  abbrev pub nameRead : ℕ → Bool
+  nameRead j = entryUsed v j && leb (v .nameLength j) (nameRoom h)
+
   abbrev pub namePlain : ℕ → Bool
-  namePlain j = implies (entryUsed v j) (plainName (v .name j))
+  namePlain j = implies (nameRead j) (plainName (v .name j))
 
   abbrev pub nameNoDots : ℕ → Bool
-  nameNoDots j = implies (entryUsed v j) (not (isDots (v .name j)))
+  nameNoDots j = implies (nameRead j) (not (isDots (v .name j)))
 
   -- rule 27: no entry before it has its parent and its name
   abbrev pub nameOnce : ℕ → Bool
-  nameOnce j = implies (entryUsed v j) (not (any (λ i. clash v i j) j))
+  nameOnce j = implies (nameRead j) (not (any (λ i. nameRead i && clash v i j) j))
 
   -- rule 28, of a directory; rule 29, of its entry; rule 30
   abbrev pub oneEntry : ℕ → Bool
@@ -165,9 +169,9 @@ module _ (h : Shape) (s : List ℕ) where
   abbrev pub textOwn : ℕ → Bool
   textOwn i = implies (symlink v i && hasTextInUse i) (not (textShared v i))
 
-  -- rules 38 and 39, of a text; rule 40, of a handle
+  -- rules 38 and 39, of a text; rule 40, of a handle. Of a text that is longer than its room rule 38 asks nothing
   abbrev pub textPlain : ℕ → Bool
-  textPlain t = implies (textUsed v t) (noZero (v .text t))
+  textPlain t = implies (textUsed v t && textShort t) (noZero (v .text t))
 
   abbrev pub textHeld : ℕ → Bool
   textHeld t = implies (textUsed v t) (textLinked v t)

@@ -9,10 +9,10 @@ use native.Mathlib.Decide.{ℕ-discrete}
 use native.Mathlib.Omega.{arith}
 use lib.Dec.{eqb, ltb, leb}
 use lib.ListN.{getD}
-use borrow.Author.Tests.{eqb-true, eqb-false, eq-eqb, ne-eqb, ltb-true, lt-ltb, leb-true, le-leb, not-true, not-false}
+use borrow.Author.Tests.{le-ltb, eqb-true, eqb-false, eq-eqb, ne-eqb, ltb-true, lt-ltb, leb-true, le-leb, not-true, not-false}
 use Rattle.seq.specs.AllPass.{no-more, _&_, is-every, every-at}
 use Rattle.seq.specs.Truth.{refuted, implies-at, implies-of, and-left, and-right, and-both, or-left, or-right, not-both}
-use Rattle.seq.specs.Search.{any}
+use Rattle.seq.specs.Search.{any, all}
 use Rattle.seq.specs.SearchLaws.{any-not, any-false, all-none, all-at, all-of}
 use Rattle.seq.specs.Bytes.{zeros, noZero, part}
 use Rattle.layout.specs.declared.Shape.{Shape}
@@ -23,7 +23,7 @@ use Rattle.names.specs.NameTests.{nameGood}
 use Rattle.tree.specs.Tree.{reaches, textShared}
 use Rattle.tree.specs.TreeLaws.{reaches-goal}
 use Rattle.tree.specs.InodeFacts.{Leaf, File, Directory, Symlink, Inode}
-use Rattle.consistency.specs.Sound.{free, file, directory, symlink, leaf, known, opened, typeKnown, stateKnown, fileField, rootField, entryZeros, textShort, textZeros, handleZeros, inodeFree, entryFree, textFree, handleClosed, modeSmall, targetBelowRoot, parentDirectory, targetUsed, nameShort, namePlain, nameNoDots, nameOnce, oneEntry, fieldParent, leadsToRoot, directoryCount, leafCount, leafLinked, linksWithin, systemShared, hasTextInUse, symlinkText, textOwn, textPlain, textHeld, handleNames, bodyRules, bodiesGood}
+use Rattle.consistency.specs.Sound.{free, file, directory, symlink, leaf, known, opened, typeKnown, stateKnown, fileField, rootField, entryZeros, textShort, textZeros, handleZeros, inodeFree, entryFree, textFree, handleClosed, modeSmall, targetBelowRoot, parentDirectory, targetUsed, nameShort, nameRead, namePlain, nameNoDots, nameOnce, oneEntry, fieldParent, leadsToRoot, directoryCount, leafCount, leafLinked, linksWithin, systemShared, hasTextInUse, symlinkText, textOwn, textPlain, textHeld, handleNames, bodyRules, bodiesGood}
 use Rattle.layout.specs.Limits.{textRoom}
 use Rattle.consistency.specs.RecordFacts.{Used, Entry, Text, Open, Handle, Bodies}
 
@@ -132,11 +132,12 @@ module _ (h : Shape) (s : List ℕ) where
         let root = eqb-false _ _ (not-true _ (implies-at (entryUsed v j) (not (eqb (v .target j) 0)) below u)) in
         let p = implies-at (entryUsed v j) (isDirectory v (v .parent j)) parent u in
         let t = implies-at (entryUsed v j) (isUsed v (v .target j)) target u in
+        let fits = and-both (entryUsed v j) _ u (implies-at (entryUsed v j) (leb (v .nameLength j) (nameRoom h)) short u) in
         record {
           short = leb-true _ _ (implies-at (entryUsed v j) _ short u);
           padded = and-left (zeros (entryAt h s j) 5 3) _ zs;
           filled = and-right (zeros (entryAt h s j) 5 3) _ zs;
-          name = and-both (plainName (v .name j)) _ (implies-at (entryUsed v j) _ plain u) (implies-at (entryUsed v j) _ dots u);
+          name = and-both (plainName (v .name j)) _ (implies-at (nameRead h s j) _ plain fits) (implies-at (nameRead h s j) _ dots fits);
           linked = record {
             parent = p;
             target = t;
@@ -167,7 +168,7 @@ module _ (h : Shape) (s : List ℕ) where
     bytes-of = go (textUsed v t) refl
       where
         go : (b : Bool) → textUsed v t ≡ b → noZero (v .text t) ≡ true
-        go true u = implies-at (textUsed v t) _ plain u
+        go true u = implies-at (textUsed v t && textShort h s t) _ plain (and-both (textUsed v t) _ u short)
         go false u = let z : v .textLength t ≡ 0 = eqb-true _ _ (not-false _ u) in rw z (all-none _)
 
     text-of : Text h s t
@@ -196,29 +197,44 @@ module _ (h : Shape) (s : List ℕ) where
               };
         }
 
+  -- a root that exists is of a known type
+  root-known : all (typeKnown h s) (h .inodes) ≡ true → not (ltb 0 (v .inodes) && ltb 3 (v .kind 0)) ≡ true
+  unfolding viewOf
+  root-known types = go (ltb 0 (h .inodes)) refl
+    where
+      go : (b : Bool) → ltb 0 (h .inodes) ≡ b → not (b && ltb 3 (v .kind 0)) ≡ true
+      go true e = rw (le-ltb 3 (v .kind 0) (leb-true _ _ (all-at _ _ types 0 (ltb-true _ _ e))))
+      go false e = refl
+
   -- all records
   pub bodies-is : bodiesGood h s ≡ true → Bodies h s
   unfolding bodiesGood clash
   bodies-is e =
       let rule = every-at (bodyRules h s) e in
       record {
-        root = rule 13;
+        root = implies-at (not (ltb 0 (v .inodes) && ltb 3 (v .kind 0))) (isDirectory v 0) (rule 13) (root-known (rule 0));
         inode = λ i l. inode-of i (all-at _ _ (rule 0) i l) (all-at _ _ (rule 2) i l) (rule 3) (all-at _ _ (rule 8) i l) (all-at _ _ (rule 12) i l) (all-at _ _ (rule 21) i l) (all-at _ _ (rule 23) i l)
             (all-at _ _ (rule 24) i l) (all-at _ _ (rule 25) i l) (all-at _ _ (rule 26) i l) (all-at _ _ (rule 27) i l) (all-at _ _ (rule 29) i l) (all-at _ _ (rule 30) i l);
         entry = λ j l. entry-of j (λ i m. leb-true _ _ (all-at _ _ (rule 0) i m)) (all-at _ _ (rule 4) j l) (all-at _ _ (rule 9) j l) (all-at _ _ (rule 14) j l) (all-at _ _ (rule 15) j l)
             (all-at _ _ (rule 16) j l) (all-at _ _ (rule 17) j l) (all-at _ _ (rule 18) j l) (all-at _ _ (rule 19) j l) (all-at _ _ (rule 22) j l) (all-at _ _ (rule 28) j l);
-        distinct = λ i j l m. once i j l (all-at _ _ (rule 20) j m);
+        distinct = λ i j l m. once i j l (all-at _ _ (rule 17) i (omega arith)) (all-at _ _ (rule 17) j m) (all-at _ _ (rule 20) j m);
         text = λ t l. text-of t (all-at _ _ (rule 5) t l) (all-at _ _ (rule 6) t l) (all-at _ _ (rule 10) t l) (all-at _ _ (rule 31) t l) (all-at _ _ (rule 32) t l);
         handle = λ n l. handle-of n (all-at _ _ (rule 1) n l) (all-at _ _ (rule 7) n l) (all-at _ _ (rule 11) n l) (all-at _ _ (rule 33) n l);
       }
     where
-      -- an entry that is not in use clashes with none
-      once : (i j : ℕ) → i < j → nameOnce h s j ≡ true → clash v i j ≡ false
-      once i j l r = go (entryUsed v j) refl
+      -- an entry that is not in use clashes with none, and the names of the others fit
+      once : (i j : ℕ) → i < j → nameShort h s i ≡ true → nameShort h s j ≡ true → nameOnce h s j ≡ true → clash v i j ≡ false
+      once i j l short-i short-j r = go (entryUsed v i) (entryUsed v j) refl refl
         where
-          go : (b : Bool) → entryUsed v j ≡ b → clash v i j ≡ false
-          go true u = any-not (λ k. clash v k j) j (not-true _ (implies-at (entryUsed v j) (not (any (λ k. clash v k j) j)) r u)) i l
-          go false u = rw (u, and-false (entryUsed v i))
+          fits : (k : ℕ) → nameShort h s k ≡ true → entryUsed v k ≡ true → nameRead h s k ≡ true
+          fits k short u = and-both (entryUsed v k) _ u (implies-at (entryUsed v k) (leb (v .nameLength k) (nameRoom h)) short u)
+
+          go : (a b : Bool) → entryUsed v i ≡ a → entryUsed v j ≡ b → clash v i j ≡ false
+          go true true ui uj =
+              let none = not-true _ (implies-at (nameRead h s j) (not (any (λ k. nameRead h s k && clash v k j) j)) r (fits j short-j uj)) in
+              rw (fits i short-i ui) at (any-not (λ k. nameRead h s k && clash v k j) j none i l)
+          go true false ui uj = rw (uj, and-false (entryUsed v i))
+          go false b ui uj = rw ui
 
   -- ---- from the facts to the rules
 
@@ -246,6 +262,14 @@ module _ (h : Shape) (s : List ℕ) where
 
     used : (j : ℕ) → j < h .entries → entryUsed v j ≡ true → Used h s j
     used j l u = f .entry j l .used u
+
+    -- a name that is read is one of an entry in use
+    named : (j : ℕ) → j < h .entries → nameRead h s j ≡ true → nameGood (v .name j) ≡ true
+    named j l r = used j l (and-left (entryUsed v j) _ r) .name
+
+    once-has : (j : ℕ) → j < h .entries → nameOnce h s j ≡ true
+    once-has j l = implies-of (nameRead h s j) (not (any (λ i. nameRead h s i && clash v i j) j)) (λ _.
+        rw (any-false (λ i. nameRead h s i && clash v i j) j (λ i m. rw (f .distinct i j m l, and-false (nameRead h s i)))))
 
     up-has : (j : ℕ) → j < h .entries → fieldParent h s j ≡ true
     up-has j l = implies-of (entryUsed v j && isDirectory v (v .target j) && not (eqb (v .target j) 0)) _ (λ g.
@@ -290,14 +314,14 @@ module _ (h : Shape) (s : List ℕ) where
         & all-of _ _ text-free
         & all-of _ _ (λ n l. implies-of (eqb (v .state n) 0) _ (λ e. f .handle n l .closed (eqb-true _ _ e)))
         & all-of _ _ (λ i l. implies-of (known v i) _ (λ k. known-has _ i l k (λ a. lt-ltb _ _ (a .mode)) (λ d. lt-ltb _ _ (d .mode))))
-        & f .root
+        & implies-of (not (ltb 0 (v .inodes) && ltb 3 (v .kind 0))) (isDirectory v 0) (λ _. f .root)
         & all-of _ _ (λ j l. implies-of (entryUsed v j) (not (eqb (v .target j) 0)) (λ u. rw (ne-eqb _ _ (used j l u .linked .below-root))))
         & all-of _ _ (λ j l. implies-of (entryUsed v j) _ (λ u. used j l u .linked .parent))
         & all-of _ _ (λ j l. implies-of (entryUsed v j) _ (λ u. used j l u .linked .target))
         & all-of _ _ (λ j l. implies-of (entryUsed v j) _ (λ u. le-leb _ _ (used j l u .short)))
-        & all-of _ _ (λ j l. implies-of (entryUsed v j) _ (λ u. and-left (plainName (v .name j)) _ (used j l u .name)))
-        & all-of _ _ (λ j l. implies-of (entryUsed v j) _ (λ u. and-right (plainName (v .name j)) _ (used j l u .name)))
-        & all-of _ _ (λ j l. implies-of (entryUsed v j) (not (any (λ i. clash v i j) j)) (λ u. rw (any-false (λ i. clash v i j) j (λ i m. f .distinct i j m l))))
+        & all-of _ _ (λ j l. implies-of (nameRead h s j) _ (λ r. and-left (plainName (v .name j)) _ (named j l r)))
+        & all-of _ _ (λ j l. implies-of (nameRead h s j) _ (λ r. and-right (plainName (v .name j)) _ (named j l r)))
+        & all-of _ _ once-has
         & all-of _ _ (λ i l. implies-of (directory v i && not (eqb i 0)) _ (λ g.
         eq-eqb _ _ (f .inode i l .directory (eqb-true _ _ (and-left (directory v i) _ g)) .one-entry (eqb-false _ _ (not-true _ (and-right (directory v i) _ g))))))
         & all-of _ _ up-has
@@ -311,7 +335,7 @@ module _ (h : Shape) (s : List ℕ) where
         let k = f .inode i l .symlink (eqb-true _ _ e) in
         and-both (ltb (v .field i) (v .texts)) _ (lt-ltb _ _ (k .text)) (k .used)))
         & all-of _ _ (λ i l. implies-of (symlink v i && hasTextInUse h s i) (not (textShared v i)) (λ g. rw (f .inode i l .symlink (eqb-true _ _ (and-left (symlink v i) _ g)) .own)))
-        & all-of _ _ (λ t l. implies-of (textUsed v t) _ (λ _. f .text t l .bytes))
+        & all-of _ _ (λ t l. implies-of (textUsed v t && textShort h s t) _ (λ _. f .text t l .bytes))
         & all-of _ _ (λ t l. implies-of (textUsed v t) _ (λ u. f .text t l .linked u))
         & all-of _ _ (λ n l. implies-of (opened v n) _ (λ o. open-has n l o .used))
         & no-more)

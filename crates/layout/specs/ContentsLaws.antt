@@ -8,15 +8,15 @@ use lib.ListN.{length, getD}
 use native.Mathlib.Nat.{mul-le-mul-right}
 use native.Mathlib.Omega.{arith}
 use borrow.Author.Tests.{leb-true, eqb-true, eq-eqb, ne-eqb, le-leb, lt-leb}
-use Rattle.seq.specs.Truth.{and-left, and-right, and-both, same-truth}
+use Rattle.seq.specs.Truth.{and-left, and-right, and-both, same-truth, implies-at, implies-of}
 use Rattle.seq.specs.Search.{all}
 use Rattle.seq.specs.SearchLaws.{all-at, all-not, all-of}
 use Rattle.seq.specs.Number.{numberAt, span}
 use Rattle.layout.specs.declared.Shape.{Shape}
-use Rattle.layout.specs.Limits.{entrySize, inodeLimit, entryLimit, textLimit, handleLimit, contentsBytes}
+use Rattle.layout.specs.Limits.{entrySize, inodeLimit, entryLimit, textLimit, handleLimit, contentsBytes, journalSize}
 use Rattle.layout.specs.declared.contents.Contents.the-variants.{Bad, Good}
-use Rattle.layout.specs.Place.{imageBytes}
-use Rattle.layout.specs.Contents.{fewest, layoutGood, most, nameIs, shapeOf, widthOf, sectionNamed, sectionPlaced, sectionCounted, layoutRules}
+use Rattle.layout.specs.Place.{imageBytes, base}
+use Rattle.layout.specs.Contents.{fewest, layoutGood, most, nameIs, shapeOf, widthOf, sectionNamed, sectionPlaced, sectionCounted, layoutRules, countIn, contentsThere, offsetIn, sectionName}
 use Rattle.layout.specs.ContentsRead.{contentsOf, pickContents, rowGood, rowIs, rowsGood, layoutRead}
 use Rattle.seq.specs.AllPass.{no-more, _&_, is-every, every-at}
 
@@ -91,46 +91,69 @@ module _ (s : List ℕ) (h : Shape) where
 
 -- what the code reads is the rules, section by section
 module _ (s : List ℕ) where
+  abbrev counts : ℕ → Bool
+  counts k = leb (fewest k) (countIn s k) && leb (countIn s k) (most (shapeOf s .width) k)
+
+  -- the one journal record
+  one-journal : (n : ℕ) → leb 1 n ≡ true → leb n 1 ≡ true → n ≡ 1
+  one-journal n a b = let l : 1 ≤ n = leb-true 1 n a in let m : n ≤ 1 = leb-true n 1 b in omega arith
+
   read-good : layoutRead s ≡ true → layoutGood s ≡ true
   unfolding layoutGood layoutRead rowsGood rowGood rowIs
   read-good e =
+      let there = and-left (leb contentsBytes (length s)) _ e in
       let rows = and-left (all (rowGood s (shapeOf s)) 5) _ (and-right (leb contentsBytes (length s)) _ e) in
       let row : (k : ℕ) → k < 5 → rowGood s (shapeOf s) k ≡ true = all-at (rowGood s (shapeOf s)) 5 rows in
+      let last = row 4 (lit< tt) in
+      let one : countIn s 4 ≡ 1 = one-journal (countIn s 4) (search (and-left, and-right)) (search (and-left, and-right)) in
       is-every (
-      and-left (leb contentsBytes (length s)) _ e
-      & all-of (sectionNamed s) 5 (λ k l. let r = row k l in search (and-left, and-right))
-      & all-of (sectionPlaced s) 5 (λ k l. let r = row k l in search (and-left, and-right))
-      & and-right (all (rowGood s (shapeOf s)) 5) _ (and-right (leb contentsBytes (length s)) _ e)
-      & all-of (sectionCounted s) 5 (λ k l. let r = row k l in and-both (leb (fewest k) _) _ (search (and-left, and-right)) (search (and-left, and-right)))
+      there
+      & all-of (sectionNamed s) 5 (λ k l. implies-of (contentsThere s) (nameIs s (8 * k) (sectionName (shapeOf s .width) k)) (λ _. let r = row k l in search (and-left, and-right)))
+      & all-of (sectionPlaced s) 5 (λ k l. implies-of (contentsThere s) (eqb (offsetIn s k) (base (shapeOf s) k)) (λ _. let r = row k l in search (and-left, and-right)))
+      & implies-of (contentsThere s) (eqb (length s) (base (shapeOf s) 4 + journalSize * countIn s 4)) (λ _. rw one (and-right (all (rowGood s (shapeOf s)) 5) _ (and-right (leb contentsBytes (length s)) _ e)))
+      & all-of (sectionCounted s) 5 (λ k l. implies-of (contentsThere s) (counts k) (λ _.
+      let r = row k l in and-both (leb (fewest k) (countIn s k)) _ (search (and-left, and-right)) (search (and-left, and-right))))
       & no-more
       )
 
-  good-read : layoutGood s ≡ true → layoutRead s ≡ true
-  unfolding layoutGood layoutRead rowsGood rowGood rowIs
-  good-read e =
-      let rule = every-at (layoutRules s) e in
-      rw (
-        rule 0,
-        all-of (rowGood s (shapeOf s)) 5 (λ k l.
-            let c = all-at (sectionCounted s) 5 (rule 4) k l in
-            rw (all-at (sectionNamed s) 5 (rule 1) k l, all-at (sectionPlaced s) 5 (rule 2) k l, and-left (leb (fewest k) (numberAt 2 s (8 * k + 6))) _ c) (and-right (leb (fewest k) _) _ c)),
-        rule 3,
-      )
+  -- ---- from the rules
+
+  module _ (e : layoutGood s ≡ true) where
+    rule : (k : ℕ) → getD (layoutRules s) k true ≡ true
+    unfolding layoutGood
+    rule = every-at (layoutRules s) e
+
+    counted : (k : ℕ) → k < 5 → counts k ≡ true
+    counted k l = implies-at (contentsThere s) (counts k) (all-at (sectionCounted s) 5 (rule 4) k l) (rule 0)
+
+    pub one-record : countIn s 4 ≡ 1
+    one-record = one-journal (countIn s 4) (and-left (leb 1 (countIn s 4)) _ (counted 4 (lit< tt))) (and-right (leb 1 (countIn s 4)) _ (counted 4 (lit< tt)))
+
+    pub ends : eqb (length s) (imageBytes (shapeOf s)) ≡ true
+    ends = rw one-record at (implies-at (contentsThere s) (eqb (length s) (base (shapeOf s) 4 + journalSize * countIn s 4)) (rule 3) (rule 0))
+
+    good-read : layoutRead s ≡ true
+    unfolding layoutRead rowsGood rowGood rowIs
+    good-read =
+        rw (
+          rule 0,
+          all-of (rowGood s (shapeOf s)) 5 (λ k l.
+              let named = implies-at (contentsThere s) (nameIs s (8 * k) (sectionName (shapeOf s .width) k)) (all-at (sectionNamed s) 5 (rule 1) k l) (rule 0) in
+              let at = implies-at (contentsThere s) (eqb (offsetIn s k) (base (shapeOf s) k)) (all-at (sectionPlaced s) 5 (rule 2) k l) (rule 0) in
+              rw (named, at, and-left (leb (fewest k) (countIn s k)) _ (counted k l)) (and-right (leb (fewest k) (countIn s k)) _ (counted k l))),
+          ends,
+        )
 
   pub layout-read : layoutRead s ≡ layoutGood s
   layout-read = same-truth _ _ read-good good-read
 
 -- the parts of a good layout
 module _ (s : List ℕ) (good : layoutGood s ≡ true) where
-  rule : (k : ℕ) → getD (layoutRules s) k true ≡ true
-  unfolding layoutGood
-  rule = every-at (layoutRules s) good
-
-  count-within : (k : ℕ) → k < 5 → (fewest k ≤ numberAt 2 s (8 * k + 6)) × (numberAt 2 s (8 * k + 6) ≤ most (widthOf s) k)
+  count-within : (k : ℕ) → k < 5 → (fewest k ≤ countIn s k) × (countIn s k ≤ most (widthOf s) k)
   unfolding shapeOf
   count-within k l =
-      let c = all-at (sectionCounted s) 5 (rule 4) k l in
-      (leb-true _ _ (and-left (leb (fewest k) (numberAt 2 s (8 * k + 6))) _ c), leb-true _ _ (and-right (leb (fewest k) (numberAt 2 s (8 * k + 6))) _ c))
+      let c = counted s good k l in
+      (leb-true _ _ (and-left (leb (fewest k) (countIn s k)) _ c), leb-true _ _ (and-right (leb (fewest k) (countIn s k)) _ c))
 
   pub good-laid : Laid (shapeOf s) s
   unfolding shapeOf
@@ -143,7 +166,7 @@ module _ (s : List ℕ) (good : layoutGood s ≡ true) where
     width-least = lit≤ tt;
     width-most = lit≤ tt;
     small = omega (arith, count-within 0 (lit< tt) .1, count-within 1 (lit< tt) .1, count-within 2 (lit< tt) .1, count-within 3 (lit< tt) .1);
-    long = eqb-true _ _ (rule 3);
+    long = eqb-true _ _ (ends s good);
   }
 
 -- a count of two bytes, of any image
