@@ -1,4 +1,4 @@
--- The events that can befall a change, and the state that each leaves. A reader has to believe this file. Assumes nothing.
+-- The events that can befall a change, and the state that each leaves. Assumes nothing.
 use mathlib.Core.Bool.{Bool, true, false, _||_}
 use mathlib.Core.List.{List, [], _∷_}
 use mathlib.Core.Option.{Option, none, some}

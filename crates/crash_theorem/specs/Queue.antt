@@ -1,5 +1,4 @@
--- A queue of calls, each planned on the image that the one before leaves, and the events that can befall it. A reader has to believe this
--- file. Assumes nothing.
+-- A queue of calls, each planned on the image that the one before leaves, and the events that can befall it. Assumes nothing.
 use mathlib.Core.Path.{_≡_}
 use mathlib.Core.Bool.{Bool, true, false}
 use mathlib.Core.List.{List, [], _∷_}

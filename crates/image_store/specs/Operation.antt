@@ -1,5 +1,4 @@
--- An operation on bytes: its rows as the jobs of one plan, its recovery as a job, and where it stands after events. A reader has to believe
--- this file. Assumes nothing.
+-- An operation on bytes: its rows as the jobs of one plan, its recovery as a job, and where it stands after events. Assumes nothing.
 use mathlib.Core.List.{List, _∷_, _++_}
 use Prim.Native.Nat.{ℕ, _+_}
 use lib.ListN.{length}

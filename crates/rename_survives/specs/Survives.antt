@@ -1,5 +1,5 @@
--- A rename and whatever befalls it: one claim over every list of events, in the words of the crash theorem. What a reader has to believe is
--- demand 3, which says it again in the jobs' own. Assumes nothing.
+-- A rename and whatever befalls it: one claim over every list of events, in the words of the crash theorem. What a reader has to believe is demand 3, which
+-- says it again in the jobs' own. Assumes nothing.
 use mathlib.Core.Path.{_≡_, ap, _∙_}
 use mathlib.Core.Logic.{_⊎_, _↔_}
 use mathlib.Core.Bool.{true, false}
