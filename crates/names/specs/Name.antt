@@ -6,18 +6,19 @@ use lib.Dec.{eqb}
 use lib.ListN.{length, getD}
 use Rattle.seq.specs.Search.{all}
 use Rattle.seq.specs.Bytes.{sameBytes}
+use Rattle.seq.specs.Letters.{dot, solidus}
 use Rattle.layout.specs.View.{View, entryUsed}
 
 -- rule 25: no byte of a name is 0 or a slash
 abbrev pub nameByte : ℕ → Bool
-nameByte b = not (eqb b 0) && not (eqb b 47)
+nameByte b = not (eqb b 0) && not (eqb b solidus)
 
 unfoldable pub plainName : List ℕ → Bool
 plainName name = all (λ k. nameByte (getD name k 0)) (length name)
 
 -- rule 26: the names that stand for the directory itself and for its parent
 unfoldable pub isDots : List ℕ → Bool
-isDots name = sameBytes name (46 ∷ []) || sameBytes name (46 ∷ 46 ∷ [])
+isDots name = sameBytes name (dot ∷ []) || sameBytes name (dot ∷ dot ∷ [])
 
 -- rule 27: two entries in use share parent and name
 unfoldable pub clash : View → ℕ → ℕ → Bool

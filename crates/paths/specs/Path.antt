@@ -6,9 +6,10 @@ use lib.Dec.{eqb}
 use lib.ListN.{length, getD, take, drop}
 use Rattle.seq.specs.Search.{first}
 use Rattle.seq.specs.Bytes.{sameBytes}
+use Rattle.seq.specs.Letters.{dot, solidus}
 
 abbrev pub isSlash : ℕ → Bool
-isSlash b = eqb b 47
+isSlash b = eqb b solidus
 
 -- how many slashes a path begins with
 unfoldable pub slashes : List ℕ → ℕ
@@ -40,7 +41,7 @@ abbrev pub absolute : List ℕ → Bool
 absolute p = isSlash (getD p 0 0)
 
 abbrev pub isDot : List ℕ → Bool
-isDot name = sameBytes name (46 ∷ [])
+isDot name = sameBytes name (dot ∷ [])
 
 abbrev pub isDotDot : List ℕ → Bool
-isDotDot name = sameBytes name (46 ∷ 46 ∷ [])
+isDotDot name = sameBytes name (dot ∷ dot ∷ [])
