@@ -1,4 +1,5 @@
 -- `names::has_duplicate` meets its contract. Assumes nothing.
+-- Invariant: nothing is found yet; no two entries before j clash, and in the inner loop none before i clashes with j. Measure: the entries left; those before j.
 use mathlib.Core.Path.{_≡_, sym, _∙_}
 use mathlib.Core.Bool.{false}
 use Prim.Native.Nat.{_≤_, _-_}

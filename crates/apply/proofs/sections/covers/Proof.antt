@@ -1,4 +1,5 @@
 -- `apply::sections::covers` meets its contract. Assumes nothing.
+-- Invariant: start is where section k begins, and no section before k has the bytes as a record. Measure: the sections left.
 use mathlib.Core.Bool.{false}
 use Rattle.seq.specs.Search.{any}
 use Rattle.seq.specs.SearchLaws.{any-none, any-miss, any-hit}

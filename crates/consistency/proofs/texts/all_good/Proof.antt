@@ -1,4 +1,5 @@
 -- `consistency::texts::all_good` meets its contract. Assumes nothing.
+-- Invariant: every text before t is consistent. Measure: the texts left.
 use mathlib.Core.Path.{_≡_, sym}
 use mathlib.Core.Bool.{true}
 use Prim.Native.Nat.{_≤_, _-_}

@@ -1,4 +1,5 @@
 -- `consistency::texts::linked` meets its contract. Assumes nothing.
+-- Invariant: no inode before i is a symlink with text t. Measure: the inodes left.
 use mathlib.Core.Path.{_≡_, sym, _∙_}
 use mathlib.Core.Bool.{false}
 use Prim.Native.Nat.{_≤_, _-_}

@@ -1,4 +1,5 @@
 -- `paths::find::find` meets its contract. Assumes nothing.
+-- Invariant: no entry before j has the name in directory d. Measure: the entries left.
 use mathlib.Core.Path.{_≡_, sym, _∙_}
 use mathlib.Core.Bool.{false}
 use Prim.Native.Nat.{_≤_, _-_}

@@ -1,4 +1,5 @@
 -- `paths::path::name_bytes` meets its contract. Assumes nothing.
+-- Invariant: no byte before k is a slash. Measure: the bytes left.
 use mathlib.Core.Path.{_≡_, sym, _∙_}
 use mathlib.Core.Bool.{false}
 use Prim.Native.Nat.{_≤_, _-_}

@@ -1,4 +1,5 @@
 -- `paths::path::slashes` meets its contract. Assumes nothing.
+-- Invariant: every byte before k is a slash. Measure: the bytes left.
 use mathlib.Core.Path.{_≡_, sym, _∙_}
 use mathlib.Core.Bool.{false, not}
 use Prim.Native.Nat.{_≤_, _-_}

@@ -1,4 +1,5 @@
 -- `refusals::target::is_opened` meets its contract. Assumes nothing.
+-- Invariant: no handle before n is open on inode i. Measure: the handles left.
 use mathlib.Core.Path.{_≡_, sym, _∙_}
 use mathlib.Core.Bool.{false}
 use Prim.Native.Nat.{_≤_, _-_}

@@ -1,4 +1,5 @@
--- `rename::found::free_slot` meets its contract: none of the slots passed is free. Assumes nothing.
+-- `rename::found::free_slot` meets its contract. Assumes nothing.
+-- Invariant: no slot before j is free. Measure: the slots left.
 use mathlib.Core.Path.{_≡_, sym, _∙_}
 use mathlib.Core.Bool.{false, not}
 use Prim.Native.Nat.{_≤_, _-_}

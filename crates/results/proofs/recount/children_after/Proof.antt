@@ -1,4 +1,5 @@
 -- `results::recount::children_after` meets its contract. Assumes nothing.
+-- Invariant: found is how many slots before j will hold a child directory of d, so at most j. Measure: the slots left.
 use mathlib.Core.Path.{ap, _≡_, sym, _∙_}
 use mathlib.Core.Logic.{⊎-elim}
 use Prim.Native.Nat.{_≤_, _-_, _+_}

@@ -1,4 +1,5 @@
 -- `results::recount::entries_after` meets its contract. Assumes nothing.
+-- Invariant: found is how many slots before j will target inode i, so at most j. Measure: the slots left.
 use mathlib.Core.Path.{ap, _≡_, sym, _∙_}
 use mathlib.Core.Logic.{⊎-elim}
 use Prim.Native.Nat.{_≤_, _-_, _+_}

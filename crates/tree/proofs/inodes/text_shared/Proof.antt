@@ -1,4 +1,5 @@
 -- `tree::inodes::text_shared` meets its contract. Assumes nothing.
+-- Invariant: no inode before k is a symlink with this text. Measure: the inodes left before i.
 use mathlib.Core.Path.{_≡_, sym, _∙_}
 use mathlib.Core.Bool.{false}
 use Prim.Native.Nat.{_≤_, _-_}
