@@ -31,12 +31,10 @@ div-result c = search needs
 returns-2 : tie.Need-returns-2
 unfolding allows viewOf
 returns-2 c =
-    let if1 = c .before .before .before .before .before .if1 in
     let inode = c .before .before .before .before .inode in
-    let mode = c .before .before .before .mode in
-    let m = field-of inodeMode (inode .ensures) (mode .ensures .0) in
+    let m = field-of inodeMode (inode .ensures) (c .before .before .before .mode .ensures .0) in
     let o = field-of inodeOwner (inode .ensures) (c .before .before .owner .ensures) in
-    simp (ne-eqb _ _ (if1 .left), eq-eqb _ _ (c .if2 .taken ∙ o), m)
+    simp (ne-eqb _ _ (c .before .before .before .before .before .if1 .left), eq-eqb _ _ (c .if2 .taken ∙ o), m)
 
 group-requires : tie.Need-group-requires
 group-requires c κs = search needs
