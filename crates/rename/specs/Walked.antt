@@ -37,7 +37,7 @@ use Rattle.rename.specs.Known.{case-in, called-fits, move-in}
 abbrev pub endsOf : Walks → Ends
 endsOf w = record { old = endOf (w .old); new = endOf (w .new) }
 
-module _ (s plan : List ℕ) (q : Request) (old new : List ℕ) (long : planBytes ≤ length plan) (h : Shape) (read : Read s h) (fine : recordsNumber h s ≡ 0)
+module _ {s plan : List ℕ} {q : Request} {old new : List ℕ} (long : planBytes ≤ length plan) {h : Shape} (read : Read s h) (fine : recordsNumber h s ≡ 0)
     (good : requestGood (viewOf h s) q old new ≡ true) where
   abbrev v : View
   v = viewOf h s
@@ -45,7 +45,7 @@ module _ (s plan : List ℕ) (q : Request) (old new : List ℕ) (long : planByte
   pub image-readable : Readable h s
   image-readable = checked-readable s h read (check-read s h read ∙ fine)
 
-  module _ (w : Walks) (both : BothAnswered v w (walksOf v q old new)) where
+  module _ {w : Walks} (both : BothAnswered v w (walksOf v q old new)) where
     same-ends : endsOf w ≡ walksOf v q old new
     same-ends = λ t. record { old = both .old .is t; new = both .new .is t }
 
@@ -59,7 +59,7 @@ module _ (s plan : List ℕ) (q : Request) (old new : List ℕ) (long : planByte
         answers-as (answers-walk s plan q old new long h read fine good (λ z. some (e ∙ z)))
         (λ t. record { number = same-ends t .new .number; rows = 0; old = same-ends t .old .steps; new = same-ends t .new .steps })
 
-    module _ (none : w .new .number ≡ 0) (c : Case) (is : c ≡ caseOf v q (endsOf w)) where
+    module _ (none : w .new .number ≡ 0) {c : Case} (is : c ≡ caseOf v q (endsOf w)) where
       new-whole : walksOf v q old new .new .number ≡ 0
       new-whole = sym (ap (λ (x : Ends). x .new .number) same-ends) ∙ none
 
@@ -70,7 +70,7 @@ module _ (s plan : List ℕ) (q : Request) (old new : List ℕ) (long : planByte
       walked-case = subst (CaseIn v) (sym is) (case-in h s image-readable q (endsOf w) (both .old .facts) (both .new .facts) old-whole none)
 
       -- what the steps make of it
-      module _ (a : Answer) (judged : a ≡ decide (steps v c)) where
+      module _ {a : Answer} (judged : a ≡ decide (steps v c)) where
         decided : a ≡ decide (steps v (caseOf v q (walksOf v q old new)))
         decided = judged ∙ ap (λ (x : Case). decide (steps v x)) (is ∙ ap (λ (x : Ends). caseOf v q x) same-ends)
 
