@@ -54,7 +54,8 @@ unfolding part
 put-requires c κs =
     let args = c .before .before .before .before .before .before .before .before .before .before .args in
     let pre = c .before .before .before .before .before .before .before .before .before .before .pre in
-    (search needs, pre .1, needed (c .before .before .before .before .before .before .before .move-of .ensures) (called (args .new .path) (c .before .before .before .before .before .found .given .1)) (pre .3) (pre .4))
+    let same = needed (c .before .before .before .before .before .before .before .move-of .ensures) (called (args .new .path) (c .before .before .before .before .before .found .given .1)) (pre .3) (pre .4) in
+    (search needs, pre .1, same .0, same .1)
 
 enum-told : tie.Need-enum-told
 enum-told c = search needs
@@ -66,7 +67,8 @@ put-requires-2 : tie.Need-put-requires-2
 put-requires-2 c κs =
     let args = c .before .before .before .before .before .before .before .args in
     let pre = c .before .before .before .before .before .before .before .pre in
-    (search needs, pre .1, needed (c .before .before .before .before .move-of .ensures) (called (args .new .path) (c .before .before .enum-told .given .1)) (pre .3) (pre .4))
+    let same = needed (c .before .before .before .before .move-of .ensures) (called (args .new .path) (c .before .before .enum-told .given .1)) (pre .3) (pre .4) in
+    (search needs, pre .1, same .0, same .1)
 
 enum-told-2 : tie.Need-enum-told-2
 enum-told-2 c = search needs
@@ -78,7 +80,8 @@ put-requires-3 : tie.Need-put-requires-3
 put-requires-3 c κs =
     let args = c .before .before .before .before .before .before .before .args in
     let pre = c .before .before .before .before .before .before .before .pre in
-    (search needs, pre .1, needed (c .before .before .before .before .move-of .ensures) (called (args .new .path) (c .before .before .enum-told2 .given .1)) (pre .3) (pre .4))
+    let same = needed (c .before .before .before .before .move-of .ensures) (called (args .new .path) (c .before .before .enum-told2 .given .1)) (pre .3) (pre .4) in
+    (search needs, pre .1, same .0, same .1)
 
 same-length : tie.Need-same-length
 same-length c = search needs
