@@ -33,9 +33,8 @@ returns c =
     let pre = c .before .before .before .before .before .before .before .before .before .before .before .before .before .before .before .before .before .before .before .before .pre in
     let copied = c .before .before .before .before .before .before .before .before .before .before .before .before .before .before .copy .ensures in
     let outcome = c .before .before .before .before .before .before .before .before .before .before .apply .ensures ∙ ap (λ (xs : List ℕ). appliedFrom xs (args .draft .now) 0 (args .rows)) copied in
-    let bad = λ z. c .before .before .before .before .before .if1 .taken (c .before .before .before .before .before .before .check .ensures ∙ z) in
     answers-as (settle-refused (args .plan .now) (args .scratch .now) (args .s .now) (args .h) (pre .2) (pre .1) (pre .0 .read) (args .rows) (args .draft .now) (pre .0) _
-    outcome bad _ (c .before .before .before .clear .ensures)) (c .refused .ensures) refl
+    outcome (λ z. c .before .before .before .before .before .if1 .taken (c .before .before .before .before .before .before .check .ensures ∙ z)) _ (c .before .before .before .clear .ensures)) (c .refused .ensures) refl
 
 copy-requires-2 : tie.Need-copy-requires-2
 copy-requires-2 c κs = let pre = c .before .before .before .before .before .before .before .before .before .before .before .before .before .before .before .before .pre in

@@ -29,7 +29,8 @@ has-entries-requires c κs = search needs
 returns-3 : tie.Need-returns-3
 returns-3 c =
     let start = c .before .before .before .before .before .before .before in
-    onto-full _ _ _ (start .pre .0) (start .pre .1) (c .before .before .before .before .before .kind .ensures) (start .pre .2) (c .before .before .before .moved-denied2 .ensures) (c .before .before .before .before .match .keys2) (c .before .has-entries .ensures) (c .before .before .if2 .left) (c .if3 .taken)
+    onto-full _ _ _ (start .pre .0) (start .pre .1) (c .before .before .before .before .before .kind .ensures) (start .pre .2)
+    (c .before .before .before .moved-denied2 .ensures) (c .before .before .before .before .match .keys2) (c .before .has-entries .ensures) (c .before .before .if2 .left) (c .if3 .taken)
 
 returns-4 : tie.Need-returns-4
 returns-4 c =
@@ -39,7 +40,8 @@ returns-4 c =
 returns-5 : tie.Need-returns-5
 returns-5 c =
     let start = c .before .before .before .before .before .before .before in
-    onto-passes _ _ _ (start .pre .0) (start .pre .1) (c .before .before .before .before .before .kind .ensures) (start .pre .2) (c .before .before .before .moved-denied2 .ensures) (c .before .before .before .before .match .keys2) (c .before .has-entries .ensures) (c .before .before .if2 .left) (c .if3 .left)
+    onto-passes _ _ _ (start .pre .0) (start .pre .1) (c .before .before .before .before .before .kind .ensures) (start .pre .2)
+    (c .before .before .before .moved-denied2 .ensures) (c .before .before .before .before .match .keys2) (c .before .has-entries .ensures) (c .before .before .if2 .left) (c .if3 .left)
 
 returns-6 : tie.Need-returns-6
 returns-6 c =
