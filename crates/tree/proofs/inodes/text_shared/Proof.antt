@@ -1,9 +1,8 @@
 -- `tree::inodes::text_shared` meets its contract. Assumes nothing.
 -- Invariant: no inode before k is a symlink with this text. Measure: the inodes left before i.
-use mathlib.Core.Path.{_≡_, sym, _∙_}
+use mathlib.Core.Path.{_≡_}
 use mathlib.Core.Bool.{false}
 use Prim.Native.Nat.{_≤_, _-_}
-use native.Mathlib.Omega.{arith}
 use borrow.Author.Needs.{needs}
 use Rattle.seq.specs.Search.{any}
 use Rattle.seq.specs.SearchLaws.{any-none, any-turn, any-found, any-out}
