@@ -1,6 +1,6 @@
 -- The bodies in the order in which the code asks for them, by type and state; that this is the rules one by one. Assumes nothing.
 use mathlib.Core.Path.{_≡_, refl, sym, _∙_}
-use mathlib.Core.Bool.{Bool, true, false, _&&_, not}
+use mathlib.Core.Bool.{Bool, true, false, _&&_, not, and-false}
 use mathlib.Core.List.{List, [], _∷_}
 use Prim.Native.Nat.{ℕ, _<_}
 use borrow.Author.Tests.{not-true}
@@ -89,26 +89,23 @@ module _ (h : Shape) (s : List ℕ) where
   unfolding bodiesChecked
   out-root e = answer-by (rw e)
 
-  module _ (root : isDirectory (viewOf h s) 0 ≡ true) where
-    pub out-inodes : all (inodeGood h s) (h .inodes) ≡ false → false ≡ bodiesGood h s
-    unfolding bodiesChecked
-    out-inodes e = answer-by (rw (root, e))
+  pub out-inodes : all (inodeGood h s) (h .inodes) ≡ false → false ≡ bodiesGood h s
+  unfolding bodiesChecked
+  out-inodes e = answer-by (simp (and-false, e))
 
-    module _ (inodes : all (inodeGood h s) (h .inodes) ≡ true) where
-      pub out-entries : all (entryGood h s) (h .entries) ≡ false → false ≡ bodiesGood h s
-      unfolding bodiesChecked
-      out-entries e = answer-by (rw (root, inodes, e))
+  pub out-entries : all (entryGood h s) (h .entries) ≡ false → false ≡ bodiesGood h s
+  unfolding bodiesChecked
+  out-entries e = answer-by (simp (and-false, e))
 
-      module _ (entries : all (entryGood h s) (h .entries) ≡ true) where
-        pub out-names : hasDuplicate (viewOf h s) ≡ true → false ≡ bodiesGood h s
-        unfolding bodiesChecked
-        out-names e = answer-by (rw (root, inodes, entries, e))
+  pub out-names : hasDuplicate (viewOf h s) ≡ true → false ≡ bodiesGood h s
+  unfolding bodiesChecked
+  out-names e = answer-by (simp (and-false, e))
 
-        module _ (names : hasDuplicate (viewOf h s) ≡ false) where
-          pub out-texts : all (textGood h s) (h .texts) ≡ false → false ≡ bodiesGood h s
-          unfolding bodiesChecked
-          out-texts e = answer-by (rw (root, inodes, entries, names, e))
+  pub out-texts : all (textGood h s) (h .texts) ≡ false → false ≡ bodiesGood h s
+  unfolding bodiesChecked
+  out-texts e = answer-by (simp (and-false, e))
 
-          pub out-handles : all (textGood h s) (h .texts) ≡ true → (b : Bool) → b ≡ all (handleGood h s) (h .handles) → b ≡ bodiesGood h s
-          unfolding bodiesChecked
-          out-handles texts b e = answer-by (rw (root, inodes, entries, names, texts) e)
+  pub out-handles : isDirectory (viewOf h s) 0 ≡ true → all (inodeGood h s) (h .inodes) ≡ true → all (entryGood h s) (h .entries) ≡ true
+      → hasDuplicate (viewOf h s) ≡ false → all (textGood h s) (h .texts) ≡ true → (b : Bool) → b ≡ all (handleGood h s) (h .handles) → b ≡ bodiesGood h s
+  unfolding bodiesChecked
+  out-handles root inodes entries names texts b e = answer-by (rw (root, inodes, entries, names, texts) e)

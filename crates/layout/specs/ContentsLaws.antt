@@ -181,6 +181,9 @@ pub record CountsFit (h : Shape) : Type 0 where
 pub product : (h : Shape) → CountsFit h → h .width * h .entries < 4194304
 product h c = let l = mul-le-mul-right (h .entries) (c .width) in omega (arith, c .entries)
 
+pub image-fits : (h : Shape) → CountsFit h → imageBytes h < 18446744073709551616
+image-fits h few = omega (arith, product h few, few .inodes, few .texts, few .handles)
+
 -- what a reader of the table of contents may conclude from its answer
 pub record Read (s : List ℕ) (h : Shape) : Type 0 where
   pub good : layoutGood s ≡ true

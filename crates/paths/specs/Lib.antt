@@ -2,6 +2,7 @@ pub mod Request
 pub mod RequestLaws
 pub mod Path
 pub mod Permission
+pub mod PermissionLaws
 pub mod Lookup
 pub mod LookupLaws
 pub mod PathLaws

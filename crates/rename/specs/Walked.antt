@@ -37,15 +37,21 @@ use Rattle.rename.specs.Known.{case-in, called-fits, move-in}
 abbrev pub endsOf : Walks → Ends
 endsOf w = record { old = endOf (w .old); new = endOf (w .new) }
 
-module _ (s plan : List ℕ) (q : Request) (old new : List ℕ) (long : planBytes ≤ length plan) (h : Shape) (read : Read s h) (fine : recordsNumber h s ≡ 0)
-    (good : requestGood (viewOf h s) q old new ≡ true) where
+-- What is known where the walks begin.
+pub record Given (s plan : List ℕ) (q : Request) (old new : List ℕ) (h : Shape) : Type 0 where
+  pub long : planBytes ≤ length plan
+  pub read : Read s h
+  pub fine : recordsNumber h s ≡ 0
+  pub good : requestGood (viewOf h s) q old new ≡ true
+
+module _ {s plan : List ℕ} {q : Request} {old new : List ℕ} {h : Shape} (given : Given s plan q old new h) where
   abbrev v : View
   v = viewOf h s
 
   pub image-readable : Readable h s
-  image-readable = checked-readable s h read (check-read s h read ∙ fine)
+  image-readable = checked-readable s h (given .read) (check-read s h (given .read) ∙ given .fine)
 
-  module _ (w : Walks) (both : BothAnswered v w (walksOf v q old new)) where
+  module _ {w : Walks} (both : BothAnswered v w (walksOf v q old new)) where
     same-ends : endsOf w ≡ walksOf v q old new
     same-ends = λ t. record { old = both .old .is t; new = both .new .is t }
 
@@ -56,10 +62,10 @@ module _ (s plan : List ℕ) (q : Request) (old new : List ℕ) (long : planByte
     pub refused-walk : w .new .number ≢ 0 → RenameAnswers s plan q old new (answer (w .new .number) 0) plan
     refused-walk some =
         let e = ap (λ (x : Ends). x .new .number) same-ends in
-        answers-as (answers-walk s plan q old new long h read fine good (λ z. some (e ∙ z)))
+        answers-as (answers-walk s plan q old new (given .long) h (given .read) (given .fine) (given .good) (λ z. some (e ∙ z)))
         (λ t. record { number = same-ends t .new .number; rows = 0; old = same-ends t .old .steps; new = same-ends t .new .steps })
 
-    module _ (none : w .new .number ≡ 0) (c : Case) (is : c ≡ caseOf v q (endsOf w)) where
+    module _ (none : w .new .number ≡ 0) {c : Case} (is : c ≡ caseOf v q (endsOf w)) where
       new-whole : walksOf v q old new .new .number ≡ 0
       new-whole = sym (ap (λ (x : Ends). x .new .number) same-ends) ∙ none
 
@@ -70,19 +76,19 @@ module _ (s plan : List ℕ) (q : Request) (old new : List ℕ) (long : planByte
       walked-case = subst (CaseIn v) (sym is) (case-in h s image-readable q (endsOf w) (both .old .facts) (both .new .facts) old-whole none)
 
       -- what the steps make of it
-      module _ (a : Answer) (judged : a ≡ decide (steps v c)) where
+      module _ {a : Answer} (judged : a ≡ decide (steps v c)) where
         decided : a ≡ decide (steps v (caseOf v q (walksOf v q old new)))
         decided = judged ∙ ap (λ (x : Case). decide (steps v x)) (is ∙ ap (λ (x : Ends). caseOf v q x) same-ends)
 
         pub steps-refuse : (n : ℕ) → a ≡ Refused n → RenameAnswers s plan q old new (answer n 0) plan
         steps-refuse n e =
-            answers-as (answers-steps s plan q old new long h read fine good new-whole (Refused n) (sym e ∙ decided))
+            answers-as (answers-steps s plan q old new (given .long) h (given .read) (given .fine) (given .good) new-whole (Refused n) (sym e ∙ decided))
             (λ t. record { number = n; rows = 0; old = same-ends t .old .steps; new = same-ends t .new .steps })
 
         pub steps-same : a ≡ Same → (after : List ℕ) → after ≡ cleared plan → RenameAnswers s plan q old new (answer (w .new .number) 0) after
         steps-same e after f =
             subst (λ (x : List ℕ). RenameAnswers s plan q old new (answer (w .new .number) 0) x) (sym f)
-            (answers-as (answers-steps s plan q old new long h read fine good new-whole Same (sym e ∙ decided))
+            (answers-as (answers-steps s plan q old new (given .long) h (given .read) (given .fine) (given .good) new-whole Same (sym e ∙ decided))
             (λ t. record { number = none t; rows = 0; old = same-ends t .old .steps; new = same-ends t .new .steps }))
 
         module _ (e : a ≡ Planned) where
@@ -110,10 +116,10 @@ module _ (s plan : List ℕ) (q : Request) (old new : List ℕ) (long : planByte
           steps-plan after n (filled, counted) =
               let f : after ≡ planIn (shapeOf s) (walksOf (viewOf (shapeOf s) s) q old new) =
               filled ∙ ap (λ (x : Case). planned h s (moveOf v x (q .now)) (nameOf (endOf (w .new) .found)) plan) is ∙ ap (λ (y : Ends). planIn h y) same-ends
-              ∙ ap (λ (x : Shape). planIn x (walksOf (viewOf x s) q old new)) (read .shape) in
+              ∙ ap (λ (x : Shape). planIn x (walksOf (viewOf x s) q old new)) (given .read .shape) in
               let k : n ≡ length (rowsIn (shapeOf s) (walksOf (viewOf (shapeOf s) s) q old new)) =
               counted ∙ ap (λ (x : Case). length (renameRows h s (moveOf v x (q .now)) (nameOf (endOf (w .new) .found)))) is ∙ ap (λ (y : Ends). length (rowsIn h y)) same-ends
-              ∙ ap (λ (x : Shape). length (rowsIn x (walksOf (viewOf x s) q old new))) (read .shape) in
+              ∙ ap (λ (x : Shape). length (rowsIn x (walksOf (viewOf x s) q old new))) (given .read .shape) in
               subst (λ (x : List ℕ). RenameAnswers s plan q old new (answer (w .new .number) n) x) (sym f)
-              (answers-as (answers-steps s plan q old new long h read fine good new-whole Planned (sym e ∙ decided))
+              (answers-as (answers-steps s plan q old new (given .long) h (given .read) (given .fine) (given .good) new-whole Planned (sym e ∙ decided))
               (λ t. record { number = none t; rows = k t; old = same-ends t .old .steps; new = same-ends t .new .steps }))

@@ -1,12 +1,12 @@
 -- Laws of searches: one turn of a loop that counts up, and what a search has found. Assumes nothing.
-use mathlib.Core.Path.{_≡_, refl, sym, ap₂}
-use mathlib.Core.Bool.{Bool, true, false, _&&_, _||_, cond, or-true, and-false, false≢true}
+use mathlib.Core.Path.{_≡_, refl, sym, ap, ap₂, _∙_}
+use mathlib.Core.Bool.{Bool, true, false, _&&_, _||_, not, cond, or-true, and-false, false≢true}
 use mathlib.Core.Logic.{_⊎_, inl, inr, ⊎-elim}
 use Prim.Native.Nat.{ℕ, zero, suc, _+_, _<_, _≤_}
 use native.Mathlib.Nat.{eq-or-lt-of-le, not-suc-le-zero, le-of-suc-le-suc, le-refl, lt-of-not-le}
 use native.Mathlib.Numerals.{add-one}
 use native.Mathlib.Omega.{arith}
-use Rattle.seq.specs.Truth.{and-left, and-right, and-both, not-both}
+use Rattle.seq.specs.Truth.{and-left, and-right, and-both, not-both, fails, holds}
 use Rattle.seq.specs.Search.{all, any, count, first}
 
 -- a number below suc n is n, or below n
@@ -165,6 +165,45 @@ module _ (p : ℕ → Bool) where
       go : (b : Bool) → p k ≡ b → b ≡ false
       go true e = let u = first-upto n k (omega (arith, first-le n)) e in absurd (omega arith)
       go false e = refl
+
+-- A loop over the numbers below n that stands at k, where a call answered b for the test of k: its turns, and its ways out.
+module _ (p : ℕ → Bool) (n k : ℕ) {b : Bool} where
+  pub any-turn : k < n → any p k ≡ false → b ≡ p k → b ≡ false → (k + 1 ≤ n) × (any p (k + 1) ≡ false)
+  any-turn below none says miss = (omega arith, any-miss p k none (sym says ∙ miss))
+
+  pub any-found : k < n → b ≡ p k → b ≡ true → true ≡ any p n
+  any-found below says hit = sym (any-hit p n k below (sym says ∙ hit))
+
+  pub all-turn : k < n → all p k ≡ true → b ≡ p k → not b ≡ false → (k + 1 ≤ n) × (all p (k + 1) ≡ true)
+  all-turn below every says pass = (omega arith, all-more p k every (holds says pass))
+
+  pub all-failed : k < n → b ≡ p k → not b ≡ true → false ≡ all p n
+  all-failed below says fail = sym (all-not p n k below (fails says fail))
+
+  -- found counts those before k, and next those before k + 1
+  module _ (found next : ℕ) (below : k < n) (most : found ≤ k) (counted : found ≡ count p k) (says : b ≡ p k) where
+    pub count-turn : b ≡ true → next ≡ found + 1 → (k + 1 ≤ n) × (next ≤ k + 1) × (next ≡ count p (k + 1))
+    count-turn hit e = (omega arith, omega arith, e ∙ ap (λ m. m + 1) counted ∙ sym (count-hit p k (sym says ∙ hit)))
+
+    pub count-pass : b ≡ false → next ≡ found → (k + 1 ≤ n) × (next ≤ k + 1) × (next ≡ count p (k + 1))
+    count-pass miss e = (omega arith, omega arith, e ∙ counted ∙ sym (count-miss p k (sym says ∙ miss)))
+
+-- it has been through all of them
+module _ (p : ℕ → Bool) (n k : ℕ) (upto : k ≤ n) (done : n ≤ k) where
+  ended : k ≡ n
+  ended = omega arith
+
+  pub any-out : any p k ≡ false → false ≡ any p n
+  any-out none = sym (rw ended at none)
+
+  pub all-out : all p k ≡ true → true ≡ all p n
+  all-out every = sym (rw ended at every)
+
+  pub first-out : any p k ≡ false → k ≡ first p n
+  first-out none = ended ∙ sym (first-none p n (rw ended at none))
+
+  pub count-out : (found : ℕ) → found ≡ count p k → found ≡ count p n
+  count-out found counted = rw ended at counted
 
 -- tests that agree below n give the same search
 module _ (p q : ℕ → Bool) where

@@ -14,18 +14,19 @@ use borrow.Author.Needs.{needs}
 use Rattle.apply.proofs.apply_row.Statement.{statement}
 use Rattle.apply.proofs.apply_row.Tie as tie
 
+abbrev start : tie.Else1 → tie.Start
+start c = c .before .before .before .before
+
 -- past the test the row can be applied, its body is in the plan and its record in the image
-passed : (c : tie.Else1) → applicable (c .before .before .before .before .args .h) (c .before .before .before .before .args .plan .now) (c .before .before .before .before .args .row) ≡ true
+passed : (c : tie.Else1) → applicable (start c .args .h) (start c .args .plan .now) (start c .args .row) ≡ true
 passed c = holds (c .before .applicable .ensures) (c .if1 .left)
 
-good : (c : tie.Else1) → Applicable (c .before .before .before .before .args .h) (c .before .before .before .before .args .plan .now) (c .before .before .before .before .args .row)
+good : (c : tie.Else1) → Applicable (start c .args .h) (start c .args .plan .now) (start c .args .row)
 good c = applicable-is _ _ _ (passed c)
 
-fits : (c : tie.Else1) → (rowLength (c .before .before .before .before .args .plan .now) (c .before .before .before .before .args .row) ≤ bodyBytes) × (rowOffset (c .before .before .before .before .args .plan .now) (c .before .before .before .before .args .row) + rowLength (c .before .before .before .before .args .plan .now) (c .before .before .before .before .args .row) ≤ length (c .before .before .before .before .args .image .now))
-fits c =
-    let args = c .before .before .before .before .args in
-    let pre = c .before .before .before .before .pre in
-    applicable-fits (args .h) (args .image .now) _ _ (pre .0) (good c)
+fits : (c : tie.Else1) → (rowLength (start c .args .plan .now) (start c .args .row) ≤ bodyBytes)
+    × (rowOffset (start c .args .plan .now) (start c .args .row) + rowLength (start c .args .plan .now) (start c .args .row) ≤ length (start c .args .image .now))
+fits c = applicable-fits (start c .args .h) (start c .args .image .now) _ _ (start c .pre .0) (good c)
 
 applicable-requires : tie.Need-applicable-requires
 applicable-requires c κs = (laid-bounded _ _ (c .before .before .pre .0), c .before .before .pre .1)

@@ -17,18 +17,13 @@ all-good-requires : tie.Need-all-good-requires
 all-good-requires c κs = search needs
 
 returns-2 : tie.Need-returns-2
-returns-2 c =
-    let root = holds (c .before .before .before .is-directory .ensures) (c .before .before .if1 .left) in
-    out-inodes _ _ root (fails (c .before .all-good .ensures) (c .if2 .taken))
+returns-2 c = out-inodes _ _ (fails (c .before .all-good .ensures) (c .if2 .taken))
 
 all-good-requires-2 : tie.Need-all-good-requires-2
 all-good-requires-2 c κs = search needs
 
 returns-3 : tie.Need-returns-3
-returns-3 c =
-    let root = holds (c .before .before .before .before .before .is-directory .ensures) (c .before .before .before .before .if1 .left) in
-    let inodes = holds (c .before .before .before .all-good .ensures) (c .before .before .if2 .left) in
-    out-entries _ _ root inodes (fails (c .before .all-good2 .ensures) (c .if3 .taken))
+returns-3 c = out-entries _ _ (fails (c .before .all-good2 .ensures) (c .if3 .taken))
 
 has-duplicate-requires : tie.Need-has-duplicate-requires
 has-duplicate-requires c κs =
@@ -37,22 +32,13 @@ has-duplicate-requires c κs =
     (search needs, entries-named (args .h) (args .s .now) pre (holds (c .before .all-good2 .ensures) (c .if3 .left)))
 
 returns-4 : tie.Need-returns-4
-returns-4 c =
-    let root = holds (c .before .before .before .before .before .before .before .is-directory .ensures) (c .before .before .before .before .before .before .if1 .left) in
-    let inodes = holds (c .before .before .before .before .before .all-good .ensures) (c .before .before .before .before .if2 .left) in
-    let entries = holds (c .before .before .before .all-good2 .ensures) (c .before .before .if3 .left) in
-    out-names _ _ root inodes entries (sym (c .before .has-duplicate .ensures) ∙ c .if4 .taken)
+returns-4 c = out-names _ _ (sym (c .before .has-duplicate .ensures) ∙ c .if4 .taken)
 
 all-good-requires-3 : tie.Need-all-good-requires-3
 all-good-requires-3 c κs = search needs
 
 returns-5 : tie.Need-returns-5
-returns-5 c =
-    let root = holds (c .before .before .before .before .before .before .before .before .before .is-directory .ensures) (c .before .before .before .before .before .before .before .before .if1 .left) in
-    let inodes = holds (c .before .before .before .before .before .before .before .all-good .ensures) (c .before .before .before .before .before .before .if2 .left) in
-    let entries = holds (c .before .before .before .before .before .all-good2 .ensures) (c .before .before .before .before .if3 .left) in
-    let names = sym (c .before .before .before .has-duplicate .ensures) ∙ c .before .before .if4 .left in
-    out-texts _ _ root inodes entries names (fails (c .before .all-good3 .ensures) (c .if5 .taken))
+returns-5 c = out-texts _ _ (fails (c .before .all-good3 .ensures) (c .if5 .taken))
 
 all-good-requires-4 : tie.Need-all-good-requires-4
 all-good-requires-4 c κs = search needs

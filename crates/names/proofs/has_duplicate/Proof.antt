@@ -1,11 +1,11 @@
 -- `names::has_duplicate` meets its contract. Assumes nothing.
+-- Invariant: nothing is found yet; no two entries before j clash, and in the inner loop none before i clashes with j. Measure: the entries left; those before j.
 use mathlib.Core.Path.{_≡_, sym, _∙_}
 use mathlib.Core.Bool.{false}
 use Prim.Native.Nat.{_≤_, _-_}
-use native.Mathlib.Omega.{arith}
 use borrow.Author.Needs.{needs}
 use Rattle.seq.specs.Search.{any}
-use Rattle.seq.specs.SearchLaws.{any-none, any-miss, any-hit}
+use Rattle.seq.specs.SearchLaws.{any-none, any-miss, any-hit, any-turn, any-out}
 use Rattle.layout.specs.View.{viewOf}
 use Rattle.names.specs.Name.{clash}
 use Rattle.names.specs.NameTests.{hasDuplicate}
@@ -42,7 +42,8 @@ loop-less c = search needs
 loop-again : tie.Need-loop-again Inv-loop μ-loop Inv-pairs μ-pairs
 loop-again c =
     let loop′ = c .before .before .before .loop in
-    (search needs, search needs, any-miss _ _ (loop′ .inv .2) (sym (c .before .entries-clash .ensures) ∙ c .if1 .left))
+    let turn = any-turn _ _ _ (c .before .before .loop-test .taken) (loop′ .inv .2) (c .before .entries-clash .ensures) (c .if1 .left) in
+    (turn .0, loop′ .inv .1, turn .1)
 
 add-j : tie.Need-add-j Inv-loop μ-loop Inv-pairs μ-pairs
 add-j c = search needs
@@ -51,13 +52,13 @@ pairs-less : tie.Need-pairs-less Inv-loop μ-loop Inv-pairs μ-pairs
 pairs-less c = search needs
 
 pairs-again : tie.Need-pairs-again Inv-loop μ-loop Inv-pairs μ-pairs
-pairs-again c = let e : c .before .loop .i ≡ c .before .before .before .pairs .j = omega arith in
-    (search needs, search needs, any-miss _ _ (c .before .before .before .pairs .inv .2) (rw e at (c .before .loop .inv .2)))
+pairs-again c =
+    let none = any-out _ _ _ (c .before .loop .inv .0) (c .loop-test .left) (c .before .loop .inv .2) in
+    (search needs, search needs, any-miss _ _ (c .before .before .before .pairs .inv .2) (sym none))
 
 returns : tie.Need-returns Inv-loop μ-loop Inv-pairs μ-pairs
 unfolding hasDuplicate viewOf
-returns c = let e : c .before .pairs .j ≡ c .before .before .before .args .h .entries = omega arith in
-    c .before .pairs .inv .1 ∙ sym (rw e at (c .before .pairs .inv .2))
+returns c = c .before .pairs .inv .1 ∙ any-out _ _ _ (c .before .pairs .inv .0) (c .pairs-test .left) (c .before .pairs .inv .2)
 
 returns-2 : tie.Need-returns-2 Inv-loop μ-loop Inv-pairs μ-pairs
 unfolding hasDuplicate viewOf

@@ -28,7 +28,8 @@ same-length-2 c = search needs
 returns : tie.Need-returns
 returns c =
     let args = c .before .before .before .before .before .before .before .before .before .before .before .before .args in
-    answers-pending (args .plan .now) (args .scratch .now) (args .s .now) (args .h) (c .before .before .before .before .before .before .before .before .before .before .before .before .pre .2) (fails (c .before .before .before .before .before .before .before .before .journal-clear .ensures) (c .before .before .before .before .before .before .before .if1 .taken)) (c .before .before .before .before .pending .ensures)
+    let set = fails (c .before .before .before .before .before .before .before .before .journal-clear .ensures) (c .before .before .before .before .before .before .before .if1 .taken) in
+    answers-pending (args .plan .now) (args .scratch .now) (args .s .now) (args .h) (c .before .before .before .before .before .before .before .before .before .before .before .before .pre .2) set (c .before .before .before .before .pending .ensures)
 
 bodies-good-requires : tie.Need-bodies-good-requires
 bodies-good-requires c κs = search needs
@@ -57,10 +58,11 @@ same-length-4 c = search needs
 
 returns-3 : tie.Need-returns-3
 returns-3 c =
-    let args = c .before .before .before .before .before .before .before .before .before .before .before .before .before .before .before .args in
+    let start = c .before .before .before .before .before .before .before .before .before .before .before .before .before .before .before in
     let clear = holds (c .before .before .before .before .before .before .before .before .before .before .before .journal-clear .ensures) (c .before .before .before .before .before .before .before .before .before .before .if1 .left) in
     let good = holds (c .before .before .before .before .before .before .before .before .before .bodies-good .ensures) (c .before .before .before .before .before .before .before .before .if2 .left) in
-    answers-nothing (args .plan .now) (args .scratch .now) (args .s .now) (args .h) (c .before .before .before .before .before .before .before .before .before .before .before .before .before .before .before .pre .0) clear good (c .before .before .before .before .before .before .clear .ensures) (c .before .before .copy .ensures)
+    let zeroed = c .before .before .before .before .before .before .clear .ensures in
+    answers-nothing (start .args .plan .now) (start .args .scratch .now) (start .args .s .now) (start .args .h) (start .pre .0) clear good zeroed (c .before .before .copy .ensures)
 
 pub by-journal-spec : {M : Type 1} → statement M
 by-journal-spec =

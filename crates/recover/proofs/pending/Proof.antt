@@ -48,7 +48,8 @@ returns c =
     let pre = c .before .before .before .before .before .before .before .before .before .before .before .before .before .pre in
     let make = c .before .before .before .before .before .before .before .before .make in
     let drafted = subst (λ (f : Draft). Drafted (args .h) (replicate planBytes 0) (draft (args .h) (args .s .now)) f (make .last .0)) (c .before .before .before .before .before .enum-told .given .1) (make .ensures) in
-    answers-as (answers-none (args .plan .now) (args .scratch .now) (args .s .now) (args .h) (pre .2) (unfit-none (args .h) (args .s .now) (replicate planBytes 0) (make .last .0) drafted) _ (c .before .before .before .clear .ensures)) (c .refused .ensures) refl
+    let none = unfit-none (args .h) (args .s .now) (replicate planBytes 0) (make .last .0) drafted in
+    answers-as (answers-none (args .plan .now) (args .scratch .now) (args .s .now) (args .h) (pre .2) none _ (c .before .before .before .clear .ensures)) (c .refused .ensures) refl
 
 same-length-2 : tie.Need-same-length-2
 same-length-2 c = search needs

@@ -53,9 +53,12 @@ same-length-2 c = search needs
 
 returns-4 : tie.Need-returns-4
 returns-4 c =
-    let args = c .before .before .before .before .before .before .before .before .before .before .before .before .before .before .before .before .args in
-    let read = contents-good _ _ (sym (c .before .before .before .before .before .before .before .before .before .before .read .ensures) ∙ c .before .before .before .before .before .before .before .before .found .given .1) in
-    answers-as (c .before .before .before .before .by-journal .ensures) refl (sym (recovered-read (args .plan .now) (args .scratch .now) (args .s .now) (c .before .before .before .before .before .before .before .before .before .before .before .before .if1 .left) (c .before .before .before .before .before .before .before .before .before .before .before .if2 .left) _ read))
+    let told = c .before .before .before .before .before .before .before .before in
+    let start = told .before .before .before .before .before .before .before .before in
+    let read = contents-good _ _ (sym (told .before .before .read .ensures) ∙ told .found .given .1) in
+    let long = told .before .before .before .before .if1 .left in
+    let fits = recovered-read (start .args .plan .now) (start .args .scratch .now) (start .args .s .now) long (told .before .before .before .if2 .left) _ read in
+    answers-as (c .before .before .before .before .by-journal .ensures) refl (sym fits)
 
 pub recover-spec : {M : Type 1} → statement M
 recover-spec =

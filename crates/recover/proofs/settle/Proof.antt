@@ -31,12 +31,14 @@ returns : tie.Need-returns
 returns c =
     let args = c .before .before .before .before .before .before .before .before .before .before .before .before .before .before .before .before .before .before .before .before .args in
     let pre = c .before .before .before .before .before .before .before .before .before .before .before .before .before .before .before .before .before .before .before .before .pre in
-    let outcome = c .before .before .before .before .before .before .before .before .before .before .apply .ensures ∙ ap (λ (xs : List ℕ). appliedFrom xs (args .draft .now) 0 (args .rows)) (c .before .before .before .before .before .before .before .before .before .before .before .before .before .before .copy .ensures) in
-    answers-as (settle-refused (args .plan .now) (args .scratch .now) (args .s .now) (args .h) (pre .2) (pre .1) (pre .0 .read) (args .rows) (args .draft .now) (pre .0) _ outcome
-    (λ z. c .before .before .before .before .before .if1 .taken (c .before .before .before .before .before .before .check .ensures ∙ z)) _ (c .before .before .before .clear .ensures)) (c .refused .ensures) refl
+    let copied = c .before .before .before .before .before .before .before .before .before .before .before .before .before .before .copy .ensures in
+    let outcome = c .before .before .before .before .before .before .before .before .before .before .apply .ensures ∙ ap (λ (xs : List ℕ). appliedFrom xs (args .draft .now) 0 (args .rows)) copied in
+    answers-as (settle-refused (args .plan .now) (args .scratch .now) (args .s .now) (args .h) (pre .2) (pre .1) (pre .0 .read) (args .rows) (args .draft .now) (pre .0) _
+    outcome (λ z. c .before .before .before .before .before .if1 .taken (c .before .before .before .before .before .before .check .ensures ∙ z)) _ (c .before .before .before .clear .ensures)) (c .refused .ensures) refl
 
 copy-requires-2 : tie.Need-copy-requires-2
-copy-requires-2 c κs = omega (arith, c .before .before .before .before .before .before .before .before .before .before .before .before .before .before .before .before .pre .1, ready-exact (c .before .before .before .before .before .before .before .before .before .before .before .before .before .before .before .before .pre .0))
+copy-requires-2 c κs = let pre = c .before .before .before .before .before .before .before .before .before .before .before .before .before .before .before .before .pre in
+    omega (arith, pre .1, ready-exact (pre .0))
 
 same-length-2 : tie.Need-same-length-2
 same-length-2 c = search needs
@@ -48,9 +50,11 @@ returns-2 : tie.Need-returns-2
 returns-2 c =
     let args = c .before .before .before .before .before .before .before .before .before .before .before .before .before .before .before .before .before .before .before .args in
     let pre = c .before .before .before .before .before .before .before .before .before .before .before .before .before .before .before .before .before .before .before .pre in
-    let outcome = c .before .before .before .before .before .before .before .before .before .apply .ensures ∙ ap (λ (xs : List ℕ). appliedFrom xs (args .draft .now) 0 (args .rows)) (c .before .before .before .before .before .before .before .before .before .before .before .before .before .copy .ensures) in
-    settle-done (args .plan .now) (args .scratch .now) (args .s .now) (args .h) (pre .2) (pre .1) (pre .0 .read) (args .rows) (args .draft .now) (pre .0) _ outcome
-    (sym (c .before .before .before .before .before .check .ensures) ∙ c .before .before .before .before .if1 .left) _ (c .before .before .copy2 .ensures)
+    let copied = c .before .before .before .before .before .before .before .before .before .before .before .before .before .copy .ensures in
+    let outcome = c .before .before .before .before .before .before .before .before .before .apply .ensures ∙ ap (λ (xs : List ℕ). appliedFrom xs (args .draft .now) 0 (args .rows)) copied in
+    let good = sym (c .before .before .before .before .before .check .ensures) ∙ c .before .before .before .before .if1 .left in
+    settle-done (args .plan .now) (args .scratch .now) (args .s .now) (args .h) (pre .2) (pre .1) (pre .0 .read) (args .rows) (args .draft .now) (pre .0) _ outcome good _
+    (c .before .before .copy2 .ensures)
 
 pub settle-spec : {M : Type 1} → statement M
 settle-spec =

@@ -1,33 +1,31 @@
 -- `rename::walked` meets its contract: a walk refuses, or the steps answer. Assumes nothing.
-use Rattle.rename.specs.Walked.{image-readable, refused-walk, walked-case, steps-refuse, steps-same, planned-move, planned-name, steps-plan}
+use Rattle.rename.specs.Walked.{Given, image-readable, refused-walk, walked-case, steps-refuse, steps-same, planned-move, planned-name, steps-plan}
 use borrow.Author.Needs.{needs}
 use Rattle.rename.proofs.walked.Statement.{statement}
 use Rattle.rename.proofs.walked.Tie as tie
 
+-- the start, and the answer of the walks, as seen from the answer of the steps
+abbrev start : tie.After-judge → tie.Start
+start c = c .before .before .before .before .before .before .before .before .before .before .before
+
+abbrev walks : tie.After-judge → tie.After-both
+walks c = c .before .before .before .before .before .before
+
+given : (c : tie.Start) → Given (c .args .s .now) (c .args .plan .now) (c .args .q) (c .args .old .now) (c .args .new .now) (c .args .h)
+given c = record { long = c .pre .0; read = c .pre .1; fine = c .pre .2; good = c .pre .3 }
+
 both-requires : tie.Need-both-requires
-both-requires c κs =
-    let args = c .before .before .before .before .args in
-    let pre = c .before .before .before .before .pre in
-    (image-readable (args .s .now) (args .plan .now) (args .q) (args .old .now) (args .new .now) (pre .0) (args .h) (pre .1) (pre .2) (pre .3), pre .3)
+both-requires c κs = (image-readable (given (c .before .before .before .before)), c .before .before .before .before .pre .3)
 
 returns : tie.Need-returns
-returns c =
-    let args = c .before .before .before .before .before .before .before .before .before .args in
-    let pre = c .before .before .before .before .before .before .before .before .before .pre in
-    let both = c .before .before .before .before .both in
-    refused-walk (args .s .now) (args .plan .now) (args .q) (args .old .now) (args .new .now) (pre .0) (args .h) (pre .1) (pre .2) (pre .3) (both .result) (both .ensures) (c .if1 .taken)
+returns c = refused-walk (given (c .before .before .before .before .before .before .before .before .before)) (c .before .before .before .before .both .ensures) (c .if1 .taken)
 
 case-of-requires : tie.Need-case-of-requires
 case-of-requires c κs = search needs
 
 judge-requires : tie.Need-judge-requires
-judge-requires c κs =
-    let args = c .before .before .before .before .before .before .before .before .before .before .args in
-    let pre = c .before .before .before .before .before .before .before .before .before .before .pre in
-    let both = c .before .before .before .before .before .both in
-    let none = c .before .if1 .left in
-    let case-of = c .case-of in
-    (image-readable (args .s .now) (args .plan .now) (args .q) (args .old .now) (args .new .now) (pre .0) (args .h) (pre .1) (pre .2) (pre .3), walked-case (args .s .now) (args .plan .now) (args .q) (args .old .now) (args .new .now) (pre .0) (args .h) (pre .1) (pre .2) (pre .3) (both .result) (both .ensures) none (case-of .result) (case-of .ensures))
+judge-requires c κs = let known = given (c .before .before .before .before .before .before .before .before .before .before) in
+    (image-readable known, walked-case known (c .before .before .before .before .before .both .ensures) (c .before .if1 .left) (c .case-of .ensures))
 
 enum-known-answer : tie.Need-enum-known-answer
 enum-known-answer c = search needs
@@ -43,50 +41,46 @@ enum-told-2 c = search needs
 
 write-requires : tie.Need-write-requires
 write-requires c κs =
-    let args = c .before .before .before .before .before .before .before .before .before .before .before .before .before .before .args in
-    let pre = c .before .before .before .before .before .before .before .before .before .before .before .before .before .before .pre in
-    let both = c .before .before .before .before .before .before .before .before .before .both in
-    let none = c .before .before .before .before .before .if1 .left in
-    let case-of = c .before .before .before .before .case-of in
-    let judge = c .before .before .before .judge in
+    let at = c .before .before .before in
+    let both = walks at .both .ensures in
+    let none = at .before .before .if1 .left in
+    let is = at .before .case-of .ensures in
+    let judged = at .judge .ensures in
     let planned = c .before .enum-told2 .given .1 in
-    (search needs, pre .1 .laid, both .ensures .new .range, planned-move (args .s .now) (args .plan .now) (args .q) (args .old .now) (args .new .now) (pre .0) (args .h) (pre .1) (pre .2) (pre .3) (both .result) (both .ensures) none (case-of .result) (case-of .ensures) (judge .result) (judge .ensures) planned, planned-name (args .s .now) (args .plan .now) (args .q) (args .old .now) (args .new .now) (pre .0) (args .h) (pre .1) (pre .2) (pre .3) (both .result) (both .ensures) none (case-of .result) (case-of .ensures) (judge .result) (judge .ensures) planned)
+    (start at .pre .0, start at .pre .1 .laid, both .new .range, planned-move (given (start at)) both none is judged planned, planned-name (given (start at)) both none is judged planned)
 
 returns-2 : tie.Need-returns-2
 returns-2 c =
-    let args = c .before .before .before .before .before .before .before .before .before .before .before .before .before .before .args in
-    let pre = c .before .before .before .before .before .before .before .before .before .before .before .before .before .before .pre in
-    let both = c .before .before .before .before .before .before .before .before .before .both in
-    let none = c .before .before .before .before .before .if1 .left in
-    let case-of = c .before .before .before .before .case-of in
-    let judge = c .before .before .before .judge in
-    steps-refuse (args .s .now) (args .plan .now) (args .q) (args .old .now) (args .new .now) (pre .0) (args .h) (pre .1) (pre .2) (pre .3) (both .result) (both .ensures) none (case-of .result) (case-of .ensures) (judge .result) (judge .ensures) _ (c .before .answer .given .1)
+    let at = c .before .before .before in
+    let both = walks at .both .ensures in
+    let none = at .before .before .if1 .left in
+    let is = at .before .case-of .ensures in
+    let judged = at .judge .ensures in
+    steps-refuse (given (start at)) both none is judged _ (c .before .answer .given .1)
 
 same-length : tie.Need-same-length
 same-length c = search needs
 
 returns-3 : tie.Need-returns-3
 returns-3 c =
-    let args = c .before .before .before .before .before .before .before .before .before .before .before .before .before .before .before .before .before .args in
-    let pre = c .before .before .before .before .before .before .before .before .before .before .before .before .before .before .before .before .before .pre in
-    let both = c .before .before .before .before .before .before .before .before .before .before .before .before .both in
-    let none = c .before .before .before .before .before .before .before .before .if1 .left in
-    let case-of = c .before .before .before .before .before .before .before .case-of in
-    let judge = c .before .before .before .before .before .before .judge in
-    steps-same (args .s .now) (args .plan .now) (args .q) (args .old .now) (args .new .now) (pre .0) (args .h) (pre .1) (pre .2) (pre .3) (both .result) (both .ensures) none (case-of .result) (case-of .ensures) (judge .result) (judge .ensures) (c .before .before .before .before .enum-told .given .1) _ (c .before .before .clear .ensures)
+    let at = c .before .before .before .before .before .before in
+    let both = walks at .both .ensures in
+    let none = at .before .before .if1 .left in
+    let is = at .before .case-of .ensures in
+    let judged = at .judge .ensures in
+    steps-same (given (start at)) both none is judged (c .before .before .before .before .enum-told .given .1) _ (c .before .before .clear .ensures)
 
 same-length-2 : tie.Need-same-length-2
 same-length-2 c = search needs
 
 returns-4 : tie.Need-returns-4
 returns-4 c =
-    let args = c .before .before .before .before .before .before .before .before .before .before .before .before .before .before .before .before .before .args in
-    let pre = c .before .before .before .before .before .before .before .before .before .before .before .before .before .before .before .before .before .pre in
-    let both = c .before .before .before .before .before .before .before .before .before .before .before .before .both in
-    let none = c .before .before .before .before .before .before .before .before .if1 .left in
-    let case-of = c .before .before .before .before .before .before .before .case-of in
-    let judge = c .before .before .before .before .before .before .judge in
-    steps-plan (args .s .now) (args .plan .now) (args .q) (args .old .now) (args .new .now) (pre .0) (args .h) (pre .1) (pre .2) (pre .3) (both .result) (both .ensures) none (case-of .result) (case-of .ensures) (judge .result) (judge .ensures) (c .before .before .before .before .enum-told2 .given .1) _ _ (c .before .before .write .ensures)
+    let at = c .before .before .before .before .before .before in
+    let both = walks at .both .ensures in
+    let none = at .before .before .if1 .left in
+    let is = at .before .case-of .ensures in
+    let judged = at .judge .ensures in
+    steps-plan (given (start at)) both none is judged (c .before .before .before .before .enum-told2 .given .1) _ _ (c .before .before .write .ensures)
 
 pub walked-spec : {M : Type 1} → statement M
 walked-spec =

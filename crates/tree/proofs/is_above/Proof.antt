@@ -1,4 +1,5 @@
 -- `tree::is_above` meets its contract. Assumes nothing.
+-- Invariant: the way up from `at`, in the steps left, answers as the way up from i in all of them. Measure: the steps left.
 use mathlib.Core.Path.{refl, ap, _≡_, sym, _∙_}
 use Prim.Native.Nat.{_≤_, _<_, _-_}
 use native.Mathlib.Omega.{arith}

@@ -1,4 +1,5 @@
 -- `vectors::all` meets its contract. Assumes nothing.
+-- Invariant: the four buffers keep their lengths. Measure: the items that may still come.
 use mathlib.Core.Path.{_≡_}
 use lib.ListN.{length}
 use borrow.Author.Needs.{needs}

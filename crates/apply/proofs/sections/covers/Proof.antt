@@ -1,12 +1,13 @@
 -- `apply::sections::covers` meets its contract. Assumes nothing.
+-- Invariant: start is where section k begins, and no section before k has the bytes as a record. Measure: the sections left.
 use mathlib.Core.Bool.{false}
 use Rattle.seq.specs.Search.{any}
-use Rattle.seq.specs.SearchLaws.{any-none, any-miss, any-hit}
+use Rattle.seq.specs.SearchLaws.{any-none, any-turn, any-found, any-out}
 use Rattle.layout.specs.Place.{base}
 use Rattle.plan.specs.Fit.{coversSection, covers}
 use Rattle.plan.specs.FitLaws.{record-some}
 use Rattle.apply.specs.Find.{section-is, section-next, section-room}
-use mathlib.Core.Path.{_≡_, sym, _∙_}
+use mathlib.Core.Path.{_≡_, _∙_}
 use Prim.Native.Nat.{_≤_, _-_}
 use native.Mathlib.Omega.{arith}
 use borrow.Author.Needs.{needs}
@@ -40,9 +41,9 @@ unfolding covers
 returns c =
     let args = c .before .before .before .before .before .before .args in
     let loop′ = c .before .before .before .before .before .loop in
-    let loop-test = c .before .before .before .before .loop-test in
     let record-bytes = c .before .before .before .record-bytes in
-    sym (any-hit _ _ _ (loop-test .taken) (sym (section-is (args .h) (loop′ .k) _ _ _ (loop′ .inv .1) (record-bytes .ensures) (c .before .before .records .ensures) _ _) ∙ sym (c .before .one-of-section .ensures) ∙ c .if1 .taken))
+    let section = section-is (args .h) (loop′ .k) _ _ _ (loop′ .inv .1) (record-bytes .ensures) (c .before .before .records .ensures) (args .at) (args .n) in
+    any-found _ _ _ (c .before .before .before .before .loop-test .taken) (c .before .one-of-section .ensures ∙ section) (c .if1 .taken)
 
 mul-start : tie.Need-mul-start Inv-loop μ-loop
 mul-start c =
@@ -72,14 +73,15 @@ loop-again : tie.Need-loop-again Inv-loop μ-loop
 loop-again c =
     let args = c .before .before .before .before .before .before .args in
     let loop′ = c .before .before .before .before .before .loop in
-    let record-bytes = c .before .before .before .record-bytes in
-    let records = c .before .before .records in
-    (search needs, section-next (args .h) (loop′ .k) _ _ _ (loop′ .inv .1) (record-bytes .ensures) (records .ensures), any-miss _ _ (loop′ .inv .2) (sym (section-is (args .h) (loop′ .k) _ _ _ (loop′ .inv .1) (record-bytes .ensures) (records .ensures) _ _) ∙ sym (c .before .one-of-section .ensures) ∙ c .if1 .left))
+    let bytes = c .before .before .before .record-bytes .ensures in
+    let records = c .before .before .records .ensures in
+    let section = section-is (args .h) (loop′ .k) _ _ _ (loop′ .inv .1) bytes records (args .at) (args .n) in
+    let turn = any-turn _ _ _ (c .before .before .before .before .loop-test .taken) (loop′ .inv .2) (c .before .one-of-section .ensures ∙ section) (c .if1 .left) in
+    (turn .0, section-next (args .h) (loop′ .k) _ _ _ (loop′ .inv .1) bytes records, turn .1)
 
 returns-2 : tie.Need-returns-2 Inv-loop μ-loop
 unfolding covers
-returns-2 c = let e : c .before .loop .k ≡ 5 = omega arith in
-    sym (rw e at (c .before .loop .inv .2))
+returns-2 c = any-out _ _ _ (c .before .loop .inv .0) (c .loop-test .left) (c .before .loop .inv .2)
 
 pub covers-spec : {M : Type 1} → statement M
 covers-spec =

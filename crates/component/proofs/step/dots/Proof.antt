@@ -62,7 +62,8 @@ returns-2 c =
     let args = c .before .before .before .before .before .before .before .before .before .before .before .args in
     let is-bare = c .before .before .before .before .before .before .is-bare in
     let if1 = c .before .before .before .before .before .if1 in
-    dots-stay (viewOf (args .h) (args .s .now)) _ (positionOf (args .w)) (part (args .w .path) (args .a) (args .e - args .a)) (restFrom (args .w) (args .e)) (sym (is-bare .ensures) ∙ if1 .left) (sym (c .before .before .is-dot .ensures) ∙ c .before .if2 .taken) (c .advance .ensures)
+    dots-stay (viewOf (args .h) (args .s .now)) _ (positionOf (args .w)) (part (args .w .path) (args .a) (args .e - args .a)) (restFrom (args .w) (args .e))
+    (sym (is-bare .ensures) ∙ if1 .left) (sym (c .before .before .is-dot .ensures) ∙ c .before .if2 .taken) (c .advance .ensures)
 
 inode-requires : tie.Need-inode-requires
 inode-requires c κs = search needs
@@ -85,7 +86,8 @@ returns-3 c =
     let if1 = c .before .before .before .before .before .before .before .if1 in
     let is-dot = c .before .before .before .before .is-dot in
     let if2 = c .before .before .before .if2 in
-    dots-up (viewOf (args .h) (args .s .now)) _ (positionOf (args .w)) (part (args .w .path) (args .a) (args .e - args .a)) (restFrom (args .w) (args .e)) _ (sym (is-bare .ensures) ∙ if1 .left) (sym (is-dot .ensures) ∙ if2 .left) (field-of inodeField (c .before .before .inode .ensures) (c .before .field .ensures .0)) (c .advance2 .ensures)
+    dots-up (viewOf (args .h) (args .s .now)) _ (positionOf (args .w)) (part (args .w .path) (args .a) (args .e - args .a)) (restFrom (args .w) (args .e)) _
+    (sym (is-bare .ensures) ∙ if1 .left) (sym (is-dot .ensures) ∙ if2 .left) (field-of inodeField (c .before .before .inode .ensures) (c .before .field .ensures .0)) (c .advance2 .ensures)
 
 pub dots-spec : {M : Type 1} → statement M
 dots-spec =

@@ -1,17 +1,35 @@
 -- `component::step::enter` meets its contract. Assumes nothing.
-use mathlib.Core.Path.{sym, _∙_, ap}
+use mathlib.Core.Path.{_≡_, sym, _∙_, ap}
+use mathlib.Core.Bool.{true}
+use Prim.Native.Nat.{_<_}
 use native.Mathlib.Omega.{arith}
 use lib.ListN.{length}
 use borrow.Author.Needs.{needs}
 use Rattle.seq.specs.BytesLaws.{part-length}
 use Rattle.layout.specs.Fields.{inodeKind, inodeField, textLength, textBytes}
 use Rattle.layout.specs.RecordLaws.{field-of}
-use Rattle.layout.specs.View.{viewOf, textAt}
+use Rattle.layout.specs.View.{viewOf, textAt, isSymlink}
 use Rattle.layout.specs.ViewLaws.{is-kind, is-other}
 use Rattle.component.specs.State.{positionOf, restFrom}
 use Rattle.component.specs.Turns.{enters-link, enters-other}
 use Rattle.component.proofs.step.enter.Statement.{statement}
 use Rattle.component.proofs.step.enter.Tie as tie
+
+abbrev start : tie.At-match-keys1 → tie.Start
+start c = c .before .before .before .before
+
+-- by its type the target is a symlink, and the text that it names is there
+is-link : (c : tie.At-match-keys1) → isSymlink (viewOf (start c .args .h) (start c .args .s .now)) (start c .args .target) ≡ true
+unfolding viewOf
+is-link c =
+    let says = field-of inodeKind (c .before .before .inode .ensures) (c .before .kind .ensures) in
+    is-kind (start c .args .h) (start c .args .s .now) (start c .args .target) 3 (start c .pre .3) (sym says ∙ c .match .keys1)
+
+text-there : (c : tie.After-field) → c .field .result < start (c .before) .args .h .texts
+unfolding viewOf
+text-there c =
+    let f = field-of inodeField (c .before .before .before .inode .ensures) (c .field .ensures .0) in
+    rw (← f) at (start (c .before) .pre .0 .symlinks (start (c .before) .args .target) (is-link (c .before)))
 
 inode-requires : tie.Need-inode-requires
 inode-requires c κs = search needs
@@ -24,38 +42,22 @@ field-requires c κs = search needs
 
 text-requires : tie.Need-text-requires
 unfolding viewOf
-text-requires c κs =
-    let args = c .before .before .before .before .before .args in
-    let pre = c .before .before .before .before .before .pre in
-    let inode = c .before .before .before .inode in
-    let f = field-of inodeField (inode .ensures) (c .field .ensures .0) in
-    (pre .0 .laid, rw (← f) at (pre .0 .symlinks (args .target) (is-kind (args .h) (args .s .now) (args .target) 3 (pre .3) (sym (field-of inodeKind (inode .ensures) (c .before .before .kind .ensures)) ∙ c .before .match .keys1))))
+text-requires c κs = (start (c .before) .pre .0 .laid, text-there c)
 
 bytes-requires : tie.Need-bytes-requires
 unfolding viewOf
 bytes-requires c κs =
-    let args = c .before .before .before .before .before .before .args in
-    let pre = c .before .before .before .before .before .before .pre in
-    let inode = c .before .before .before .before .inode in
-    let kind = c .before .before .before .kind in
-    let field = c .before .field in
-    let f = field-of inodeField (inode .ensures) (field .ensures .0) in
+    let pre = start (c .before .before) .pre in
     let t = ap textLength (c .text .ensures .is) in
-    omega (arith, c .text .ensures .long, pre .0 .texts (field .result) (rw (← f) at (pre .0 .symlinks (args .target) (is-kind (args .h) (args .s .now) (args .target) 3 (pre .3) (sym (field-of inodeKind (inode .ensures) (kind .ensures)) ∙ c .before .before .match .keys1)))))
+    omega (arith, c .text .ensures .long, pre .0 .texts (c .before .field .result) (text-there (c .before)))
 
 follow-requires : tie.Need-follow-requires
 unfolding viewOf
 follow-requires c κs =
-    let args = c .before .before .before .before .before .before .before .args in
-    let pre = c .before .before .before .before .before .before .before .pre in
-    let inode = c .before .before .before .before .before .inode in
-    let kind = c .before .before .before .before .kind in
-    let match′ = c .before .before .before .match in
-    let field = c .before .before .field in
+    let pre = start (c .before .before .before) .pre in
     let text = c .before .text in
-    let f = field-of inodeField (inode .ensures) (field .ensures .0) in
     let t = ap textLength (text .ensures .is) in
-    let few = pre .0 .texts (field .result) (rw (← f) at (pre .0 .symlinks (args .target) (is-kind (args .h) (args .s .now) (args .target) 3 (pre .3) (sym (field-of inodeKind (inode .ensures) (kind .ensures)) ∙ match′ .keys1)))) in
+    let few = pre .0 .texts (c .before .before .field .result) (text-there (c .before .before)) in
     let l = ap (λ x. length x) (c .bytes .ensures) ∙ part-length (text .result .now) 1 (textLength (text .result .now)) (omega (arith, text .ensures .long)) in
     (search needs, search needs, omega arith)
 
@@ -65,24 +67,20 @@ advance-requires c κs = search needs
 returns : tie.Need-returns
 unfolding viewOf
 returns c =
-    let args = c .before .before .before .before .before .before .before .before .args in
-    let pre = c .before .before .before .before .before .before .before .before .pre in
+    let at = start (c .before .before .before .before) in
     let inode = c .before .before .before .before .before .before .inode in
-    let kind = c .before .before .before .before .before .kind in
-    let match′ = c .before .before .before .before .match in
-    let field = c .before .before .before .field in
-    let f = field-of inodeField (inode .ensures) (field .ensures .0) in
-    let x = c .before .bytes .ensures ∙ ap textBytes (c .before .before .text .ensures .is) ∙ ap (λ i. textBytes (textAt (args .h) (args .s .now) i)) f in
-    enters-link (viewOf (args .h) (args .s .now)) _ (positionOf (args .w)) (restFrom (args .w) (args .e)) _ (args .target) (is-kind (args .h) (args .s .now) (args .target) 3 (pre .3) (sym (field-of inodeKind (inode .ensures) (kind .ensures)) ∙ match′ .keys1)) x (c .follow .ensures)
+    let f = field-of inodeField (inode .ensures) (c .before .before .before .field .ensures .0) in
+    let x = c .before .bytes .ensures ∙ ap textBytes (c .before .before .text .ensures .is) ∙ ap (λ i. textBytes (textAt (at .args .h) (at .args .s .now) i)) f in
+    enters-link (viewOf (at .args .h) (at .args .s .now)) _ (positionOf (at .args .w)) (restFrom (at .args .w) (at .args .e)) _ (at .args .target)
+    (is-link (c .before .before .before .before)) x (c .follow .ensures)
 
 returns-2 : tie.Need-returns-2
 unfolding viewOf
 returns-2 c =
     let args = c .before .before .before .before .before .args in
-    let pre = c .before .before .before .before .before .pre in
-    let inode = c .before .before .before .inode in
-    let k = field-of inodeKind (inode .ensures) (c .before .before .kind .ensures) in
-    enters-other (viewOf (args .h) (args .s .now)) _ (positionOf (args .w)) (restFrom (args .w) (args .e)) (args .target) (is-other (args .h) (args .s .now) (args .target) 3 (pre .3) (λ e. c .before .match .rest .1 (k ∙ e))) (c .advance .ensures)
+    let k = field-of inodeKind (c .before .before .before .inode .ensures) (c .before .before .kind .ensures) in
+    let other = is-other (args .h) (args .s .now) (args .target) 3 (c .before .before .before .before .before .pre .3) (λ e. c .before .match .rest .1 (k ∙ e)) in
+    enters-other (viewOf (args .h) (args .s .now)) _ (positionOf (args .w)) (restFrom (args .w) (args .e)) (args .target) other (c .advance .ensures)
 
 pub enter-spec : {M : Type 1} → statement M
 enter-spec =

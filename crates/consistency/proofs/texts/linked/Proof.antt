@@ -1,11 +1,11 @@
 -- `consistency::texts::linked` meets its contract. Assumes nothing.
-use mathlib.Core.Path.{_≡_, sym, _∙_}
+-- Invariant: no inode before i is a symlink with text t. Measure: the inodes left.
+use mathlib.Core.Path.{_≡_}
 use mathlib.Core.Bool.{false}
 use Prim.Native.Nat.{_≤_, _-_}
-use native.Mathlib.Omega.{arith}
 use borrow.Author.Needs.{needs}
 use Rattle.seq.specs.Search.{any}
-use Rattle.seq.specs.SearchLaws.{any-none, any-miss, any-hit}
+use Rattle.seq.specs.SearchLaws.{any-none, any-turn, any-found, any-out}
 use Rattle.layout.specs.View.{viewOf}
 use Rattle.tree.specs.Tree.{hasText}
 use Rattle.consistency.specs.Sound.{textLinked}
@@ -27,7 +27,7 @@ has-text-requires c κs = search needs
 
 returns : tie.Need-returns Inv-loop μ-loop
 unfolding textLinked viewOf
-returns c = sym (any-hit _ _ _ (c .before .before .loop-test .taken) (sym (c .before .has-text .ensures) ∙ c .if1 .taken))
+returns c = any-found _ _ _ (c .before .before .loop-test .taken) (c .before .has-text .ensures) (c .if1 .taken)
 
 add-i : tie.Need-add-i Inv-loop μ-loop
 add-i c = search needs
@@ -37,12 +37,11 @@ loop-less c = search needs
 
 loop-again : tie.Need-loop-again Inv-loop μ-loop
 unfolding viewOf
-loop-again c = (search needs, any-miss _ _ (c .before .before .before .loop .inv .1) (sym (c .before .has-text .ensures) ∙ c .if1 .left))
+loop-again c = any-turn _ _ _ (c .before .before .loop-test .taken) (c .before .before .before .loop .inv .1) (c .before .has-text .ensures) (c .if1 .left)
 
 returns-2 : tie.Need-returns-2 Inv-loop μ-loop
 unfolding textLinked viewOf
-returns-2 c = let e : c .before .loop .i ≡ c .before .before .before .args .h .inodes = omega arith in
-    sym (rw e at (c .before .loop .inv .1))
+returns-2 c = any-out _ _ _ (c .before .loop .inv .0) (c .loop-test .left) (c .before .loop .inv .1)
 
 pub linked-spec : {M : Type 1} → statement M
 linked-spec =

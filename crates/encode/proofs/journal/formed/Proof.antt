@@ -1,4 +1,5 @@
 -- `encode::journal::formed` meets its contract. Assumes nothing.
+use mathlib.Core.Bool.{and-false}
 use borrow.Author.Needs.{needs}
 use borrow.Author.Tests.{eq-eqb, ne-eqb}
 use Rattle.seq.specs.Truth.{fails, holds}
@@ -18,11 +19,7 @@ all-zero-requires c κs = search needs
 
 returns-2 : tie.Need-returns-2
 unfolding journalFormed
-returns-2 c =
-    simp (
-      eq-eqb _ _ (c .before .before .if1 .left),
-      fails (c .before .all-zero .ensures) (c .if2 .taken),
-    )
+returns-2 c = simp (and-false, fails (c .before .all-zero .ensures) (c .if2 .taken))
 
 all-zero-requires-2 : tie.Need-all-zero-requires-2
 all-zero-requires-2 c κs = search needs

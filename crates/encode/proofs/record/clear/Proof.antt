@@ -1,4 +1,5 @@
 -- `encode::record::clear` meets its contract. Assumes nothing.
+-- Invariant: the first k bytes are zero, the others as they were, and none was added. Measure: the bytes left.
 use mathlib.Core.Path.{_≡_, refl, sym}
 use Prim.Native.Nat.{_≤_, _-_}
 use native.Mathlib.Omega.{arith}

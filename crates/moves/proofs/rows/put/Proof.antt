@@ -34,8 +34,12 @@ same-length c = search needs
 returns : tie.Need-returns
 returns c =
     let args = c .before .before .before .before .before .before .before .before .before .before .before .before .before .before .before .before .before .before .before .before .before .before .before .args in
-    planned-filled (args .h) (args .s .now) (args .m) (args .called .now) (args .plan .now) (c .before .before .before .before .before .before .before .before .before .before .before .before .before .before .before .before .before .before .clear .ensures)
-    (rename-filled (args .h) (args .s .now) (args .m) (args .called .now) (c .before .before .before .before .before .before .before .before .before .before .before .before .before .before .put-journal .ensures) (c .before .before .before .before .before .before .before .before .before .before .put-entry .ensures) (c .before .before .before .before .before .before .put .ensures) (c .before .before .put-clear .ensures))
+    let cleared = c .before .before .before .before .before .before .before .before .before .before .before .before .before .before .before .before .before .before .clear .ensures in
+    let journal = c .before .before .before .before .before .before .before .before .before .before .before .before .before .before .put-journal .ensures in
+    let entry = c .before .before .before .before .before .before .before .before .before .before .put-entry .ensures in
+    let results = c .before .before .before .before .before .before .put .ensures in
+    planned-filled (args .h) (args .s .now) (args .m) (args .called .now) (args .plan .now) cleared
+    (rename-filled (args .h) (args .s .now) (args .m) (args .called .now) journal entry results (c .before .before .put-clear .ensures))
 
 pub put-spec : {M : Type 1} → statement M
 put-spec =

@@ -1,11 +1,11 @@
 -- `paths::find::find` meets its contract. Assumes nothing.
+-- Invariant: no entry before j has the name in directory d. Measure: the entries left.
 use mathlib.Core.Path.{_≡_, sym, _∙_}
 use mathlib.Core.Bool.{false}
 use Prim.Native.Nat.{_≤_, _-_}
-use native.Mathlib.Omega.{arith}
 use borrow.Author.Needs.{needs}
 use Rattle.seq.specs.Search.{any}
-use Rattle.seq.specs.SearchLaws.{any-none, any-miss, first-hit, first-none}
+use Rattle.seq.specs.SearchLaws.{any-none, any-turn, first-hit, first-out}
 use Rattle.layout.specs.View.{viewOf}
 use Rattle.paths.specs.Lookup.{isNamed, lookup}
 use Rattle.paths.proofs.find.find.Statement.{statement}
@@ -36,12 +36,11 @@ loop-less : tie.Need-loop-less Inv-loop μ-loop
 loop-less c = search needs
 
 loop-again : tie.Need-loop-again Inv-loop μ-loop
-loop-again c = (search needs, any-miss _ _ (c .before .before .before .loop .inv .1) (sym (c .before .is-named .ensures) ∙ c .if1 .left))
+loop-again c = any-turn _ _ _ (c .before .before .loop-test .taken) (c .before .before .before .loop .inv .1) (c .before .is-named .ensures) (c .if1 .left)
 
 returns-2 : tie.Need-returns-2 Inv-loop μ-loop
 unfolding lookup viewOf
-returns-2 c = let e : c .before .loop .j ≡ c .before .before .before .before .args .h .entries = omega arith in
-    (e ∙ sym (first-none _ _ (rw e at (c .before .loop .inv .1))), search needs)
+returns-2 c = (first-out _ _ _ (c .before .loop .inv .0) (c .loop-test .left) (c .before .loop .inv .1), search needs)
 
 pub find-spec : {M : Type 1} → statement M
 find-spec =

@@ -1,13 +1,13 @@
 -- `paths::path::name_bytes` meets its contract. Assumes nothing.
-use mathlib.Core.Path.{_≡_, sym, _∙_}
+-- Invariant: no byte before k is a slash. Measure: the bytes left.
+use mathlib.Core.Path.{_≡_, sym}
 use mathlib.Core.Bool.{false}
 use Prim.Native.Nat.{_≤_, _-_}
-use native.Mathlib.Omega.{arith}
 use lib.ListN.{length, getD}
 use borrow.Author.Needs.{needs}
 use borrow.Author.Tests.{eq-eqb, ne-eqb}
 use Rattle.seq.specs.Search.{any}
-use Rattle.seq.specs.SearchLaws.{any-none, any-miss, first-hit, first-none}
+use Rattle.seq.specs.SearchLaws.{any-none, any-miss, first-hit, first-out}
 use Rattle.paths.specs.Path.{isSlash, untilSlash}
 use Rattle.paths.proofs.path.name_bytes.Statement.{statement}
 use Rattle.paths.proofs.path.name_bytes.Tie as tie
@@ -41,8 +41,7 @@ loop-again c = (search needs, any-miss _ _ (c .before .before .before .loop .inv
 
 returns-2 : tie.Need-returns-2 Inv-loop μ-loop
 unfolding untilSlash
-returns-2 c = let e : c .before .loop .k ≡ length (c .before .before .args .p .now) = omega arith in
-    (e ∙ sym (first-none _ _ (rw e at (c .before .loop .inv .1))), search needs)
+returns-2 c = (first-out _ _ _ (c .before .loop .inv .0) (c .loop-test .left) (c .before .loop .inv .1), search needs)
 
 pub name-bytes-spec : {M : Type 1} → statement M
 name-bytes-spec =

@@ -1,4 +1,5 @@
 -- `paths::request::good` meets its contract. Assumes nothing.
+use mathlib.Core.Bool.{and-false}
 use borrow.Author.Needs.{needs}
 use Rattle.seq.specs.Truth.{fails, holds}
 use Rattle.paths.specs.Request.{requestGood}
@@ -20,11 +21,7 @@ no-zero-requires c κs = search needs
 
 returns-2 : tie.Need-returns-2
 unfolding requestGood
-returns-2 c =
-    simp (
-      holds (c .before .before .before .is-directory .ensures) (c .before .before .if1 .left),
-      fails (c .before .no-zero .ensures) (c .if2 .taken),
-    )
+returns-2 c = simp (and-false, fails (c .before .no-zero .ensures) (c .if2 .taken))
 
 no-zero-requires-2 : tie.Need-no-zero-requires-2
 no-zero-requires-2 c κs = search needs

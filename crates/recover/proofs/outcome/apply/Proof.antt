@@ -1,4 +1,5 @@
--- `recover::outcome::apply` meets its contract: what is left to apply gives the same image. Assumes nothing.
+-- `recover::outcome::apply` meets its contract. Assumes nothing.
+-- Invariant: the rows from i on, over the image so far, give what all rows give over the first; its length stays. Measure: the rows left.
 use mathlib.Core.Path.{_≡_, sym, ap, _∙_}
 use mathlib.Core.List.{List}
 use Prim.Native.Nat.{ℕ, _+_, _-_, _≤_}

@@ -1,5 +1,6 @@
 -- `refusals::target::busy` meets its contract. Assumes nothing.
 use mathlib.Core.Path.{sym, _∙_}
+use mathlib.Core.Bool.{and-false}
 use borrow.Author.Tests.{eq-eqb, ne-eqb}
 use borrow.Author.Needs.{needs}
 use Rattle.refusals.proofs.target.busy.Statement.{statement}
@@ -12,7 +13,7 @@ entries-of-requires : tie.Need-entries-of-requires
 entries-of-requires c κs = search needs
 
 returns-2 : tie.Need-returns-2
-returns-2 c = simp (ne-eqb _ _ (c .before .before .if1 .left), ne-eqb _ _ (λ e. c .if2 .taken (c .before .entries-of .ensures ∙ e)))
+returns-2 c = simp (and-false, ne-eqb _ _ (λ e. c .if2 .taken (c .before .entries-of .ensures ∙ e)))
 
 returns-3 : tie.Need-returns-3
 returns-3 c =

@@ -1,4 +1,5 @@
 -- `refusals::target::full_parent` meets its contract. Assumes nothing.
+use mathlib.Core.Bool.{and-false}
 use borrow.Author.Tests.{eq-eqb, ne-eqb}
 use borrow.Author.Needs.{needs}
 use Rattle.seq.specs.Truth.{fails, holds}
@@ -15,15 +16,10 @@ returns : tie.Need-returns
 returns c = simp (fails (c .before .is-directory .ensures) (c .if1 .taken))
 
 returns-2 : tie.Need-returns-2
-returns-2 c = simp (holds (c .before .before .before .is-directory .ensures) (c .before .before .if1 .left), eq-eqb _ _ (c .if2 .taken))
+returns-2 c = simp (and-false, eq-eqb _ _ (c .if2 .taken))
 
 returns-3 : tie.Need-returns-3
-returns-3 c =
-    simp (
-      holds (c .before .before .before .before .before .is-directory .ensures) (c .before .before .before .before .if1 .left),
-      ne-eqb _ _ (c .before .before .if2 .left),
-      ne-eqb _ _ (c .if3 .taken),
-    )
+returns-3 c = simp (and-false, ne-eqb _ _ (c .if3 .taken))
 
 inode-requires : tie.Need-inode-requires
 inode-requires c κs = search needs

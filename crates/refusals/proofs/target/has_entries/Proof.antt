@@ -1,11 +1,11 @@
 -- `refusals::target::has_entries` meets its contract. Assumes nothing.
-use mathlib.Core.Path.{_≡_, sym, _∙_}
+-- Invariant: no entry before j lies in directory d. Measure: the entries left.
+use mathlib.Core.Path.{_≡_}
 use mathlib.Core.Bool.{false}
 use Prim.Native.Nat.{_≤_, _-_}
-use native.Mathlib.Omega.{arith}
 use borrow.Author.Needs.{needs}
 use Rattle.seq.specs.Search.{any}
-use Rattle.seq.specs.SearchLaws.{any-none, any-miss, any-hit}
+use Rattle.seq.specs.SearchLaws.{any-none, any-turn, any-found, any-out}
 use Rattle.layout.specs.View.{viewOf}
 use Rattle.refusals.specs.Case.{entryIn, hasEntries}
 use Rattle.refusals.proofs.target.has_entries.Statement.{statement}
@@ -25,7 +25,7 @@ entry-in-requires c κs = search needs
 
 returns : tie.Need-returns Inv-loop μ-loop
 unfolding hasEntries viewOf
-returns c = sym (any-hit _ _ _ (c .before .before .loop-test .taken) (sym (c .before .entry-in .ensures) ∙ c .if1 .taken))
+returns c = any-found _ _ _ (c .before .before .loop-test .taken) (c .before .entry-in .ensures) (c .if1 .taken)
 
 add-j : tie.Need-add-j Inv-loop μ-loop
 add-j c = search needs
@@ -34,13 +34,11 @@ loop-less : tie.Need-loop-less Inv-loop μ-loop
 loop-less c = search needs
 
 loop-again : tie.Need-loop-again Inv-loop μ-loop
-loop-again c = (search needs, any-miss _ _ (c .before .before .before .loop .inv .1) (sym (c .before .entry-in .ensures) ∙ c .if1 .left))
+loop-again c = any-turn _ _ _ (c .before .before .loop-test .taken) (c .before .before .before .loop .inv .1) (c .before .entry-in .ensures) (c .if1 .left)
 
 returns-2 : tie.Need-returns-2 Inv-loop μ-loop
 unfolding hasEntries viewOf
-returns-2 c =
-    let e : c .before .loop .j ≡ c .before .before .before .args .h .entries = omega arith in
-    sym (rw e at (c .before .loop .inv .1))
+returns-2 c = any-out _ _ _ (c .before .loop .inv .0) (c .loop-test .left) (c .before .loop .inv .1)
 
 pub has-entries-spec : {M : Type 1} → statement M
 has-entries-spec =

@@ -1,11 +1,11 @@
 -- `refusals::target::is_opened` meets its contract. Assumes nothing.
-use mathlib.Core.Path.{_≡_, sym, _∙_}
+-- Invariant: no handle before n is open on inode i. Measure: the handles left.
+use mathlib.Core.Path.{_≡_}
 use mathlib.Core.Bool.{false}
 use Prim.Native.Nat.{_≤_, _-_}
-use native.Mathlib.Omega.{arith}
 use borrow.Author.Needs.{needs}
 use Rattle.seq.specs.Search.{any}
-use Rattle.seq.specs.SearchLaws.{any-none, any-miss, any-hit}
+use Rattle.seq.specs.SearchLaws.{any-none, any-turn, any-found, any-out}
 use Rattle.layout.specs.View.{viewOf}
 use Rattle.refusals.specs.Case.{openOn, isOpened}
 use Rattle.refusals.proofs.target.is_opened.Statement.{statement}
@@ -25,7 +25,7 @@ open-on-requires c κs = search needs
 
 returns : tie.Need-returns Inv-loop μ-loop
 unfolding isOpened viewOf
-returns c = sym (any-hit _ _ _ (c .before .before .loop-test .taken) (sym (c .before .open-on .ensures) ∙ c .if1 .taken))
+returns c = any-found _ _ _ (c .before .before .loop-test .taken) (c .before .open-on .ensures) (c .if1 .taken)
 
 add-n : tie.Need-add-n Inv-loop μ-loop
 add-n c = search needs
@@ -34,13 +34,11 @@ loop-less : tie.Need-loop-less Inv-loop μ-loop
 loop-less c = search needs
 
 loop-again : tie.Need-loop-again Inv-loop μ-loop
-loop-again c = (search needs, any-miss _ _ (c .before .before .before .loop .inv .1) (sym (c .before .open-on .ensures) ∙ c .if1 .left))
+loop-again c = any-turn _ _ _ (c .before .before .loop-test .taken) (c .before .before .before .loop .inv .1) (c .before .open-on .ensures) (c .if1 .left)
 
 returns-2 : tie.Need-returns-2 Inv-loop μ-loop
 unfolding isOpened viewOf
-returns-2 c =
-    let e : c .before .loop .n ≡ c .before .before .before .args .h .handles = omega arith in
-    sym (rw e at (c .before .loop .inv .1))
+returns-2 c = any-out _ _ _ (c .before .loop .inv .0) (c .loop-test .left) (c .before .loop .inv .1)
 
 pub is-opened-spec : {M : Type 1} → statement M
 is-opened-spec =

@@ -1,12 +1,12 @@
--- `rename::found::free_slot` meets its contract: none of the slots passed is free. Assumes nothing.
+-- `rename::found::free_slot` meets its contract. Assumes nothing.
+-- Invariant: no slot before j is free. Measure: the slots left.
 use mathlib.Core.Path.{_≡_, sym, _∙_}
 use mathlib.Core.Bool.{false, not}
 use Prim.Native.Nat.{_≤_, _-_}
-use native.Mathlib.Omega.{arith}
 use borrow.Author.Needs.{needs}
 use borrow.Author.Tests.{eq-eqb, ne-eqb}
 use Rattle.seq.specs.Search.{any}
-use Rattle.seq.specs.SearchLaws.{any-none, any-miss, first-hit, first-none}
+use Rattle.seq.specs.SearchLaws.{any-none, any-miss, first-hit, first-out}
 use Rattle.layout.specs.Fields.{entryNameLength}
 use Rattle.layout.specs.RecordLaws.{field-of}
 use Rattle.layout.specs.View.{viewOf, entryUsed}
@@ -51,9 +51,7 @@ loop-again c =
 
 returns-2 : tie.Need-returns-2 Inv-loop μ-loop
 unfolding freeSlot viewOf
-returns-2 c =
-    let e : c .before .loop .j ≡ c .before .before .before .args .h .entries = omega arith in
-    (e ∙ sym (first-none _ _ (rw e at (c .before .loop .inv .1))), search needs)
+returns-2 c = (first-out _ _ _ (c .before .loop .inv .0) (c .loop-test .left) (c .before .loop .inv .1), search needs)
 
 pub free-slot-spec : {M : Type 1} → statement M
 free-slot-spec =

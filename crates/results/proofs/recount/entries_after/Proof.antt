@@ -1,11 +1,12 @@
 -- `results::recount::entries_after` meets its contract. Assumes nothing.
-use mathlib.Core.Path.{ap, _≡_, sym, _∙_}
+-- Invariant: found is how many slots before j will target inode i, so at most j. Measure: the slots left.
+use mathlib.Core.Path.{_≡_, sym}
 use mathlib.Core.Logic.{⊎-elim}
-use Prim.Native.Nat.{_≤_, _-_, _+_}
+use Prim.Native.Nat.{_≤_, _-_}
 use native.Mathlib.Omega.{arith}
 use borrow.Author.Needs.{needs}
 use Rattle.seq.specs.Search.{count}
-use Rattle.seq.specs.SearchLaws.{count-none, count-hit, count-miss}
+use Rattle.seq.specs.SearchLaws.{count-none, count-turn, count-pass, count-out}
 use Rattle.layout.specs.View.{viewOf}
 use Rattle.results.specs.Results.{targetsAfter, entriesAfter}
 use Rattle.results.proofs.recount.entries_after.Statement.{statement}
@@ -34,22 +35,14 @@ loop-less c = search needs
 
 loop-again : tie.Need-loop-again Inv-loop μ-loop
 loop-again c =
-    let loop′ = c .before .before .before .loop in
-    let targets-after = c .before .targets-after in
-    let i = loop′ .inv in
-    ⊎-elim
-    (λ w. (omega arith, omega arith, w .1 ∙ ap (λ k. k + 1) (i .2) ∙ sym (count-hit _ _ (sym (targets-after .ensures) ∙ w .0 .taken))))
-    (λ w. (omega arith, omega arith, w .1 ∙ i .2 ∙ sym (count-miss _ _ (sym (targets-after .ensures) ∙ w .0 .left))))
-    (c .if1 .came)
+    let below = c .before .before .loop-test .taken in
+    let inv = c .before .before .before .loop .inv in
+    ⊎-elim (λ w. count-turn _ _ _ _ _ below (inv .1) (inv .2) (c .before .targets-after .ensures) (w .0 .taken) (w .1))
+    (λ w. count-pass _ _ _ _ _ below (inv .1) (inv .2) (c .before .targets-after .ensures) (w .0 .left) (w .1)) (c .if1 .came)
 
 returns : tie.Need-returns Inv-loop μ-loop
 unfolding entriesAfter viewOf
-returns c =
-    let args = c .before .before .before .args in
-    let pre = c .before .before .before .pre in
-    let loop′ = c .before .loop in
-    let e : loop′ .j ≡ args .h .entries = omega arith in
-    (loop′ .inv .2 ∙ ap (λ k. count (targetsAfter (viewOf (args .h) (args .s .now)) (args .m) (args .i)) k) e, omega (arith, pre .entries-most))
+returns c = (count-out _ _ _ (c .before .loop .inv .0) (c .loop-test .left) _ (c .before .loop .inv .2), omega (arith, c .before .before .before .pre .entries-most))
 
 pub entries-after-spec : {M : Type 1} → statement M
 entries-after-spec =

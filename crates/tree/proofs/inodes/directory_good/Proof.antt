@@ -1,5 +1,6 @@
 -- `tree::inodes::directory_good` meets its contract. Assumes nothing.
 use mathlib.Core.Path.{sym, _∙_, ap}
+use mathlib.Core.Bool.{and-false}
 use Prim.Native.Nat.{_+_}
 use borrow.Author.Needs.{needs}
 use borrow.Author.Tests.{eq-eqb, ne-eqb, lt-ltb, le-ltb, le-leb, lt-leb}
@@ -25,13 +26,7 @@ links-requires c κs = search needs
 
 returns-2 : tie.Need-returns-2
 unfolding directoryGood viewOf
-returns-2 c =
-    let inode = c .before .before .before .before .inode in
-    let mode = c .before .before .before .mode in
-    simp (
-      lt-ltb _ _ (rw (field-of inodeMode (inode .ensures) (mode .ensures .0)) at (c .before .before .if1 .left)),
-      lt-leb _ _ (rw (field-of inodeLinks (inode .ensures) (c .before .links .ensures .0)) at (c .if2 .taken)),
-    )
+returns-2 c = simp (and-false, lt-leb _ _ (rw (field-of inodeLinks (c .before .before .before .before .inode .ensures) (c .before .links .ensures .0)) at (c .if2 .taken)))
 
 child-directories-requires : tie.Need-child-directories-requires
 child-directories-requires c κs = search needs
@@ -42,17 +37,9 @@ add-if3 c = search needs
 returns-3 : tie.Need-returns-3
 unfolding directoryGood viewOf
 returns-3 c =
-    let inode = c .before .before .before .before .before .before .inode in
-    let mode = c .before .before .before .before .before .mode in
-    let if1 = c .before .before .before .before .if1 in
-    let links = c .before .before .before .links in
-    let l = field-of inodeLinks (inode .ensures) (links .ensures .0) in
+    let l = field-of inodeLinks (c .before .before .before .before .before .before .inode .ensures) (c .before .before .before .links .ensures .0) in
     let k = c .before .child-directories .ensures .0 in
-    simp (
-      lt-ltb _ _ (rw (field-of inodeMode (inode .ensures) (mode .ensures .0)) at (if1 .left)),
-      le-leb _ _ (rw (field-of inodeLinks (inode .ensures) (links .ensures .0)) at (c .before .before .if2 .left)),
-      ne-eqb _ _ (λ e. c .if3 .taken (l ∙ e ∙ ap (λ m. 2 + m) (sym k))),
-    )
+    simp (and-false, ne-eqb _ _ (λ e. c .if3 .taken (l ∙ e ∙ ap (λ m. 2 + m) (sym k))))
 
 directory-placed-requires : tie.Need-directory-placed-requires
 directory-placed-requires c κs = search needs
@@ -69,7 +56,7 @@ returns-4 c =
     let k = c .before .before .child-directories .ensures .0 in
     simp (
       lt-ltb _ _ (rw (field-of inodeMode (inode .ensures) (mode .ensures .0)) at (if1 .left)),
-      le-leb _ _ (rw (field-of inodeLinks (inode .ensures) (links .ensures .0)) at (if2 .left)),
+      le-leb _ _ (rw l at (if2 .left)),
       eq-eqb _ _ (sym l ∙ c .before .if3 .left ∙ ap (λ m. 2 + m) k),
       c .directory-placed .ensures,
     )

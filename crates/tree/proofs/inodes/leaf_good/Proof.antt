@@ -1,4 +1,5 @@
 -- `tree::inodes::leaf_good` meets its contract. Assumes nothing.
+use mathlib.Core.Bool.{and-false}
 use borrow.Author.Needs.{needs}
 use borrow.Author.Tests.{lt-ltb, le-ltb, le-leb, lt-leb}
 use Rattle.layout.specs.Fields.{inodeMode, inodeLinks}
@@ -23,26 +24,11 @@ links-requires c κs = search needs
 
 returns-2 : tie.Need-returns-2
 unfolding leafGood viewOf
-returns-2 c =
-    let inode = c .before .before .before .before .inode in
-    let mode = c .before .before .before .mode in
-    simp (
-      lt-ltb _ _ (rw (field-of inodeMode (inode .ensures) (mode .ensures .0)) at (c .before .before .if1 .left)),
-      lt-leb _ _ (rw (field-of inodeLinks (inode .ensures) (c .before .links .ensures .0)) at (c .if2 .taken)),
-    )
+returns-2 c = simp (and-false, lt-leb _ _ (rw (field-of inodeLinks (c .before .before .before .before .inode .ensures) (c .before .links .ensures .0)) at (c .if2 .taken)))
 
 returns-3 : tie.Need-returns-3
 unfolding leafGood viewOf
-returns-3 c =
-    let inode = c .before .before .before .before .before .inode in
-    let mode = c .before .before .before .before .mode in
-    let if1 = c .before .before .before .if1 in
-    let links = c .before .before .links in
-    simp (
-      lt-ltb _ _ (rw (field-of inodeMode (inode .ensures) (mode .ensures .0)) at (if1 .left)),
-      le-leb _ _ (rw (field-of inodeLinks (inode .ensures) (links .ensures .0)) at (c .before .if2 .left)),
-      lt-leb _ _ (rw (field-of inodeLinks (inode .ensures) (links .ensures .0)) at (c .if3 .taken)),
-    )
+returns-3 c = simp (and-false, lt-leb _ _ (rw (field-of inodeLinks (c .before .before .before .before .before .inode .ensures) (c .before .before .links .ensures .0)) at (c .if3 .taken)))
 
 entries-of-requires : tie.Need-entries-of-requires
 entries-of-requires c κs = search needs
@@ -53,13 +39,13 @@ returns-4 c =
     let inode = c .before .before .before .before .before .before .inode in
     let mode = c .before .before .before .before .before .mode in
     let if1 = c .before .before .before .before .if1 in
-    let links = c .before .before .before .links in
+    let n = field-of inodeLinks (inode .ensures) (c .before .before .before .links .ensures .0) in
     simp (
       lt-ltb _ _ (rw (field-of inodeMode (inode .ensures) (mode .ensures .0)) at (if1 .left)),
-      le-leb _ _ (rw (field-of inodeLinks (inode .ensures) (links .ensures .0)) at (c .before .before .if2 .left)),
-      le-leb _ _ (rw (field-of inodeLinks (inode .ensures) (links .ensures .0)) at (c .before .if3 .left)),
+      le-leb _ _ (rw n at (c .before .before .if2 .left)),
+      le-leb _ _ (rw n at (c .before .if3 .left)),
       c .entries-of .ensures,
-      field-of inodeLinks (inode .ensures) (links .ensures .0),
+      n,
     )
 
 pub leaf-good-spec : {M : Type 1} → statement M

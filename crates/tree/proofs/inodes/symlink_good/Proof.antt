@@ -1,5 +1,6 @@
 -- `tree::inodes::symlink_good` meets its contract. Assumes nothing.
 use mathlib.Core.Path.{sym, _∙_, ap}
+use mathlib.Core.Bool.{and-false}
 use borrow.Author.Needs.{needs}
 use borrow.Author.Tests.{lt-ltb, le-ltb}
 use Rattle.seq.specs.Truth.{fails, holds}
@@ -25,14 +26,7 @@ field-requires c κs = search needs
 
 returns-2 : tie.Need-returns-2
 unfolding symlinkGood viewOf
-returns-2 c =
-    let leaf-good = c .before .before .before .before .before .leaf-good in
-    let if1 = c .before .before .before .before .if1 in
-    let inode = c .before .before .before .inode in
-    simp (
-      holds (leaf-good .ensures) (if1 .left),
-      le-ltb _ _ (rw (field-of inodeField (inode .ensures) (c .before .before .field .ensures .0)) at (c .if2 .taken)),
-    )
+returns-2 c = simp (and-false, le-ltb _ _ (rw (field-of inodeField (c .before .before .before .inode .ensures) (c .before .before .field .ensures .0)) at (c .if2 .taken)))
 
 text-used-requires : tie.Need-text-used-requires
 text-used-requires c κs = search needs
@@ -41,15 +35,8 @@ returns-3 : tie.Need-returns-3
 unfolding symlinkGood viewOf
 returns-3 c =
     let args = c .before .before .before .before .before .before .before .before .before .args in
-    let leaf-good = c .before .before .before .before .before .before .before .leaf-good in
-    let if1 = c .before .before .before .before .before .before .if1 in
-    let inode = c .before .before .before .before .before .inode in
-    let field = c .before .before .before .before .field in
-    simp (
-      holds (leaf-good .ensures) (if1 .left),
-      lt-ltb _ _ (rw (field-of inodeField (inode .ensures) (field .ensures .0)) at (c .before .before .if2 .left)),
-      ap (λ x. textUsed (viewOf (args .h) (args .s .now)) x) (sym (field-of inodeField (inode .ensures) (field .ensures .0))) ∙ fails (c .before .text-used .ensures) (c .if3 .taken),
-    )
+    let f = field-of inodeField (c .before .before .before .before .before .inode .ensures) (c .before .before .before .before .field .ensures .0) in
+    simp (and-false, ap (λ x. textUsed (viewOf (args .h) (args .s .now)) x) (sym f) ∙ fails (c .before .text-used .ensures) (c .if3 .taken))
 
 text-shared-requires : tie.Need-text-shared-requires
 text-shared-requires c κs = search needs
@@ -60,13 +47,11 @@ returns-4 c =
     let args = c .before .before .before .before .before .before .before .before .before .before .args in
     let leaf-good = c .before .before .before .before .before .before .before .before .leaf-good in
     let if1 = c .before .before .before .before .before .before .before .if1 in
-    let inode = c .before .before .before .before .before .before .inode in
-    let field = c .before .before .before .before .before .field in
-    let if2 = c .before .before .before .if2 in
+    let f = field-of inodeField (c .before .before .before .before .before .before .inode .ensures) (c .before .before .before .before .before .field .ensures .0) in
     simp (
       holds (leaf-good .ensures) (if1 .left),
-      lt-ltb _ _ (rw (field-of inodeField (inode .ensures) (field .ensures .0)) at (if2 .left)),
-      ap (λ x. textUsed (viewOf (args .h) (args .s .now)) x) (sym (field-of inodeField (inode .ensures) (field .ensures .0))) ∙ holds (c .before .before .text-used .ensures) (c .before .if3 .left),
+      lt-ltb _ _ (rw f at (c .before .before .before .if2 .left)),
+      ap (λ x. textUsed (viewOf (args .h) (args .s .now)) x) (sym f) ∙ holds (c .before .before .text-used .ensures) (c .before .if3 .left),
       c .text-shared .ensures,
     )
 

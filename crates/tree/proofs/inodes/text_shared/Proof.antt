@@ -1,11 +1,11 @@
 -- `tree::inodes::text_shared` meets its contract. Assumes nothing.
-use mathlib.Core.Path.{_≡_, sym, _∙_}
+-- Invariant: no inode before k is a symlink with this text. Measure: the inodes left before i.
+use mathlib.Core.Path.{_≡_}
 use mathlib.Core.Bool.{false}
 use Prim.Native.Nat.{_≤_, _-_}
-use native.Mathlib.Omega.{arith}
 use borrow.Author.Needs.{needs}
 use Rattle.seq.specs.Search.{any}
-use Rattle.seq.specs.SearchLaws.{any-none, any-miss, any-hit}
+use Rattle.seq.specs.SearchLaws.{any-none, any-turn, any-found, any-out}
 use Rattle.layout.specs.Fields.{inodeField}
 use Rattle.layout.specs.RecordLaws.{field-of}
 use Rattle.layout.specs.View.{viewOf}
@@ -38,7 +38,7 @@ returns c =
     let inode = c .before .before .before .before .before .inode in
     let field = c .before .before .before .before .field in
     let f = field-of inodeField (inode .ensures) (field .ensures .0) in
-    sym (rw f at (any-hit (hasText (viewOf (args .h) (args .s .now)) (field .result)) _ _ (c .before .before .loop-test .taken) (sym (c .before .has-text .ensures) ∙ c .if1 .taken)))
+    rw f at (any-found (hasText (viewOf (args .h) (args .s .now)) (field .result)) _ _ (c .before .before .loop-test .taken) (c .before .has-text .ensures) (c .if1 .taken))
 
 add-k : tie.Need-add-k Inv-loop μ-loop
 add-k c = search needs
@@ -47,13 +47,12 @@ loop-less : tie.Need-loop-less Inv-loop μ-loop
 loop-less c = search needs
 
 loop-again : tie.Need-loop-again Inv-loop μ-loop
-loop-again c = (search needs, any-miss _ _ (c .before .before .before .loop .inv .1) (sym (c .before .has-text .ensures) ∙ c .if1 .left))
+loop-again c = any-turn _ _ _ (c .before .before .loop-test .taken) (c .before .before .before .loop .inv .1) (c .before .has-text .ensures) (c .if1 .left)
 
 returns-2 : tie.Need-returns-2 Inv-loop μ-loop
 unfolding textShared viewOf
 returns-2 c = let f = field-of inodeField (c .before .before .before .inode .ensures) (c .before .before .field .ensures .0) in
-    let e : c .before .loop .k ≡ c .before .before .before .before .before .args .i = omega arith in
-    sym (rw (e, f) at (c .before .loop .inv .1))
+    rw f at (any-out _ _ _ (c .before .loop .inv .0) (c .loop-test .left) (c .before .loop .inv .1))
 
 pub text-shared-spec : {M : Type 1} → statement M
 text-shared-spec =

@@ -1,4 +1,5 @@
--- `walk::resolve::run` meets its contract: what is left to walk gives the same end, and a budget falls. Assumes nothing.
+-- `walk::resolve::run` meets its contract. Assumes nothing.
+-- Invariant: the position fits and is ready for a step, and the walk from it ends as the walk from the first. Measure: the budget.
 use mathlib.Core.Path.{_≡_, sym, _∙_, refl}
 use native.Mathlib.Omega.{arith}
 use borrow.Author.Needs.{needs}
