@@ -62,15 +62,15 @@ fn follow(w: Walk, text: &[u8], e: usize) -> Turn
 }
 
 // A name ahead of others: the type number of what it names decides how the walk goes on.
-fn enter(s: &[u8], h: Shape, w: Walk, e: usize, target: usize) -> Turn
-    requires { ⌜ Readable h (now s) × ReadUpTo w e × (bare (restFrom w e) ≡ false) × (target < h .inodes) ⌝ }
-    ensures { λ r. ⌜ Turned r (enter (viewOf h (now (s .entry))) (positionOf w) (restFrom w e) target) ⌝ }
+fn enter(image: &[u8], h: Shape, w: Walk, e: usize, target: usize) -> Turn
+    requires { ⌜ Readable h (now image) × ReadUpTo w e × (bare (restFrom w e) ≡ false) × (target < h .inodes) ⌝ }
+    ensures { λ r. ⌜ Turned r (enter (viewOf h (now (image .entry))) (positionOf w) (restFrom w e) target) ⌝ }
 {
-    let inode = layout::records::inode(s, h, target);
+    let inode = layout::records::inode(image, h, target);
     let kind = layout::inode::kind(inode);
     match kind {
         3 => {
-            let text = layout::records::text(s, h, layout::inode::field(inode));
+            let text = layout::records::text(image, h, layout::inode::field(inode));
             follow(w, layout::text::bytes(text), e)
         }
         _ => state::advance(w, e, target),
@@ -78,14 +78,14 @@ fn enter(s: &[u8], h: Shape, w: Walk, e: usize, target: usize) -> Turn
 }
 
 // The final name exists: a slash behind it asks for a directory.
-fn arrive(s: &[u8], h: Shape, w: Walk, e: usize, slot: usize, target: usize) -> Turn
-    requires { ⌜ Readable h (now s) × ReadUpTo w e × (target ≡ viewOf h (now s) .target slot) × (target < h .inodes) ⌝ }
-    ensures { λ r. ⌜ Turned r (arrive (viewOf h (now (s .entry))) (positionOf w) (restFrom w e) slot) ⌝ }
+fn arrive(image: &[u8], h: Shape, w: Walk, e: usize, slot: usize, target: usize) -> Turn
+    requires { ⌜ Readable h (now image) × ReadUpTo w e × (target ≡ viewOf h (now image) .target slot) × (target < h .inodes) ⌝ }
+    ensures { λ r. ⌜ Turned r (arrive (viewOf h (now (image .entry))) (positionOf w) (restFrom w e) slot) ⌝ }
 {
     if e == w.len {
         return state::exists(w, slot, target, false);
     }
-    let inode = layout::records::inode(s, h, target);
+    let inode = layout::records::inode(image, h, target);
     let kind = layout::inode::kind(inode);
     match kind {
         2 => state::exists(w, slot, target, true),
@@ -94,18 +94,18 @@ fn arrive(s: &[u8], h: Shape, w: Walk, e: usize, slot: usize, target: usize) -> 
 }
 
 // The name that ends at index e is in slot.
-fn hit(s: &[u8], h: Shape, w: Walk, e: usize, slot: usize) -> Turn
-    requires { ⌜ Readable h (now s) × ReadUpTo w e × (slot < h .entries) × (entryUsed (viewOf h (now s)) slot ≡ true) ⌝ }
-    ensures { λ r. ⌜ Turned r (hit (viewOf h (now (s .entry))) (positionOf w) (restFrom w e) slot) ⌝ }
+fn hit(image: &[u8], h: Shape, w: Walk, e: usize, slot: usize) -> Turn
+    requires { ⌜ Readable h (now image) × ReadUpTo w e × (slot < h .entries) × (entryUsed (viewOf h (now image)) slot ≡ true) ⌝ }
+    ensures { λ r. ⌜ Turned r (hit (viewOf h (now (image .entry))) (positionOf w) (restFrom w e) slot) ⌝ }
 {
-    let entry = layout::records::entry(s, h, slot);
+    let entry = layout::records::entry(image, h, slot);
     let target = layout::entry::target(entry);
     let path = w.path;
     let len = w.len;
     if path::is_bare(&path[e..len]) {
-        return arrive(s, h, w, e, slot, target);
+        return arrive(image, h, w, e, slot, target);
     }
-    enter(s, h, w, e, target)
+    enter(image, h, w, e, target)
 }
 
 // The final name, from index a up to e, is not there: whether that is a refusal depends on the path.
@@ -133,22 +133,22 @@ fn miss(last: Final, w: Walk, a: usize, e: usize) -> Turn
 }
 
 // The name from index a up to e is looked up.
-fn seek(s: &[u8], h: Shape, last: Final, w: Walk, a: usize, e: usize) -> Turn
-    requires { ⌜ Readable h (now s) × ReadUpTo w e × (a ≤ e) ⌝ }
-    ensures { λ r. ⌜ Turned r (seek (viewOf h (now (s .entry))) last (positionOf w) (nameIn w a e) (restFrom w e)) ⌝ }
+fn seek(image: &[u8], h: Shape, last: Final, w: Walk, a: usize, e: usize) -> Turn
+    requires { ⌜ Readable h (now image) × ReadUpTo w e × (a ≤ e) ⌝ }
+    ensures { λ r. ⌜ Turned r (seek (viewOf h (now (image .entry))) last (positionOf w) (nameIn w a e) (restFrom w e)) ⌝ }
 {
     let path = w.path;
-    let slot = paths::find::find(s, h, w.directory, &path[a..e]);
+    let slot = paths::find::find(image, h, w.directory, &path[a..e]);
     if slot < h.entries {
-        return hit(s, h, w, e, slot);
+        return hit(image, h, w, e, slot);
     }
     miss(last, w, a, e)
 }
 
 // The component from index a up to e is a dot or two.
-fn dots(s: &[u8], h: Shape, w: Walk, a: usize, e: usize) -> Turn
-    requires { ⌜ Readable h (now s) × ReadUpTo w e × (a ≤ e) × (w .directory < h .inodes) ⌝ }
-    ensures { λ r. ⌜ Turned r (dots (viewOf h (now (s .entry))) (positionOf w) (nameIn w a e) (restFrom w e)) ⌝ }
+fn dots(image: &[u8], h: Shape, w: Walk, a: usize, e: usize) -> Turn
+    requires { ⌜ Readable h (now image) × ReadUpTo w e × (a ≤ e) × (w .directory < h .inodes) ⌝ }
+    ensures { λ r. ⌜ Turned r (dots (viewOf h (now (image .entry))) (positionOf w) (nameIn w a e) (restFrom w e)) ⌝ }
 {
     let path = w.path;
     let len = w.len;
@@ -159,45 +159,45 @@ fn dots(s: &[u8], h: Shape, w: Walk, a: usize, e: usize) -> Turn
     if path::is_dot(&path[a..e]) {
         return state::advance(w, e, directory);
     }
-    let inode = layout::records::inode(s, h, directory);
+    let inode = layout::records::inode(image, h, directory);
     state::advance(w, e, layout::inode::field(inode))
 }
 
 // The component from index a up to e.
-fn component(s: &[u8], h: Shape, last: Final, w: Walk, a: usize, e: usize) -> Turn
-    requires { ⌜ Readable h (now s) × ReadUpTo w e × (a ≤ e) × (w .directory < h .inodes) ⌝ }
-    ensures { λ r. ⌜ Turned r (read (viewOf h (now (s .entry))) last (positionOf w) (nameIn w a e) (restFrom w e)) ⌝ }
+fn component(image: &[u8], h: Shape, last: Final, w: Walk, a: usize, e: usize) -> Turn
+    requires { ⌜ Readable h (now image) × ReadUpTo w e × (a ≤ e) × (w .directory < h .inodes) ⌝ }
+    ensures { λ r. ⌜ Turned r (read (viewOf h (now (image .entry))) last (positionOf w) (nameIn w a e) (restFrom w e)) ⌝ }
 {
     if h.width - limits::NAME_OFFSET < e - a {
         return state::refuse(w, errno::ENAMETOOLONG);
     }
     let path = w.path;
     if path::is_dot(&path[a..e]) {
-        return dots(s, h, w, a, e);
+        return dots(image, h, w, a, e);
     }
     if path::is_dot_dot(&path[a..e]) {
-        return dots(s, h, w, a, e);
+        return dots(image, h, w, a, e);
     }
-    seek(s, h, last, w, a, e)
+    seek(image, h, last, w, a, e)
 }
 
 // Whether the directory may be searched.
-fn may_search(s: &[u8], h: Shape, who: Credentials, w: Walk) -> bool
-    requires { ⌜ Readable h (now s) × (w .directory < h .inodes) ⌝ }
-    ensures { λ r. ⌜ r ≡ (w .waived || allows (viewOf h (now (s .entry))) who (w .directory) searchBit) ⌝ }
+fn may_search(image: &[u8], h: Shape, who: Credentials, w: Walk) -> bool
+    requires { ⌜ Readable h (now image) × (w .directory < h .inodes) ⌝ }
+    ensures { λ r. ⌜ r ≡ (w .waived || allows (viewOf h (now (image .entry))) who (w .directory) searchBit) ⌝ }
 {
     if w.waived {
         return true;
     }
-    paths::permission::allows(s, h, who, w.directory, 1)
+    paths::permission::allows(image, h, who, w.directory, 1)
 }
 
 // The next component, in a directory.
-fn inside(s: &[u8], h: Shape, who: Credentials, last: Final, w: Walk) -> Turn
-    requires { ⌜ Readable h (now s) × Fit w × (w .steps < stepLimit) × (w .directory < h .inodes) ⌝ }
-    ensures { λ r. ⌜ Turned r (inside (viewOf h (now (s .entry))) who last (positionOf w)) ⌝ }
+fn inside(image: &[u8], h: Shape, who: Credentials, last: Final, w: Walk) -> Turn
+    requires { ⌜ Readable h (now image) × Fit w × (w .steps < stepLimit) × (w .directory < h .inodes) ⌝ }
+    ensures { λ r. ⌜ Turned r (inside (viewOf h (now (image .entry))) who last (positionOf w)) ⌝ }
 {
-    if !may_search(s, h, who, w) {
+    if !may_search(image, h, who, w) {
         return state::refuse(w, errno::EACCES);
     }
     let path = w.path;
@@ -205,17 +205,17 @@ fn inside(s: &[u8], h: Shape, who: Credentials, last: Final, w: Walk) -> Turn
     let at = w.at;
     let a = at + path::slashes(&path[at..len]);
     let e = a + path::name_bytes(&path[a..len]);
-    component(s, h, last, w, a, e)
+    component(image, h, last, w, a, e)
 }
 
 // The next component: it is read in a directory, or refused by any other type number.
-pub fn step(s: &[u8], h: Shape, who: Credentials, last: Final, w: Walk) -> Turn
-    requires { ⌜ Readable h (now s) × Fit w × (w .steps < stepLimit) ⌝ }
-    ensures { λ r. ⌜ Turned r (step (viewOf h (now (s .entry))) who last (positionOf w)) ⌝ }
+pub fn step(image: &[u8], h: Shape, who: Credentials, last: Final, w: Walk) -> Turn
+    requires { ⌜ Readable h (now image) × Fit w × (w .steps < stepLimit) ⌝ }
+    ensures { λ r. ⌜ Turned r (step (viewOf h (now (image .entry))) who last (positionOf w)) ⌝ }
 {
-    let kind = layout::lookup::kind(s, h, w.directory);
+    let kind = layout::lookup::kind(image, h, w.directory);
     match kind {
-        2 => inside(s, h, who, last, w),
+        2 => inside(image, h, who, last, w),
         _ => state::refuse(w, errno::ENOTDIR),
     }
 }

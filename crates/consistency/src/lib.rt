@@ -13,58 +13,58 @@ pub mod handles;
 pub mod texts;
 
 // Whether the records in front of the journal record are consistent.
-pub fn bodies_good(s: &[u8], h: Shape) -> bool
-    requires { ⌜ Laid h (now s) ⌝ }
-    ensures { λ r. ⌜ r ≡ bodiesGood h (now (s .entry)) ⌝ }
+pub fn bodies_good(image: &[u8], h: Shape) -> bool
+    requires { ⌜ Laid h (now image) ⌝ }
+    ensures { λ r. ⌜ r ≡ bodiesGood h (now (image .entry)) ⌝ }
 {
-    if !layout::lookup::is_directory(s, h, 0) {
+    if !layout::lookup::is_directory(image, h, 0) {
         return false;
     }
-    if !tree::inodes::all_good(s, h) {
+    if !tree::inodes::all_good(image, h) {
         return false;
     }
-    if !entries::all_good(s, h) {
+    if !entries::all_good(image, h) {
         return false;
     }
-    if names::has_duplicate(s, h) {
+    if names::has_duplicate(image, h) {
         return false;
     }
-    if !texts::all_good(s, h) {
+    if !texts::all_good(image, h) {
         return false;
     }
-    handles::all_good(s, h)
+    handles::all_good(image, h)
 }
 
 // Whether the journal record is all zero.
-pub fn journal_clear(s: &[u8], h: Shape) -> bool
-    requires { ⌜ Laid h (now s) ⌝ }
-    ensures { λ r. ⌜ r ≡ journalClear h (now (s .entry)) ⌝ }
+pub fn journal_clear(image: &[u8], h: Shape) -> bool
+    requires { ⌜ Laid h (now image) ⌝ }
+    ensures { λ r. ⌜ r ≡ journalClear h (now (image .entry)) ⌝ }
 {
-    let r = layout::records::journal(s, h);
+    let r = layout::records::journal(image, h);
     layout::bytes::all_zero(r, 0, limits::JOURNAL_BYTES)
 }
 
 // The number of an image with a good layout.
-pub fn records_number(s: &[u8], h: Shape) -> u8
-    requires { ⌜ Laid h (now s) ⌝ }
-    ensures { λ r. ⌜ r ≡ recordsNumber h (now (s .entry)) ⌝ }
+pub fn records_number(image: &[u8], h: Shape) -> u8
+    requires { ⌜ Laid h (now image) ⌝ }
+    ensures { λ r. ⌜ r ≡ recordsNumber h (now (image .entry)) ⌝ }
 {
-    if !journal_clear(s, h) {
+    if !journal_clear(image, h) {
         return errno::JOURNAL_PENDING;
     }
-    if !bodies_good(s, h) {
+    if !bodies_good(image, h) {
         return errno::INCONSISTENT;
     }
     0
 }
 
 // The job check: 0 for a consistent image, 203 for one whose journal record is not zero, 201 for any other bytes.
-pub fn check(s: &[u8]) -> u8
-    ensures { λ r. ⌜ r ≡ checkNumber (now (s .entry)) ⌝ }
+pub fn check(image: &[u8]) -> u8
+    ensures { λ r. ⌜ r ≡ checkNumber (now (image .entry)) ⌝ }
 {
-    let found = layout::contents::read(s);
+    let found = layout::contents::read(image);
     match found {
         Contents::Bad => errno::INCONSISTENT,
-        Contents::Good(h) => records_number(s, h),
+        Contents::Good(h) => records_number(image, h),
     }
 }

@@ -10,14 +10,14 @@ ghost use Rattle.consistency.specs.Others.{textGood};
 ghost use Rattle.consistency.specs.Sound.{textLinked};
 
 // Whether some symlink has text t.
-fn linked(s: &[u8], h: Shape, t: usize) -> bool
-    requires { ⌜ Laid h (now s) ⌝ }
-    ensures { λ r. ⌜ r ≡ textLinked (viewOf h (now (s .entry))) t ⌝ }
+fn linked(image: &[u8], h: Shape, t: usize) -> bool
+    requires { ⌜ Laid h (now image) ⌝ }
+    ensures { λ r. ⌜ r ≡ textLinked (viewOf h (now (image .entry))) t ⌝ }
 {
     let n = h.inodes;
     let mut i: usize = 0;
     while i < n {
-        if tree::inodes::has_text(s, h, i, t) {
+        if tree::inodes::has_text(image, h, i, t) {
             return true;
         }
         i += 1;
@@ -26,11 +26,11 @@ fn linked(s: &[u8], h: Shape, t: usize) -> bool
 }
 
 // Whether text t fits its room, is followed by zeros, holds no zero, and belongs to a symlink if it is in use.
-fn good(s: &[u8], h: Shape, t: usize) -> bool
-    requires { ⌜ Laid h (now s) × (t < h .texts) ⌝ }
-    ensures { λ r. ⌜ r ≡ textGood h (now (s .entry)) t ⌝ }
+fn good(image: &[u8], h: Shape, t: usize) -> bool
+    requires { ⌜ Laid h (now image) × (t < h .texts) ⌝ }
+    ensures { λ r. ⌜ r ≡ textGood h (now (image .entry)) t ⌝ }
 {
-    let r = layout::records::text(s, h, t);
+    let r = layout::records::text(image, h, t);
     let n = layout::text::length(r);
     if limits::TEXT_ROOM < n {
         return false;
@@ -44,18 +44,18 @@ fn good(s: &[u8], h: Shape, t: usize) -> bool
     if n == 0 {
         return true;
     }
-    linked(s, h, t)
+    linked(image, h, t)
 }
 
 // Whether every text is consistent.
-pub fn all_good(s: &[u8], h: Shape) -> bool
-    requires { ⌜ Laid h (now s) ⌝ }
-    ensures { λ r. ⌜ r ≡ all (textGood h (now (s .entry))) (h .texts) ⌝ }
+pub fn all_good(image: &[u8], h: Shape) -> bool
+    requires { ⌜ Laid h (now image) ⌝ }
+    ensures { λ r. ⌜ r ≡ all (textGood h (now (image .entry))) (h .texts) ⌝ }
 {
     let n = h.texts;
     let mut t: usize = 0;
     while t < n {
-        if !good(s, h, t) {
+        if !good(image, h, t) {
             return false;
         }
         t += 1;

@@ -14,18 +14,18 @@ pub enum Draft {
 }
 
 // Puts the rows into a plan of none. The kind of the operation says who makes them; a rename is of kind 0.
-pub fn make(plan: &mut [u8], s: &[u8], h: Shape) -> Draft
-    requires { ⌜ (planBytes ≤ length (now plan)) × Laid h (now s) ⌝ }
-    ensures { λ r. ⌜ Drafted h (now (plan .entry)) (draft h (now (s .entry))) r (now (plan .exit)) ⌝ }
+pub fn make(plan: &mut [u8], image: &[u8], h: Shape) -> Draft
+    requires { ⌜ (planBytes ≤ length (now plan)) × Laid h (now image) ⌝ }
+    ensures { λ r. ⌜ Drafted h (now (plan .entry)) (draft h (now (image .entry))) r (now (plan .exit)) ⌝ }
 {
-    let r = layout::records::journal(s, h);
+    let r = layout::records::journal(image, h);
     if !encode::journal::formed(r) {
         return Draft::Unfit;
     }
     let j = encode::journal::read(r);
     let kind = j.kind;
     match kind {
-        0 => crate::renames::draft(plan, s, h, j),
+        0 => crate::renames::draft(plan, image, h, j),
         _ => Draft::Unfit,
     }
 }

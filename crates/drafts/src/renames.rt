@@ -62,9 +62,9 @@ fn different(j: Journal) -> bool
 }
 
 // Whether the record fits the image.
-fn fits(s: &[u8], h: Shape, j: Journal) -> bool
-    requires { ⌜ Laid h (now s) ⌝ }
-    ensures { λ r. ⌜ r ≡ renameFits h (now (s .entry)) j ⌝ }
+fn fits(image: &[u8], h: Shape, j: Journal) -> bool
+    requires { ⌜ Laid h (now image) ⌝ }
+    ensures { λ r. ⌜ r ≡ renameFits h (now (image .entry)) j ⌝ }
 {
     if !in_range(h, j) {
         return false;
@@ -72,15 +72,15 @@ fn fits(s: &[u8], h: Shape, j: Journal) -> bool
     if !different(j) {
         return false;
     }
-    layout::lookup::is_directory(s, h, j.parent)
+    layout::lookup::is_directory(image, h, j.parent)
 }
 
 // The move that the record names. The new parent is not in the record: the entry in the new slot has it.
-fn move_from(s: &[u8], h: Shape, j: Journal) -> Move
-    requires { ⌜ Laid h (now s) × (j .new < h .entries) ⌝ }
-    ensures { λ r. ⌜ r ≡ moveFrom (viewOf h (now (s .entry))) j ⌝ }
+fn move_from(image: &[u8], h: Shape, j: Journal) -> Move
+    requires { ⌜ Laid h (now image) × (j .new < h .entries) ⌝ }
+    ensures { λ r. ⌜ r ≡ moveFrom (viewOf h (now (image .entry))) j ⌝ }
 {
-    let e = layout::records::entry(s, h, j.new);
+    let e = layout::records::entry(image, h, j.new);
     Move {
         old: j.old,
         new: j.new,
@@ -94,11 +94,11 @@ fn move_from(s: &[u8], h: Shape, j: Journal) -> Move
 }
 
 // Whether the new entry has been applied.
-fn entry_stands(s: &[u8], h: Shape, m: Move) -> bool
-    requires { ⌜ Laid h (now s) × (m .new < h .entries) ⌝ }
-    ensures { λ r. ⌜ r ≡ entryStands (viewOf h (now (s .entry))) m ⌝ }
+fn entry_stands(image: &[u8], h: Shape, m: Move) -> bool
+    requires { ⌜ Laid h (now image) × (m .new < h .entries) ⌝ }
+    ensures { λ r. ⌜ r ≡ entryStands (viewOf h (now (image .entry))) m ⌝ }
 {
-    let e = layout::records::entry(s, h, m.new);
+    let e = layout::records::entry(image, h, m.new);
     if layout::entry::name_length(e) == 0 {
         return false;
     }
@@ -106,11 +106,11 @@ fn entry_stands(s: &[u8], h: Shape, m: Move) -> bool
 }
 
 // Whether the new parent is a directory, and neither moved nor replaced.
-fn into_good(s: &[u8], h: Shape, m: Move) -> bool
-    requires { ⌜ Laid h (now s) ⌝ }
-    ensures { λ r. ⌜ r ≡ intoGood (viewOf h (now (s .entry))) m ⌝ }
+fn into_good(image: &[u8], h: Shape, m: Move) -> bool
+    requires { ⌜ Laid h (now image) ⌝ }
+    ensures { λ r. ⌜ r ≡ intoGood (viewOf h (now (image .entry))) m ⌝ }
 {
-    if !layout::lookup::is_directory(s, h, m.into) {
+    if !layout::lookup::is_directory(image, h, m.into) {
         return false;
     }
     if m.into == m.moved {
@@ -120,30 +120,30 @@ fn into_good(s: &[u8], h: Shape, m: Move) -> bool
 }
 
 // The rows that finish the move.
-fn finish(plan: &mut [u8], s: &[u8], h: Shape, m: Move) -> usize
-    requires { ⌜ (planBytes ≤ length (now plan)) × Laid h (now s) × InImage h m ⌝ }
-    ensures { λ n. ⌜ Filled h (now (plan .entry)) 0 (finishing h (now (s .entry)) m) (now (plan .exit)) n ⌝ }
+fn finish(plan: &mut [u8], image: &[u8], h: Shape, m: Move) -> usize
+    requires { ⌜ (planBytes ≤ length (now plan)) × Laid h (now image) × InImage h m ⌝ }
+    ensures { λ n. ⌜ Filled h (now (plan .entry)) 0 (finishing h (now (image .entry)) m) (now (plan .exit)) n ⌝ }
 {
-    let at = results::rows::put(plan, 0, s, h, m);
-    results::rows::put_clear(plan, at, s, h);
+    let at = results::rows::put(plan, 0, image, h, m);
+    results::rows::put_clear(plan, at, image, h);
     at + 1
 }
 
 // Puts the rows of a pending rename into a plan of none.
-pub fn draft(plan: &mut [u8], s: &[u8], h: Shape, j: Journal) -> Draft
-    requires { ⌜ (planBytes ≤ length (now plan)) × Laid h (now s) ⌝ }
-    ensures { λ r. ⌜ Drafted h (now (plan .entry)) (renameDraft h (now (s .entry)) j) r (now (plan .exit)) ⌝ }
+pub fn draft(plan: &mut [u8], image: &[u8], h: Shape, j: Journal) -> Draft
+    requires { ⌜ (planBytes ≤ length (now plan)) × Laid h (now image) ⌝ }
+    ensures { λ r. ⌜ Drafted h (now (plan .entry)) (renameDraft h (now (image .entry)) j) r (now (plan .exit)) ⌝ }
 {
-    if !fits(s, h, j) {
+    if !fits(image, h, j) {
         return Draft::Unfit;
     }
-    let m = move_from(s, h, j);
-    if !entry_stands(s, h, m) {
-        results::rows::put_clear(plan, 0, s, h);
+    let m = move_from(image, h, j);
+    if !entry_stands(image, h, m) {
+        results::rows::put_clear(plan, 0, image, h);
         return Draft::Rows(1);
     }
-    if !into_good(s, h, m) {
+    if !into_good(image, h, m) {
         return Draft::Unfit;
     }
-    Draft::Rows(finish(plan, s, h, m))
+    Draft::Rows(finish(plan, image, h, m))
 }

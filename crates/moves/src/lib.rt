@@ -26,26 +26,26 @@ fn move_with(c: Case, time: u64, text: usize) -> Move
 }
 
 // The text of a replaced symlink that has no entry left, or limits::ABSENT.
-fn freed_text(s: &[u8], h: Shape, c: Case, time: u64) -> usize
-    requires { ⌜ Laid h (now s) ⌝ }
-    ensures { λ r. ⌜ r ≡ freedText (viewOf h (now (s .entry))) c time ⌝ }
+fn freed_text(image: &[u8], h: Shape, c: Case, time: u64) -> usize
+    requires { ⌜ Laid h (now image) ⌝ }
+    ensures { λ r. ⌜ r ≡ freedText (viewOf h (now (image .entry))) c time ⌝ }
 {
     let replaced = c.replaced;
-    if !layout::lookup::is_symlink(s, h, replaced) {
+    if !layout::lookup::is_symlink(image, h, replaced) {
         return limits::ABSENT;
     }
     let m = move_with(c, time, limits::ABSENT);
-    if results::recount::entries_after(s, h, m, replaced) != 0 {
+    if results::recount::entries_after(image, h, m, replaced) != 0 {
         return limits::ABSENT;
     }
-    let r = layout::records::inode(s, h, replaced);
+    let r = layout::records::inode(image, h, replaced);
     layout::inode::field(r)
 }
 
-pub fn move_of(s: &[u8], h: Shape, c: Case, time: u64) -> Move
-    requires { ⌜ Laid h (now s) ⌝ }
-    ensures { λ r. ⌜ r ≡ moveOf (viewOf h (now (s .entry))) c time ⌝ }
+pub fn move_of(image: &[u8], h: Shape, c: Case, time: u64) -> Move
+    requires { ⌜ Laid h (now image) ⌝ }
+    ensures { λ r. ⌜ r ≡ moveOf (viewOf h (now (image .entry))) c time ⌝ }
 {
-    let text = freed_text(s, h, c, time);
+    let text = freed_text(image, h, c, time);
     move_with(c, time, text)
 }

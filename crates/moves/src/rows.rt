@@ -33,54 +33,54 @@ fn journal(m: Move) -> [u8; 32]
     r
 }
 
-fn put_journal(plan: &mut [u8], s: &[u8], h: Shape, m: Move, called: &[u8])
-    requires { ⌜ (planBytes ≤ length (now plan)) × Laid h (now s) ⌝ }
-    ensures { λ _. ⌜ now (plan .exit) ≡ rowPut (now (plan .entry)) 0 (rowFrom h (journalRow h (now (s .entry)) m (now (called .entry)))) ⌝ }
+fn put_journal(plan: &mut [u8], image: &[u8], h: Shape, m: Move, called: &[u8])
+    requires { ⌜ (planBytes ≤ length (now plan)) × Laid h (now image) ⌝ }
+    ensures { λ _. ⌜ now (plan .exit) ≡ rowPut (now (plan .entry)) 0 (rowFrom h (journalRow h (now (image .entry)) m (now (called .entry)))) ⌝ }
 {
     let r = journal(m);
     plan::put_row(plan, 0, plan::JOURNAL_GROUP, place::journal(h), &r);
 }
 
 // Makes the whole record the new entry: the replaced one's with another target, or one under the name that was missing.
-fn make_entry(r: &mut [u8], s: &[u8], h: Shape, m: Move, called: &[u8])
-    requires { ⌜ Laid h (now s) × (m .new < h .entries) × (length (now r) ≡ h .width) × (8 + length (now called) ≤ h .width) ⌝ }
-    ensures { λ _. ⌜ now (r .exit) ≡ newEntry h (now (s .entry)) m (now (called .entry)) ⌝ }
+fn make_entry(r: &mut [u8], image: &[u8], h: Shape, m: Move, called: &[u8])
+    requires { ⌜ Laid h (now image) × (m .new < h .entries) × (length (now r) ≡ h .width) × (8 + length (now called) ≤ h .width) ⌝ }
+    ensures { λ _. ⌜ now (r .exit) ≡ newEntry h (now (image .entry)) m (now (called .entry)) ⌝ }
 {
     if m.replaced == limits::ABSENT {
         encode::entry::write(r, m.into, m.moved, called);
         return;
     }
-    layout::bytes::copy(r, 0, layout::records::entry(s, h, m.new));
+    layout::bytes::copy(r, 0, layout::records::entry(image, h, m.new));
     encode::entry::set_target(r, m.moved);
 }
 
 // Puts the new entry's row, with room for its record lent.
-fn put_made(plan: &mut [u8], r: &mut [u8], s: &[u8], h: Shape, m: Move, called: &[u8])
-    requires { ⌜ (planBytes ≤ length (now plan)) × Laid h (now s) × (m .new < h .entries) × (length (now r) ≡ h .width) × (8 + length (now called) ≤ h .width) ⌝ }
-    ensures { λ _. ⌜ now (plan .exit) ≡ rowPut (now (plan .entry)) 1 (rowFrom h (entryRow h (now (s .entry)) m (now (called .entry)))) ⌝ }
+fn put_made(plan: &mut [u8], r: &mut [u8], image: &[u8], h: Shape, m: Move, called: &[u8])
+    requires { ⌜ (planBytes ≤ length (now plan)) × Laid h (now image) × (m .new < h .entries) × (length (now r) ≡ h .width) × (8 + length (now called) ≤ h .width) ⌝ }
+    ensures { λ _. ⌜ now (plan .exit) ≡ rowPut (now (plan .entry)) 1 (rowFrom h (entryRow h (now (image .entry)) m (now (called .entry)))) ⌝ }
 {
-    make_entry(r, s, h, m, called);
+    make_entry(r, image, h, m, called);
     plan::put_row(plan, 1, plan::ENTRY_GROUP, place::entry(h, m.new), r);
 }
 
-fn put_entry(plan: &mut [u8], s: &[u8], h: Shape, m: Move, called: &[u8])
-    requires { ⌜ (planBytes ≤ length (now plan)) × Laid h (now s) × (m .new < h .entries) × (8 + length (now called) ≤ h .width) ⌝ }
-    ensures { λ _. ⌜ now (plan .exit) ≡ rowPut (now (plan .entry)) 1 (rowFrom h (entryRow h (now (s .entry)) m (now (called .entry)))) ⌝ }
+fn put_entry(plan: &mut [u8], image: &[u8], h: Shape, m: Move, called: &[u8])
+    requires { ⌜ (planBytes ≤ length (now plan)) × Laid h (now image) × (m .new < h .entries) × (8 + length (now called) ≤ h .width) ⌝ }
+    ensures { λ _. ⌜ now (plan .exit) ≡ rowPut (now (plan .entry)) 1 (rowFrom h (entryRow h (now (image .entry)) m (now (called .entry)))) ⌝ }
 {
     let mut bytes = [0u8; plan::BODY_BYTES];
     let width = h.width;
-    put_made(plan, &mut bytes[..width], s, h, m, called);
+    put_made(plan, &mut bytes[..width], image, h, m, called);
 }
 
 // Fills the plan with the rows of the move, and answers how many they are.
-pub fn put(plan: &mut [u8], s: &[u8], h: Shape, m: Move, called: &[u8]) -> usize
-    requires { ⌜ (planBytes ≤ length (now plan)) × Laid h (now s) × InImage h m × (8 + length (now called) ≤ h .width) ⌝ }
-    ensures { λ r. ⌜ (now (plan .exit) ≡ planned h (now (s .entry)) m (now (called .entry)) (now (plan .entry))) × (r ≡ length (renameRows h (now (s .entry)) m (now (called .entry)))) ⌝ }
+pub fn put(plan: &mut [u8], image: &[u8], h: Shape, m: Move, called: &[u8]) -> usize
+    requires { ⌜ (planBytes ≤ length (now plan)) × Laid h (now image) × InImage h m × (8 + length (now called) ≤ h .width) ⌝ }
+    ensures { λ r. ⌜ (now (plan .exit) ≡ planned h (now (image .entry)) m (now (called .entry)) (now (plan .entry))) × (r ≡ length (renameRows h (now (image .entry)) m (now (called .entry)))) ⌝ }
 {
     plan::clear(plan);
-    put_journal(plan, s, h, m, called);
-    put_entry(plan, s, h, m, called);
-    let at = results::rows::put(plan, 2, s, h, m);
-    results::rows::put_clear(plan, at, s, h);
+    put_journal(plan, image, h, m, called);
+    put_entry(plan, image, h, m, called);
+    let at = results::rows::put(plan, 2, image, h, m);
+    results::rows::put_clear(plan, at, image, h);
     at + 1
 }

@@ -45,15 +45,15 @@ pub fn good(name: &[u8]) -> bool
 }
 
 // Whether the entries in slots i and j are in use and share parent and name.
-fn entries_clash(s: &[u8], h: Shape, i: usize, j: usize) -> bool
-    requires { ⌜ Laid h (now s) × Named h (now s) × (i < h .entries) × (j < h .entries) ⌝ }
-    ensures { λ r. ⌜ r ≡ clash (viewOf h (now (s .entry))) i j ⌝ }
+fn entries_clash(image: &[u8], h: Shape, i: usize, j: usize) -> bool
+    requires { ⌜ Laid h (now image) × Named h (now image) × (i < h .entries) × (j < h .entries) ⌝ }
+    ensures { λ r. ⌜ r ≡ clash (viewOf h (now (image .entry))) i j ⌝ }
 {
-    let a = layout::records::entry(s, h, i);
+    let a = layout::records::entry(image, h, i);
     if layout::entry::name_length(a) == 0 {
         return false;
     }
-    let b = layout::records::entry(s, h, j);
+    let b = layout::records::entry(image, h, j);
     if layout::entry::name_length(b) == 0 {
         return false;
     }
@@ -64,9 +64,9 @@ fn entries_clash(s: &[u8], h: Shape, i: usize, j: usize) -> bool
 }
 
 // Whether two entries share parent and name: a search over pairs, left at the first.
-pub fn has_duplicate(s: &[u8], h: Shape) -> bool
-    requires { ⌜ Laid h (now s) × Named h (now s) ⌝ }
-    ensures { λ r. ⌜ r ≡ hasDuplicate (viewOf h (now (s .entry))) ⌝ }
+pub fn has_duplicate(image: &[u8], h: Shape) -> bool
+    requires { ⌜ Laid h (now image) × Named h (now image) ⌝ }
+    ensures { λ r. ⌜ r ≡ hasDuplicate (viewOf h (now (image .entry))) ⌝ }
 {
     let n = h.entries;
     let mut found = false;
@@ -74,7 +74,7 @@ pub fn has_duplicate(s: &[u8], h: Shape) -> bool
     'pairs: while j < n {
         let mut i: usize = 0;
         while i < j {
-            if entries_clash(s, h, i, j) {
+            if entries_clash(image, h, i, j) {
                 found = true;
                 break 'pairs;
             }

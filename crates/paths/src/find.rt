@@ -7,11 +7,11 @@ ghost use Rattle.layout.specs.ViewLaws.{Readable};
 ghost use Rattle.paths.specs.Lookup.{isNamed, lookup};
 
 // Whether the entry in slot j is in use, lies in directory d and has this name.
-fn is_named(s: &[u8], h: Shape, d: usize, name: &[u8], j: usize) -> bool
-    requires { ⌜ Readable h (now s) × (j < h .entries) ⌝ }
-    ensures { λ r. ⌜ r ≡ isNamed (viewOf h (now (s .entry))) d (now (name .entry)) j ⌝ }
+fn is_named(image: &[u8], h: Shape, d: usize, name: &[u8], j: usize) -> bool
+    requires { ⌜ Readable h (now image) × (j < h .entries) ⌝ }
+    ensures { λ r. ⌜ r ≡ isNamed (viewOf h (now (image .entry))) d (now (name .entry)) j ⌝ }
 {
-    let e = layout::records::entry(s, h, j);
+    let e = layout::records::entry(image, h, j);
     if layout::entry::name_length(e) == 0 {
         return false;
     }
@@ -22,14 +22,14 @@ fn is_named(s: &[u8], h: Shape, d: usize, name: &[u8], j: usize) -> bool
 }
 
 // The slot of a name in directory d, or the number of slots where there is none.
-pub fn find(s: &[u8], h: Shape, d: usize, name: &[u8]) -> usize
-    requires { ⌜ Readable h (now s) ⌝ }
-    ensures { λ r. ⌜ (r ≡ lookup (viewOf h (now (s .entry))) d (now (name .entry))) × (r ≤ h .entries) ⌝ }
+pub fn find(image: &[u8], h: Shape, d: usize, name: &[u8]) -> usize
+    requires { ⌜ Readable h (now image) ⌝ }
+    ensures { λ r. ⌜ (r ≡ lookup (viewOf h (now (image .entry))) d (now (name .entry))) × (r ≤ h .entries) ⌝ }
 {
     let n = h.entries;
     let mut j: usize = 0;
     while j < n {
-        if is_named(s, h, d, name, j) {
+        if is_named(image, h, d, name, j) {
             return j;
         }
         j += 1;

@@ -8,14 +8,14 @@ ghost use Rattle.layout.specs.View.{viewOf};
 ghost use Rattle.paths.specs.Permission.{allows};
 
 // Whether the caller has this bit on inode i.
-pub fn allows(s: &[u8], h: Shape, who: Credentials, i: usize, bit: usize) -> bool
-    requires { ⌜ Laid h (now s) × (i < h .inodes) × (1 ≤ bit) × (bit ≤ 2) ⌝ }
-    ensures { λ r. ⌜ r ≡ allows (viewOf h (now (s .entry))) who i bit ⌝ }
+pub fn allows(image: &[u8], h: Shape, who: Credentials, i: usize, bit: usize) -> bool
+    requires { ⌜ Laid h (now image) × (i < h .inodes) × (1 ≤ bit) × (bit ≤ 2) ⌝ }
+    ensures { λ r. ⌜ r ≡ allows (viewOf h (now (image .entry))) who i bit ⌝ }
 {
     if who.user == 0 {
         return true;
     }
-    let r = layout::records::inode(s, h, i);
+    let r = layout::records::inode(image, h, i);
     let mode = layout::inode::mode(r);
     if who.user == layout::inode::owner(r) {
         return mode / (64 * bit) % 2 == 1;

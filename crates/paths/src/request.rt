@@ -26,12 +26,12 @@ pub struct Request {
 }
 
 // Whether the current directory is one, and neither path holds a zero byte.
-pub fn good(s: &[u8], h: Shape, q: Request, old: &[u8], new: &[u8]) -> bool
-    requires { ⌜ Laid h (now s) ⌝ }
-    ensures { λ r. ⌜ r ≡ requestGood (viewOf h (now (s .entry))) q (now (old .entry)) (now (new .entry)) ⌝ }
+pub fn good(image: &[u8], h: Shape, q: Request, old: &[u8], new: &[u8]) -> bool
+    requires { ⌜ Laid h (now image) ⌝ }
+    ensures { λ r. ⌜ r ≡ requestGood (viewOf h (now (image .entry))) q (now (old .entry)) (now (new .entry)) ⌝ }
 {
     let current = q.current as usize;
-    if !layout::lookup::is_directory(s, h, current) {
+    if !layout::lookup::is_directory(image, h, current) {
         return false;
     }
     if !layout::bytes::no_zero(old) {

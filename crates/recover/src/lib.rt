@@ -29,17 +29,17 @@ fn refused(number: u8) -> Answer
 
 // The rows of a draft, which are answered only if their outcome is consistent. Scratch is as long as the image.
 fn settle(
-    s: &[u8],
+    image: &[u8],
     h: Shape,
     rows: usize,
     draft: &[u8],
     plan: &mut [u8],
     scratch: &mut [u8],
 ) -> Answer
-    requires { ⌜ DraftReady (now s) h rows (now draft) × (planBytes ≤ length (now plan)) × (length (now scratch) ≡ length (now s)) ⌝ }
-    ensures { λ r. ⌜ RecoverAnswers (byRows (now (plan .entry)) (now (scratch .entry)) (now (s .entry)) h (pendingRows h (now (s .entry)))) r (now (plan .exit)) (now (scratch .exit)) ⌝ }
+    requires { ⌜ DraftReady (now image) h rows (now draft) × (planBytes ≤ length (now plan)) × (length (now scratch) ≡ length (now image)) ⌝ }
+    ensures { λ r. ⌜ RecoverAnswers (byRows (now (plan .entry)) (now (scratch .entry)) (now (image .entry)) h (pendingRows h (now (image .entry)))) r (now (plan .exit)) (now (scratch .exit)) ⌝ }
 {
-    layout::bytes::copy(scratch, 0, s);
+    layout::bytes::copy(scratch, 0, image);
     outcome::apply(scratch, draft, rows);
     if consistency::check(scratch) != 0 {
         encode::record::clear(scratch);
@@ -50,51 +50,51 @@ fn settle(
 }
 
 // A journal record that is set. Scratch is as long as the image.
-fn pending(s: &[u8], h: Shape, plan: &mut [u8], scratch: &mut [u8]) -> Answer
-    requires { ⌜ Read (now s) h × (planBytes ≤ length (now plan)) × (length (now scratch) ≡ length (now s)) ⌝ }
-    ensures { λ r. ⌜ RecoverAnswers (byRows (now (plan .entry)) (now (scratch .entry)) (now (s .entry)) h (pendingRows h (now (s .entry)))) r (now (plan .exit)) (now (scratch .exit)) ⌝ }
+fn pending(image: &[u8], h: Shape, plan: &mut [u8], scratch: &mut [u8]) -> Answer
+    requires { ⌜ Read (now image) h × (planBytes ≤ length (now plan)) × (length (now scratch) ≡ length (now image)) ⌝ }
+    ensures { λ r. ⌜ RecoverAnswers (byRows (now (plan .entry)) (now (scratch .entry)) (now (image .entry)) h (pendingRows h (now (image .entry)))) r (now (plan .exit)) (now (scratch .exit)) ⌝ }
 {
     let mut draft = [0u8; plan::BYTES];
-    let found = draft::make(&mut draft, s, h);
+    let found = draft::make(&mut draft, image, h);
     match found {
         Draft::Unfit => {
             encode::record::clear(scratch);
             refused(errno::NOT_RECOVERABLE)
         }
-        Draft::Rows(rows) => settle(s, h, rows, &draft, plan, scratch),
+        Draft::Rows(rows) => settle(image, h, rows, &draft, plan, scratch),
     }
 }
 
 // An image of a good layout: its journal record decides.
-fn by_journal(s: &[u8], h: Shape, plan: &mut [u8], scratch: &mut [u8]) -> Answer
-    requires { ⌜ Read (now s) h × (planBytes ≤ length (now plan)) × (length (now s) ≤ length (now scratch)) ⌝ }
-    ensures { λ r. ⌜ RecoverAnswers (byJournal (now (plan .entry)) (now (scratch .entry)) (now (s .entry)) h) r (now (plan .exit)) (now (scratch .exit)) ⌝ }
+fn by_journal(image: &[u8], h: Shape, plan: &mut [u8], scratch: &mut [u8]) -> Answer
+    requires { ⌜ Read (now image) h × (planBytes ≤ length (now plan)) × (length (now image) ≤ length (now scratch)) ⌝ }
+    ensures { λ r. ⌜ RecoverAnswers (byJournal (now (plan .entry)) (now (scratch .entry)) (now (image .entry)) h) r (now (plan .exit)) (now (scratch .exit)) ⌝ }
 {
-    if !consistency::journal_clear(s, h) {
-        let n = s.len();
-        return pending(s, h, plan, &mut scratch[..n]);
+    if !consistency::journal_clear(image, h) {
+        let n = image.len();
+        return pending(image, h, plan, &mut scratch[..n]);
     }
-    if !consistency::bodies_good(s, h) {
+    if !consistency::bodies_good(image, h) {
         return refused(errno::INCONSISTENT);
     }
     plan::clear(plan);
-    layout::bytes::copy(scratch, 0, s);
+    layout::bytes::copy(scratch, 0, image);
     Answer { number: 0, rows: 0 }
 }
 
 // The job repair. The image is only read. At 0 the plan has the rows and scratch their outcome.
-pub fn recover(s: &[u8], plan: &mut [u8], scratch: &mut [u8]) -> Answer
-    ensures { λ r. ⌜ RecoverAnswers (recovered (now (plan .entry)) (now (scratch .entry)) (now (s .entry))) r (now (plan .exit)) (now (scratch .exit)) ⌝ }
+pub fn recover(image: &[u8], plan: &mut [u8], scratch: &mut [u8]) -> Answer
+    ensures { λ r. ⌜ RecoverAnswers (recovered (now (plan .entry)) (now (scratch .entry)) (now (image .entry))) r (now (plan .exit)) (now (scratch .exit)) ⌝ }
 {
     if plan.len() < plan::BYTES {
         return refused(errno::SHORT_BUFFER);
     }
-    if scratch.len() < s.len() {
+    if scratch.len() < image.len() {
         return refused(errno::SHORT_BUFFER);
     }
-    let found = layout::contents::read(s);
+    let found = layout::contents::read(image);
     match found {
         Contents::Bad => refused(errno::INCONSISTENT),
-        Contents::Good(h) => by_journal(s, h, plan, scratch),
+        Contents::Good(h) => by_journal(image, h, plan, scratch),
     }
 }

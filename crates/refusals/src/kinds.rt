@@ -13,34 +13,34 @@ ghost use Rattle.refusals.specs.CaseIn.{CaseIn};
 ghost use Rattle.refusals.specs.Steps.{numberOf, decide, kindRules};
 
 // Step 9 of a directory: it gets another parent, and write permission is denied on it.
-fn moved_denied(s: &[u8], h: Shape, c: Case) -> bool
-    requires { ⌜ Laid h (now s) × (isDirectory (viewOf h (now s)) (c .moved) ≡ true) ⌝ }
-    ensures { λ r. ⌜ r ≡ movedDenied (viewOf h (now (s .entry))) c ⌝ }
+fn moved_denied(image: &[u8], h: Shape, c: Case) -> bool
+    requires { ⌜ Laid h (now image) × (isDirectory (viewOf h (now image)) (c .moved) ≡ true) ⌝ }
+    ensures { λ r. ⌜ r ≡ movedDenied (viewOf h (now (image .entry))) c ⌝ }
 {
     if c.from == c.into {
         return false;
     }
-    !permission::allows(s, h, c.who, c.moved, 2)
+    !permission::allows(image, h, c.who, c.moved, 2)
 }
 
 // Steps 8 to 10 of a directory. It may replace nothing, or a directory that has no entries.
-fn of_directory(s: &[u8], h: Shape, c: Case) -> u8
-    requires { ⌜ Laid h (now s) × CaseIn (viewOf h (now s)) c × (isDirectory (viewOf h (now s)) (c .moved) ≡ true) ⌝ }
-    ensures { λ r. ⌜ r ≡ numberOf (decide (kindRules (viewOf h (now (s .entry))) c)) ⌝ }
+fn of_directory(image: &[u8], h: Shape, c: Case) -> u8
+    requires { ⌜ Laid h (now image) × CaseIn (viewOf h (now image)) c × (isDirectory (viewOf h (now image)) (c .moved) ≡ true) ⌝ }
+    ensures { λ r. ⌜ r ≡ numberOf (decide (kindRules (viewOf h (now (image .entry))) c)) ⌝ }
 {
-    let replaced = layout::lookup::kind(s, h, c.replaced);
+    let replaced = layout::lookup::kind(image, h, c.replaced);
     match replaced {
         0 => {
-            if moved_denied(s, h, c) {
+            if moved_denied(image, h, c) {
                 return errno::EACCES;
             }
             0
         }
         2 => {
-            if moved_denied(s, h, c) {
+            if moved_denied(image, h, c) {
                 return errno::EACCES;
             }
-            if target::has_entries(s, h, c.replaced) {
+            if target::has_entries(image, h, c.replaced) {
                 return errno::ENOTEMPTY;
             }
             0
@@ -50,11 +50,11 @@ fn of_directory(s: &[u8], h: Shape, c: Case) -> u8
 }
 
 // Step 8 of anything else, of which steps 9 and 10 ask nothing.
-fn of_other(s: &[u8], h: Shape, c: Case) -> u8
-    requires { ⌜ Laid h (now s) × CaseIn (viewOf h (now s)) c × (isDirectory (viewOf h (now s)) (c .moved) ≡ false) ⌝ }
-    ensures { λ r. ⌜ r ≡ numberOf (decide (kindRules (viewOf h (now (s .entry))) c)) ⌝ }
+fn of_other(image: &[u8], h: Shape, c: Case) -> u8
+    requires { ⌜ Laid h (now image) × CaseIn (viewOf h (now image)) c × (isDirectory (viewOf h (now image)) (c .moved) ≡ false) ⌝ }
+    ensures { λ r. ⌜ r ≡ numberOf (decide (kindRules (viewOf h (now (image .entry))) c)) ⌝ }
 {
-    let replaced = layout::lookup::kind(s, h, c.replaced);
+    let replaced = layout::lookup::kind(image, h, c.replaced);
     match replaced {
         0 => {
             if c.slash {
@@ -68,13 +68,13 @@ fn of_other(s: &[u8], h: Shape, c: Case) -> u8
 }
 
 // The number of the first of steps 8 to 10 that refuses, or 0.
-pub fn number(s: &[u8], h: Shape, c: Case) -> u8
-    requires { ⌜ Laid h (now s) × CaseIn (viewOf h (now s)) c ⌝ }
-    ensures { λ r. ⌜ r ≡ numberOf (decide (kindRules (viewOf h (now (s .entry))) c)) ⌝ }
+pub fn number(image: &[u8], h: Shape, c: Case) -> u8
+    requires { ⌜ Laid h (now image) × CaseIn (viewOf h (now image)) c ⌝ }
+    ensures { λ r. ⌜ r ≡ numberOf (decide (kindRules (viewOf h (now (image .entry))) c)) ⌝ }
 {
-    let moved = layout::lookup::kind(s, h, c.moved);
+    let moved = layout::lookup::kind(image, h, c.moved);
     match moved {
-        2 => of_directory(s, h, c),
-        _ => of_other(s, h, c),
+        2 => of_directory(image, h, c),
+        _ => of_other(image, h, c),
     }
 }

@@ -12,22 +12,22 @@ ghost use Rattle.refusals.specs.CaseIn.{CaseIn};
 ghost use Rattle.refusals.specs.Steps.{decide, steps};
 
 // How a rename is answered, whose walks have found this case.
-pub fn judge(s: &[u8], h: Shape, c: Case) -> Answer
-    requires { ⌜ Readable h (now s) × CaseIn (viewOf h (now s)) c ⌝ }
-    ensures { λ r. ⌜ r ≡ decide (steps (viewOf h (now (s .entry))) c) ⌝ }
+pub fn judge(image: &[u8], h: Shape, c: Case) -> Answer
+    requires { ⌜ Readable h (now image) × CaseIn (viewOf h (now image)) c ⌝ }
+    ensures { λ r. ⌜ r ≡ decide (steps (viewOf h (now (image .entry))) c) ⌝ }
 {
     if c.moved == c.replaced {
         return Answer::Same;
     }
-    let by_parents = parents::number(s, h, c);
+    let by_parents = parents::number(image, h, c);
     if by_parents != 0 {
         return Answer::Refused(by_parents);
     }
-    let by_kinds = kinds::number(s, h, c);
+    let by_kinds = kinds::number(image, h, c);
     if by_kinds != 0 {
         return Answer::Refused(by_kinds);
     }
-    let by_target = target::number(s, h, c);
+    let by_target = target::number(image, h, c);
     if by_target != 0 {
         return Answer::Refused(by_target);
     }

@@ -13,11 +13,11 @@ ghost use Rattle.refusals.specs.Within.{Within};
 ghost use Rattle.refusals.specs.Steps.{numberOf, decide, targetRules};
 
 // Whether the entry in slot j is in use and lies in directory d.
-fn entry_in(s: &[u8], h: Shape, d: usize, j: usize) -> bool
-    requires { ⌜ Laid h (now s) × (j < h .entries) ⌝ }
-    ensures { λ r. ⌜ r ≡ entryIn (viewOf h (now (s .entry))) d j ⌝ }
+fn entry_in(image: &[u8], h: Shape, d: usize, j: usize) -> bool
+    requires { ⌜ Laid h (now image) × (j < h .entries) ⌝ }
+    ensures { λ r. ⌜ r ≡ entryIn (viewOf h (now (image .entry))) d j ⌝ }
 {
-    let e = layout::records::entry(s, h, j);
+    let e = layout::records::entry(image, h, j);
     if layout::entry::name_length(e) == 0 {
         return false;
     }
@@ -25,14 +25,14 @@ fn entry_in(s: &[u8], h: Shape, d: usize, j: usize) -> bool
 }
 
 // Whether directory d has entries.
-pub fn has_entries(s: &[u8], h: Shape, d: usize) -> bool
-    requires { ⌜ Laid h (now s) ⌝ }
-    ensures { λ r. ⌜ r ≡ hasEntries (viewOf h (now (s .entry))) d ⌝ }
+pub fn has_entries(image: &[u8], h: Shape, d: usize) -> bool
+    requires { ⌜ Laid h (now image) ⌝ }
+    ensures { λ r. ⌜ r ≡ hasEntries (viewOf h (now (image .entry))) d ⌝ }
 {
     let n = h.entries;
     let mut j: usize = 0;
     while j < n {
-        if entry_in(s, h, d, j) {
+        if entry_in(image, h, d, j) {
             return true;
         }
         j += 1;
@@ -41,11 +41,11 @@ pub fn has_entries(s: &[u8], h: Shape, d: usize) -> bool
 }
 
 // Whether handle n is open on inode i.
-fn open_on(s: &[u8], h: Shape, i: usize, n: usize) -> bool
-    requires { ⌜ Laid h (now s) × (n < h .handles) ⌝ }
-    ensures { λ r. ⌜ r ≡ openOn (viewOf h (now (s .entry))) i n ⌝ }
+fn open_on(image: &[u8], h: Shape, i: usize, n: usize) -> bool
+    requires { ⌜ Laid h (now image) × (n < h .handles) ⌝ }
+    ensures { λ r. ⌜ r ≡ openOn (viewOf h (now (image .entry))) i n ⌝ }
 {
-    let r = layout::records::handle(s, h, n);
+    let r = layout::records::handle(image, h, n);
     if layout::handle::state(r) == 0 {
         return false;
     }
@@ -53,14 +53,14 @@ fn open_on(s: &[u8], h: Shape, i: usize, n: usize) -> bool
 }
 
 // Whether inode i is under an open handle.
-fn is_opened(s: &[u8], h: Shape, i: usize) -> bool
-    requires { ⌜ Laid h (now s) ⌝ }
-    ensures { λ r. ⌜ r ≡ isOpened (viewOf h (now (s .entry))) i ⌝ }
+fn is_opened(image: &[u8], h: Shape, i: usize) -> bool
+    requires { ⌜ Laid h (now image) ⌝ }
+    ensures { λ r. ⌜ r ≡ isOpened (viewOf h (now (image .entry))) i ⌝ }
 {
     let handles = h.handles;
     let mut n: usize = 0;
     while n < handles {
-        if open_on(s, h, i, n) {
+        if open_on(image, h, i, n) {
             return true;
         }
         n += 1;
@@ -69,29 +69,29 @@ fn is_opened(s: &[u8], h: Shape, i: usize) -> bool
 }
 
 // Step 11: the replaced inode would lose its last entry, and is the current directory or under an open handle.
-fn busy(s: &[u8], h: Shape, c: Case) -> bool
-    requires { ⌜ Laid h (now s) ⌝ }
-    ensures { λ r. ⌜ r ≡ busy (viewOf h (now (s .entry))) c ⌝ }
+fn busy(image: &[u8], h: Shape, c: Case) -> bool
+    requires { ⌜ Laid h (now image) ⌝ }
+    ensures { λ r. ⌜ r ≡ busy (viewOf h (now (image .entry))) c ⌝ }
 {
     let replaced = c.replaced;
     if replaced == limits::ABSENT {
         return false;
     }
-    if tree::entries_of(s, h, replaced) != 1 {
+    if tree::entries_of(image, h, replaced) != 1 {
         return false;
     }
     if replaced == c.current {
         return true;
     }
-    is_opened(s, h, replaced)
+    is_opened(image, h, replaced)
 }
 
 // Step 12: the new parent would get a link more than there may be.
-fn full_parent(s: &[u8], h: Shape, c: Case) -> bool
-    requires { ⌜ Laid h (now s) × Within h c ⌝ }
-    ensures { λ r. ⌜ r ≡ fullParent (viewOf h (now (s .entry))) c ⌝ }
+fn full_parent(image: &[u8], h: Shape, c: Case) -> bool
+    requires { ⌜ Laid h (now image) × Within h c ⌝ }
+    ensures { λ r. ⌜ r ≡ fullParent (viewOf h (now (image .entry))) c ⌝ }
 {
-    if !layout::lookup::is_directory(s, h, c.moved) {
+    if !layout::lookup::is_directory(image, h, c.moved) {
         return false;
     }
     if c.from == c.into {
@@ -100,13 +100,13 @@ fn full_parent(s: &[u8], h: Shape, c: Case) -> bool
     if c.replaced != limits::ABSENT {
         return false;
     }
-    let r = layout::records::inode(s, h, c.into);
+    let r = layout::records::inode(image, h, c.into);
     layout::inode::links(r) == limits::LINK_LIMIT
 }
 
 // Step 13: no entry is free. This holds of any image of the shape, since the number of slots is all that is asked.
 fn no_slot(h: Shape, c: Case) -> bool
-    ensures { λ r. ⌜ ((s : List ℕ) → r ≡ noSlot (viewOf h s) c) ⌝ }
+    ensures { λ r. ⌜ ((image : List ℕ) → r ≡ noSlot (viewOf h image) c) ⌝ }
 {
     if c.replaced != limits::ABSENT {
         return false;
@@ -115,14 +115,14 @@ fn no_slot(h: Shape, c: Case) -> bool
 }
 
 // The number of the first of steps 11 to 13 that refuses, or 0.
-pub fn number(s: &[u8], h: Shape, c: Case) -> u8
-    requires { ⌜ Laid h (now s) × Within h c ⌝ }
-    ensures { λ r. ⌜ r ≡ numberOf (decide (targetRules (viewOf h (now (s .entry))) c)) ⌝ }
+pub fn number(image: &[u8], h: Shape, c: Case) -> u8
+    requires { ⌜ Laid h (now image) × Within h c ⌝ }
+    ensures { λ r. ⌜ r ≡ numberOf (decide (targetRules (viewOf h (now (image .entry))) c)) ⌝ }
 {
-    if busy(s, h, c) {
+    if busy(image, h, c) {
         return errno::EBUSY;
     }
-    if full_parent(s, h, c) {
+    if full_parent(image, h, c) {
         return errno::EMLINK;
     }
     if no_slot(h, c) {

@@ -13,14 +13,14 @@ ghost use Rattle.walk.specs.Answer.{endOf};
 ghost use Rattle.rename.specs.Order.{freeSlot, directoryOf, slotOf, inodeOf, slashOf, caseOf};
 
 // The lowest free slot, or the number of slots where none is free.
-pub fn free_slot(s: &[u8], h: Shape) -> usize
-    requires { ⌜ Laid h (now s) ⌝ }
-    ensures { λ r. ⌜ (r ≡ freeSlot (viewOf h (now (s .entry)))) × (r ≤ h .entries) ⌝ }
+pub fn free_slot(image: &[u8], h: Shape) -> usize
+    requires { ⌜ Laid h (now image) ⌝ }
+    ensures { λ r. ⌜ (r ≡ freeSlot (viewOf h (now (image .entry)))) × (r ≤ h .entries) ⌝ }
 {
     let n = h.entries;
     let mut j: usize = 0;
     while j < n {
-        let e = layout::records::entry(s, h, j);
+        let e = layout::records::entry(image, h, j);
         if layout::entry::name_length(e) == 0 {
             return j;
         }
@@ -50,9 +50,9 @@ fn directory_of(w: Walked) -> usize
     }
 }
 
-fn slot_of(s: &[u8], h: Shape, w: Walked) -> usize
-    requires { ⌜ Laid h (now s) ⌝ }
-    ensures { λ r. ⌜ r ≡ slotOf (viewOf h (now (s .entry))) (endOf w .found) ⌝ }
+fn slot_of(image: &[u8], h: Shape, w: Walked) -> usize
+    requires { ⌜ Laid h (now image) ⌝ }
+    ensures { λ r. ⌜ r ≡ slotOf (viewOf h (now (image .entry))) (endOf w .found) ⌝ }
 {
     let found = w.found;
     match found {
@@ -67,7 +67,7 @@ fn slot_of(s: &[u8], h: Shape, w: Walked) -> usize
             from: _,
             to: _,
             slash: _,
-        } => free_slot(s, h),
+        } => free_slot(image, h),
         Found::Nothing => 0,
     }
 }
@@ -115,14 +115,14 @@ fn slash_of(w: Walked) -> bool
 }
 
 // The case of a request whose walks ended so.
-pub fn case_of(s: &[u8], h: Shape, q: Request, old: Walked, new: Walked) -> Case
-    requires { ⌜ Laid h (now s) ⌝ }
-    ensures { λ r. ⌜ r ≡ caseOf (viewOf h (now (s .entry))) q (record { old = endOf old; new = endOf new }) ⌝ }
+pub fn case_of(image: &[u8], h: Shape, q: Request, old: Walked, new: Walked) -> Case
+    requires { ⌜ Laid h (now image) ⌝ }
+    ensures { λ r. ⌜ r ≡ caseOf (viewOf h (now (image .entry))) q (record { old = endOf old; new = endOf new }) ⌝ }
 {
     let who = q.who;
     Case {
-        old: slot_of(s, h, old),
-        new: slot_of(s, h, new),
+        old: slot_of(image, h, old),
+        new: slot_of(image, h, new),
         moved: inode_of(old),
         replaced: inode_of(new),
         from: directory_of(old),

@@ -46,11 +46,11 @@ fn refused(number: u8) -> Renamed
 }
 
 // Plans the case: under the name that new's walk found missing, if it did. Answers how many rows there are.
-fn write(plan: &mut [u8], s: &[u8], h: Shape, c: Case, time: u64, new: Walked) -> usize
-    requires { ⌜ (planBytes ≤ length (now plan)) × Laid h (now s) × Ranged (new .path) (new .found) × InImage h (moveOf (viewOf h (now s)) c time) × (8 + length (nameOf (endOf new .found)) ≤ h .width) ⌝ }
-    ensures { λ r. ⌜ (now (plan .exit) ≡ planned h (now (s .entry)) (moveOf (viewOf h (now (s .entry))) c time) (nameOf (endOf new .found)) (now (plan .entry))) × (r ≡ length (renameRows h (now (s .entry)) (moveOf (viewOf h (now (s .entry))) c time) (nameOf (endOf new .found)))) ⌝ }
+fn write(plan: &mut [u8], image: &[u8], h: Shape, c: Case, time: u64, new: Walked) -> usize
+    requires { ⌜ (planBytes ≤ length (now plan)) × Laid h (now image) × Ranged (new .path) (new .found) × InImage h (moveOf (viewOf h (now image)) c time) × (8 + length (nameOf (endOf new .found)) ≤ h .width) ⌝ }
+    ensures { λ r. ⌜ (now (plan .exit) ≡ planned h (now (image .entry)) (moveOf (viewOf h (now (image .entry))) c time) (nameOf (endOf new .found)) (now (plan .entry))) × (r ≡ length (renameRows h (now (image .entry)) (moveOf (viewOf h (now (image .entry))) c time) (nameOf (endOf new .found)))) ⌝ }
 {
-    let m = moves::move_of(s, h, c, time);
+    let m = moves::move_of(image, h, c, time);
     let found = new.found;
     match found {
         Found::Missing {
@@ -60,24 +60,24 @@ fn write(plan: &mut [u8], s: &[u8], h: Shape, c: Case, time: u64, new: Walked) -
             slash: _,
         } => {
             let path = new.path;
-            moves::rows::put(plan, s, h, m, &path[from..to])
+            moves::rows::put(plan, image, h, m, &path[from..to])
         }
         Found::Existing {
             directory: _,
             slot: _,
             inode: _,
             slash: _,
-        } => moves::rows::put(plan, s, h, m, b""),
-        Found::Nothing => moves::rows::put(plan, s, h, m, b""),
+        } => moves::rows::put(plan, image, h, m, b""),
+        Found::Nothing => moves::rows::put(plan, image, h, m, b""),
     }
 }
 
 // Both walks of a good request, and what the steps make of them.
-fn walked(s: &[u8], h: Shape, q: Request, old: &[u8], new: &[u8], plan: &mut [u8]) -> Renamed
-    requires { ⌜ (planBytes ≤ length (now plan)) × Read (now s) h × (recordsNumber h (now s) ≡ 0) × (requestGood (viewOf h (now s)) q (now old) (now new) ≡ true) ⌝ }
-    ensures { λ r. ⌜ RenameAnswers (now (s .entry)) (now (plan .entry)) q (now (old .entry)) (now (new .entry)) r (now (plan .exit)) ⌝ }
+fn walked(image: &[u8], h: Shape, q: Request, old: &[u8], new: &[u8], plan: &mut [u8]) -> Renamed
+    requires { ⌜ (planBytes ≤ length (now plan)) × Read (now image) h × (recordsNumber h (now image) ≡ 0) × (requestGood (viewOf h (now image)) q (now old) (now new) ≡ true) ⌝ }
+    ensures { λ r. ⌜ RenameAnswers (now (image .entry)) (now (plan .entry)) q (now (old .entry)) (now (new .entry)) r (now (plan .exit)) ⌝ }
 {
-    let w = walk::both::both(s, h, q, old, new);
+    let w = walk::both::both(image, h, q, old, new);
     let first = w.old;
     let second = w.new;
     let mut r = Renamed {
@@ -89,41 +89,41 @@ fn walked(s: &[u8], h: Shape, q: Request, old: &[u8], new: &[u8], plan: &mut [u8
     if r.number != 0 {
         return r;
     }
-    let c = found::case_of(s, h, q, first, second);
-    let answer = refusals::steps::judge(s, h, c);
+    let c = found::case_of(image, h, q, first, second);
+    let answer = refusals::steps::judge(image, h, c);
     match answer {
         Answer::Refused(number) => r.number = number,
         Answer::Same => plan::clear(plan),
-        Answer::Planned => r.rows = write(plan, s, h, c, q.now, second),
+        Answer::Planned => r.rows = write(plan, image, h, c, q.now, second),
     }
     r
 }
 
 // A request on an image of a good layout.
-fn asked(s: &[u8], h: Shape, q: Request, old: &[u8], new: &[u8], plan: &mut [u8]) -> Renamed
-    requires { ⌜ (planBytes ≤ length (now plan)) × Read (now s) h ⌝ }
-    ensures { λ r. ⌜ RenameAnswers (now (s .entry)) (now (plan .entry)) q (now (old .entry)) (now (new .entry)) r (now (plan .exit)) ⌝ }
+fn asked(image: &[u8], h: Shape, q: Request, old: &[u8], new: &[u8], plan: &mut [u8]) -> Renamed
+    requires { ⌜ (planBytes ≤ length (now plan)) × Read (now image) h ⌝ }
+    ensures { λ r. ⌜ RenameAnswers (now (image .entry)) (now (plan .entry)) q (now (old .entry)) (now (new .entry)) r (now (plan .exit)) ⌝ }
 {
-    let number = consistency::records_number(s, h);
+    let number = consistency::records_number(image, h);
     if number != 0 {
         return refused(number);
     }
-    if !paths::request::good(s, h, q, old, new) {
+    if !paths::request::good(image, h, q, old, new) {
         return refused(errno::WRONG_REQUEST);
     }
-    walked(s, h, q, old, new, plan)
+    walked(image, h, q, old, new, plan)
 }
 
 // The job rename. The image is only read; the plan is written where the answer is 0, and else as it was.
-pub fn rename(s: &[u8], q: Request, old: &[u8], new: &[u8], plan: &mut [u8]) -> Renamed
-    ensures { λ r. ⌜ RenameAnswers (now (s .entry)) (now (plan .entry)) q (now (old .entry)) (now (new .entry)) r (now (plan .exit)) ⌝ }
+pub fn rename(image: &[u8], q: Request, old: &[u8], new: &[u8], plan: &mut [u8]) -> Renamed
+    ensures { λ r. ⌜ RenameAnswers (now (image .entry)) (now (plan .entry)) q (now (old .entry)) (now (new .entry)) r (now (plan .exit)) ⌝ }
 {
     if plan.len() < plan::BYTES {
         return refused(errno::SHORT_BUFFER);
     }
-    let found = layout::contents::read(s);
+    let found = layout::contents::read(image);
     match found {
         Contents::Bad => refused(errno::INCONSISTENT),
-        Contents::Good(h) => asked(s, h, q, old, new, plan),
+        Contents::Good(h) => asked(image, h, q, old, new, plan),
     }
 }

@@ -8,21 +8,21 @@ ghost use Rattle.layout.specs.View.{inodeAt};
 ghost use Rattle.results.specs.Results.{movedAfter, holderAfter, replacedAfter};
 
 // Inode i as it stands, copied.
-fn inode(s: &[u8], h: Shape, i: usize) -> [u8; 32]
-    requires { ⌜ Laid h (now s) × (i < h .inodes) ⌝ }
-    ensures { λ r. ⌜ r ≡ inodeAt h (now (s .entry)) i ⌝ }
+fn inode(image: &[u8], h: Shape, i: usize) -> [u8; 32]
+    requires { ⌜ Laid h (now image) × (i < h .inodes) ⌝ }
+    ensures { λ r. ⌜ r ≡ inodeAt h (now (image .entry)) i ⌝ }
 {
     let mut r = [0u8; 32];
-    layout::bytes::copy(&mut r, 0, layout::records::inode(s, h, i));
+    layout::bytes::copy(&mut r, 0, layout::records::inode(image, h, i));
     r
 }
 
 // The moved inode.
-pub fn moved(s: &[u8], h: Shape, m: Move) -> [u8; 32]
-    requires { ⌜ Laid h (now s) × (m .moved < h .inodes) ⌝ }
-    ensures { λ r. ⌜ r ≡ movedAfter h (now (s .entry)) m ⌝ }
+pub fn moved(image: &[u8], h: Shape, m: Move) -> [u8; 32]
+    requires { ⌜ Laid h (now image) × (m .moved < h .inodes) ⌝ }
+    ensures { λ r. ⌜ r ≡ movedAfter h (now (image .entry)) m ⌝ }
 {
-    let mut r = inode(s, h, m.moved);
+    let mut r = inode(image, h, m.moved);
     let kind = r[0];
     encode::inode::set_changed(&mut r, m.now);
     if kind != 2 {
@@ -33,12 +33,12 @@ pub fn moved(s: &[u8], h: Shape, m: Move) -> [u8; 32]
 }
 
 // The old or the new parent, inode i.
-pub fn holder(s: &[u8], h: Shape, m: Move, i: usize) -> [u8; 32]
-    requires { ⌜ Laid h (now s) × (i < h .inodes) ⌝ }
-    ensures { λ r. ⌜ r ≡ holderAfter h (now (s .entry)) m i ⌝ }
+pub fn holder(image: &[u8], h: Shape, m: Move, i: usize) -> [u8; 32]
+    requires { ⌜ Laid h (now image) × (i < h .inodes) ⌝ }
+    ensures { λ r. ⌜ r ≡ holderAfter h (now (image .entry)) m i ⌝ }
 {
-    let links = crate::recount::links_after(s, h, m, i);
-    let mut r = inode(s, h, i);
+    let links = crate::recount::links_after(image, h, m, i);
+    let mut r = inode(image, h, i);
     encode::inode::set_links(&mut r, links);
     encode::inode::set_modified(&mut r, m.now);
     encode::inode::set_changed(&mut r, m.now);
@@ -46,16 +46,16 @@ pub fn holder(s: &[u8], h: Shape, m: Move, i: usize) -> [u8; 32]
 }
 
 // The replaced inode.
-pub fn replaced(s: &[u8], h: Shape, m: Move) -> [u8; 32]
-    requires { ⌜ Laid h (now s) × (m .replaced < h .inodes) ⌝ }
-    ensures { λ r. ⌜ r ≡ replacedAfter h (now (s .entry)) m ⌝ }
+pub fn replaced(image: &[u8], h: Shape, m: Move) -> [u8; 32]
+    requires { ⌜ Laid h (now image) × (m .replaced < h .inodes) ⌝ }
+    ensures { λ r. ⌜ r ≡ replacedAfter h (now (image .entry)) m ⌝ }
 {
     let i = m.replaced;
-    if crate::recount::entries_after(s, h, m, i) == 0 {
+    if crate::recount::entries_after(image, h, m, i) == 0 {
         return [0u8; 32];
     }
-    let links = crate::recount::links_after(s, h, m, i);
-    let mut r = inode(s, h, i);
+    let links = crate::recount::links_after(image, h, m, i);
+    let mut r = inode(image, h, i);
     encode::inode::set_links(&mut r, links);
     encode::inode::set_changed(&mut r, m.now);
     r

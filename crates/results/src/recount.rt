@@ -8,9 +8,9 @@ ghost use Rattle.layout.specs.View.{viewOf};
 ghost use Rattle.results.specs.Results.{targetsAfter, entriesAfter, holdsAfter, childrenAfter, linksAfter};
 
 // Whether the entry in slot j, as edited, targets inode i.
-fn targets_after(s: &[u8], h: Shape, m: Move, i: usize, j: usize) -> bool
-    requires { ⌜ Laid h (now s) × (j < h .entries) ⌝ }
-    ensures { λ r. ⌜ r ≡ targetsAfter (viewOf h (now (s .entry))) m i j ⌝ }
+fn targets_after(image: &[u8], h: Shape, m: Move, i: usize, j: usize) -> bool
+    requires { ⌜ Laid h (now image) × (j < h .entries) ⌝ }
+    ensures { λ r. ⌜ r ≡ targetsAfter (viewOf h (now (image .entry))) m i j ⌝ }
 {
     if j == m.old {
         return false;
@@ -18,7 +18,7 @@ fn targets_after(s: &[u8], h: Shape, m: Move, i: usize, j: usize) -> bool
     if j == m.new {
         return m.moved == i;
     }
-    let e = layout::records::entry(s, h, j);
+    let e = layout::records::entry(image, h, j);
     if layout::entry::name_length(e) == 0 {
         return false;
     }
@@ -26,15 +26,15 @@ fn targets_after(s: &[u8], h: Shape, m: Move, i: usize, j: usize) -> bool
 }
 
 // How many entries, as edited, target inode i.
-pub fn entries_after(s: &[u8], h: Shape, m: Move, i: usize) -> usize
-    requires { ⌜ Laid h (now s) ⌝ }
-    ensures { λ r. ⌜ (r ≡ entriesAfter (viewOf h (now (s .entry))) m i) × (r ≤ 1024) ⌝ }
+pub fn entries_after(image: &[u8], h: Shape, m: Move, i: usize) -> usize
+    requires { ⌜ Laid h (now image) ⌝ }
+    ensures { λ r. ⌜ (r ≡ entriesAfter (viewOf h (now (image .entry))) m i) × (r ≤ 1024) ⌝ }
 {
     let n = h.entries;
     let mut found: usize = 0;
     let mut j: usize = 0;
     while j < n {
-        if targets_after(s, h, m, i, j) {
+        if targets_after(image, h, m, i, j) {
             found += 1;
         }
         j += 1;
@@ -43,9 +43,9 @@ pub fn entries_after(s: &[u8], h: Shape, m: Move, i: usize) -> usize
 }
 
 // Whether the entry in slot j, as edited, lies in directory d and targets a directory.
-fn holds_after(s: &[u8], h: Shape, m: Move, d: usize, j: usize) -> bool
-    requires { ⌜ Laid h (now s) × (j < h .entries) ⌝ }
-    ensures { λ r. ⌜ r ≡ holdsAfter (viewOf h (now (s .entry))) m d j ⌝ }
+fn holds_after(image: &[u8], h: Shape, m: Move, d: usize, j: usize) -> bool
+    requires { ⌜ Laid h (now image) × (j < h .entries) ⌝ }
+    ensures { λ r. ⌜ r ≡ holdsAfter (viewOf h (now (image .entry))) m d j ⌝ }
 {
     if j == m.old {
         return false;
@@ -54,28 +54,28 @@ fn holds_after(s: &[u8], h: Shape, m: Move, d: usize, j: usize) -> bool
         if m.into != d {
             return false;
         }
-        return layout::lookup::is_directory(s, h, m.moved);
+        return layout::lookup::is_directory(image, h, m.moved);
     }
-    let e = layout::records::entry(s, h, j);
+    let e = layout::records::entry(image, h, j);
     if layout::entry::name_length(e) == 0 {
         return false;
     }
     if layout::entry::parent(e) != d {
         return false;
     }
-    layout::lookup::is_directory(s, h, layout::entry::target(e))
+    layout::lookup::is_directory(image, h, layout::entry::target(e))
 }
 
 // How many child directories directory d has, by the entries as edited.
-pub fn children_after(s: &[u8], h: Shape, m: Move, d: usize) -> usize
-    requires { ⌜ Laid h (now s) ⌝ }
-    ensures { λ r. ⌜ (r ≡ childrenAfter (viewOf h (now (s .entry))) m d) × (r ≤ 1024) ⌝ }
+pub fn children_after(image: &[u8], h: Shape, m: Move, d: usize) -> usize
+    requires { ⌜ Laid h (now image) ⌝ }
+    ensures { λ r. ⌜ (r ≡ childrenAfter (viewOf h (now (image .entry))) m d) × (r ≤ 1024) ⌝ }
 {
     let n = h.entries;
     let mut found: usize = 0;
     let mut j: usize = 0;
     while j < n {
-        if holds_after(s, h, m, d, j) {
+        if holds_after(image, h, m, d, j) {
             found += 1;
         }
         j += 1;
@@ -84,12 +84,12 @@ pub fn children_after(s: &[u8], h: Shape, m: Move, d: usize) -> usize
 }
 
 // The link count of inode i, by the entries as edited.
-pub fn links_after(s: &[u8], h: Shape, m: Move, i: usize) -> usize
-    requires { ⌜ Laid h (now s) ⌝ }
-    ensures { λ r. ⌜ (r ≡ linksAfter (viewOf h (now (s .entry))) m i) × (r ≤ 1026) ⌝ }
+pub fn links_after(image: &[u8], h: Shape, m: Move, i: usize) -> usize
+    requires { ⌜ Laid h (now image) ⌝ }
+    ensures { λ r. ⌜ (r ≡ linksAfter (viewOf h (now (image .entry))) m i) × (r ≤ 1026) ⌝ }
 {
-    if layout::lookup::is_directory(s, h, i) {
-        return children_after(s, h, m, i) + 2;
+    if layout::lookup::is_directory(image, h, i) {
+        return children_after(image, h, m, i) + 2;
     }
-    entries_after(s, h, m, i)
+    entries_after(image, h, m, i)
 }

@@ -15,67 +15,67 @@ ghost use Rattle.plan.specs.WriteLaws.{Filled};
 ghost use Rattle.results.specs.Results.{movedRow, holderRow, alwaysRows, intoRows, replacedRows, results, clearRow};
 ghost use Rattle.results.specs.InImage.{InImage};
 
-fn put_moved(plan: &mut [u8], at: usize, s: &[u8], h: Shape, m: Move)
-    requires { ⌜ (planBytes ≤ length (now plan)) × (at < planRows) × Laid h (now s) × (m .moved < h .inodes) ⌝ }
-    ensures { λ _. ⌜ now (plan .exit) ≡ rowPut (now (plan .entry)) at (rowFrom h (movedRow h (now (s .entry)) m)) ⌝ }
+fn put_moved(plan: &mut [u8], at: usize, image: &[u8], h: Shape, m: Move)
+    requires { ⌜ (planBytes ≤ length (now plan)) × (at < planRows) × Laid h (now image) × (m .moved < h .inodes) ⌝ }
+    ensures { λ _. ⌜ now (plan .exit) ≡ rowPut (now (plan .entry)) at (rowFrom h (movedRow h (now (image .entry)) m)) ⌝ }
 {
-    let r = crate::records::moved(s, h, m);
+    let r = crate::records::moved(image, h, m);
     plan::put_row(plan, at, RESULT_GROUP, place::inode(h, m.moved), &r);
 }
 
 // The old or the new parent, inode i.
-fn put_holder(plan: &mut [u8], at: usize, s: &[u8], h: Shape, m: Move, i: usize)
-    requires { ⌜ (planBytes ≤ length (now plan)) × (at < planRows) × Laid h (now s) × (i < h .inodes) ⌝ }
-    ensures { λ _. ⌜ now (plan .exit) ≡ rowPut (now (plan .entry)) at (rowFrom h (holderRow h (now (s .entry)) m i)) ⌝ }
+fn put_holder(plan: &mut [u8], at: usize, image: &[u8], h: Shape, m: Move, i: usize)
+    requires { ⌜ (planBytes ≤ length (now plan)) × (at < planRows) × Laid h (now image) × (i < h .inodes) ⌝ }
+    ensures { λ _. ⌜ now (plan .exit) ≡ rowPut (now (plan .entry)) at (rowFrom h (holderRow h (now (image .entry)) m i)) ⌝ }
 {
-    let r = crate::records::holder(s, h, m, i);
+    let r = crate::records::holder(image, h, m, i);
     plan::put_row(plan, at, RESULT_GROUP, place::inode(h, i), &r);
 }
 
 // The old entry cleared, the moved inode and the old parent. Answers the next place, as the functions below do.
-fn put_always(plan: &mut [u8], at: usize, s: &[u8], h: Shape, m: Move) -> usize
-    requires { ⌜ (planBytes ≤ length (now plan)) × (at + 3 ≤ planRows) × Laid h (now s) × InImage h m ⌝ }
-    ensures { λ n. ⌜ Filled h (now (plan .entry)) at (alwaysRows h (now (s .entry)) m) (now (plan .exit)) n ⌝ }
+fn put_always(plan: &mut [u8], at: usize, image: &[u8], h: Shape, m: Move) -> usize
+    requires { ⌜ (planBytes ≤ length (now plan)) × (at + 3 ≤ planRows) × Laid h (now image) × InImage h m ⌝ }
+    ensures { λ n. ⌜ Filled h (now (plan .entry)) at (alwaysRows h (now (image .entry)) m) (now (plan .exit)) n ⌝ }
 {
     plan::put_clearing(plan, at, RESULT_GROUP, place::entry(h, m.old), h.width);
-    put_moved(plan, at + 1, s, h, m);
-    put_holder(plan, at + 2, s, h, m, m.from);
+    put_moved(plan, at + 1, image, h, m);
+    put_holder(plan, at + 2, image, h, m, m.from);
     at + 3
 }
 
 // The new parent, where it is another directory than the old one.
-fn put_into(plan: &mut [u8], at: usize, s: &[u8], h: Shape, m: Move) -> usize
-    requires { ⌜ (planBytes ≤ length (now plan)) × (at < planRows) × Laid h (now s) × InImage h m ⌝ }
-    ensures { λ n. ⌜ Filled h (now (plan .entry)) at (intoRows h (now (s .entry)) m) (now (plan .exit)) n ⌝ }
+fn put_into(plan: &mut [u8], at: usize, image: &[u8], h: Shape, m: Move) -> usize
+    requires { ⌜ (planBytes ≤ length (now plan)) × (at < planRows) × Laid h (now image) × InImage h m ⌝ }
+    ensures { λ n. ⌜ Filled h (now (plan .entry)) at (intoRows h (now (image .entry)) m) (now (plan .exit)) n ⌝ }
 {
     if m.into == m.from {
         return at;
     }
-    put_holder(plan, at, s, h, m, m.into);
+    put_holder(plan, at, image, h, m, m.into);
     at + 1
 }
 
 // The replaced inode, where there is one.
-fn put_replaced(plan: &mut [u8], at: usize, s: &[u8], h: Shape, m: Move) -> usize
-    requires { ⌜ (planBytes ≤ length (now plan)) × (at < planRows) × Laid h (now s) × InImage h m ⌝ }
-    ensures { λ n. ⌜ Filled h (now (plan .entry)) at (replacedRows h (now (s .entry)) m) (now (plan .exit)) n ⌝ }
+fn put_replaced(plan: &mut [u8], at: usize, image: &[u8], h: Shape, m: Move) -> usize
+    requires { ⌜ (planBytes ≤ length (now plan)) × (at < planRows) × Laid h (now image) × InImage h m ⌝ }
+    ensures { λ n. ⌜ Filled h (now (plan .entry)) at (replacedRows h (now (image .entry)) m) (now (plan .exit)) n ⌝ }
 {
     if m.replaced == limits::ABSENT {
         return at;
     }
-    let r = crate::records::replaced(s, h, m);
+    let r = crate::records::replaced(image, h, m);
     plan::put_row(plan, at, RESULT_GROUP, place::inode(h, m.replaced), &r);
     at + 1
 }
 
 // Puts the results of the move into the plan from place first on, and answers the place behind them.
-pub fn put(plan: &mut [u8], first: usize, s: &[u8], h: Shape, m: Move) -> usize
-    requires { ⌜ (planBytes ≤ length (now plan)) × (first + 6 ≤ planRows) × Laid h (now s) × InImage h m ⌝ }
-    ensures { λ n. ⌜ Filled h (now (plan .entry)) first (results h (now (s .entry)) m) (now (plan .exit)) n ⌝ }
+pub fn put(plan: &mut [u8], first: usize, image: &[u8], h: Shape, m: Move) -> usize
+    requires { ⌜ (planBytes ≤ length (now plan)) × (first + 6 ≤ planRows) × Laid h (now image) × InImage h m ⌝ }
+    ensures { λ n. ⌜ Filled h (now (plan .entry)) first (results h (now (image .entry)) m) (now (plan .exit)) n ⌝ }
 {
-    let a = put_always(plan, first, s, h, m);
-    let b = put_into(plan, a, s, h, m);
-    let c = put_replaced(plan, b, s, h, m);
+    let a = put_always(plan, first, image, h, m);
+    let b = put_into(plan, a, image, h, m);
+    let c = put_replaced(plan, b, image, h, m);
     if m.text == limits::ABSENT {
         return c;
     }
@@ -84,8 +84,8 @@ pub fn put(plan: &mut [u8], first: usize, s: &[u8], h: Shape, m: Move) -> usize
 }
 
 // The row that clears the journal record, in the place behind all others.
-pub fn put_clear(plan: &mut [u8], at: usize, s: &[u8], h: Shape)
-    requires { ⌜ (planBytes ≤ length (now plan)) × (at < planRows) × Laid h (now s) ⌝ }
+pub fn put_clear(plan: &mut [u8], at: usize, image: &[u8], h: Shape)
+    requires { ⌜ (planBytes ≤ length (now plan)) × (at < planRows) × Laid h (now image) ⌝ }
     ensures { λ _. ⌜ now (plan .exit) ≡ rowPut (now (plan .entry)) at (rowFrom h (clearRow h)) ⌝ }
 {
     let r = [0u8; limits::JOURNAL_BYTES];

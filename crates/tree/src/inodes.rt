@@ -10,11 +10,11 @@ ghost use Rattle.tree.specs.Inode.{leafGood, fileGood, directoryPlaced, 
 ghost use Rattle.tree.specs.Tree.{hasText, textShared};
 
 // What a file and a symlink share: mode and link count.
-fn leaf_good(s: &[u8], h: Shape, i: usize) -> bool
-    requires { ⌜ Laid h (now s) × (i < h .inodes) ⌝ }
-    ensures { λ r. ⌜ r ≡ leafGood (viewOf h (now (s .entry))) i ⌝ }
+fn leaf_good(image: &[u8], h: Shape, i: usize) -> bool
+    requires { ⌜ Laid h (now image) × (i < h .inodes) ⌝ }
+    ensures { λ r. ⌜ r ≡ leafGood (viewOf h (now (image .entry))) i ⌝ }
 {
-    let r = layout::records::inode(s, h, i);
+    let r = layout::records::inode(image, h, i);
     if limits::MODE_LIMIT <= layout::inode::mode(r) {
         return false;
     }
@@ -25,40 +25,40 @@ fn leaf_good(s: &[u8], h: Shape, i: usize) -> bool
     if links < 1 {
         return false;
     }
-    links == crate::entries_of(s, h, i)
+    links == crate::entries_of(image, h, i)
 }
 
-fn file_good(s: &[u8], h: Shape, i: usize) -> bool
-    requires { ⌜ Laid h (now s) × (i < h .inodes) ⌝ }
-    ensures { λ r. ⌜ r ≡ fileGood (viewOf h (now (s .entry))) i ⌝ }
+fn file_good(image: &[u8], h: Shape, i: usize) -> bool
+    requires { ⌜ Laid h (now image) × (i < h .inodes) ⌝ }
+    ensures { λ r. ⌜ r ≡ fileGood (viewOf h (now (image .entry))) i ⌝ }
 {
-    if !leaf_good(s, h, i) {
+    if !leaf_good(image, h, i) {
         return false;
     }
-    let r = layout::records::inode(s, h, i);
+    let r = layout::records::inode(image, h, i);
     layout::inode::field(r) == 0
 }
 
 // The root is its own parent; any other directory has one entry and leads to the root.
-fn directory_placed(s: &[u8], h: Shape, i: usize) -> bool
-    requires { ⌜ Laid h (now s) × (i < h .inodes) ⌝ }
-    ensures { λ r. ⌜ r ≡ directoryPlaced (viewOf h (now (s .entry))) i ⌝ }
+fn directory_placed(image: &[u8], h: Shape, i: usize) -> bool
+    requires { ⌜ Laid h (now image) × (i < h .inodes) ⌝ }
+    ensures { λ r. ⌜ r ≡ directoryPlaced (viewOf h (now (image .entry))) i ⌝ }
 {
     if i == 0 {
-        let r = layout::records::inode(s, h, i);
+        let r = layout::records::inode(image, h, i);
         return layout::inode::field(r) == 0;
     }
-    if crate::entries_of(s, h, i) != 1 {
+    if crate::entries_of(image, h, i) != 1 {
         return false;
     }
-    crate::is_above(s, h, 0, i)
+    crate::is_above(image, h, 0, i)
 }
 
-fn directory_good(s: &[u8], h: Shape, i: usize) -> bool
-    requires { ⌜ Laid h (now s) × (i < h .inodes) ⌝ }
-    ensures { λ r. ⌜ r ≡ directoryGood (viewOf h (now (s .entry))) i ⌝ }
+fn directory_good(image: &[u8], h: Shape, i: usize) -> bool
+    requires { ⌜ Laid h (now image) × (i < h .inodes) ⌝ }
+    ensures { λ r. ⌜ r ≡ directoryGood (viewOf h (now (image .entry))) i ⌝ }
 {
-    let r = layout::records::inode(s, h, i);
+    let r = layout::records::inode(image, h, i);
     if limits::MODE_LIMIT <= layout::inode::mode(r) {
         return false;
     }
@@ -66,34 +66,34 @@ fn directory_good(s: &[u8], h: Shape, i: usize) -> bool
     if limits::LINK_LIMIT < links {
         return false;
     }
-    if links != 2 + crate::child_directories(s, h, i) {
+    if links != 2 + crate::child_directories(image, h, i) {
         return false;
     }
-    directory_placed(s, h, i)
+    directory_placed(image, h, i)
 }
 
 // Whether inode k is a symlink with this text.
-pub fn has_text(s: &[u8], h: Shape, k: usize, text: usize) -> bool
-    requires { ⌜ Laid h (now s) × (k < h .inodes) ⌝ }
-    ensures { λ r. ⌜ r ≡ hasText (viewOf h (now (s .entry))) text k ⌝ }
+pub fn has_text(image: &[u8], h: Shape, k: usize, text: usize) -> bool
+    requires { ⌜ Laid h (now image) × (k < h .inodes) ⌝ }
+    ensures { λ r. ⌜ r ≡ hasText (viewOf h (now (image .entry))) text k ⌝ }
 {
-    if !layout::lookup::is_symlink(s, h, k) {
+    if !layout::lookup::is_symlink(image, h, k) {
         return false;
     }
-    let r = layout::records::inode(s, h, k);
+    let r = layout::records::inode(image, h, k);
     layout::inode::field(r) == text
 }
 
 // Whether a symlink ahead of inode i has its text.
-fn text_shared(s: &[u8], h: Shape, i: usize) -> bool
-    requires { ⌜ Laid h (now s) × (i < h .inodes) ⌝ }
-    ensures { λ r. ⌜ r ≡ textShared (viewOf h (now (s .entry))) i ⌝ }
+fn text_shared(image: &[u8], h: Shape, i: usize) -> bool
+    requires { ⌜ Laid h (now image) × (i < h .inodes) ⌝ }
+    ensures { λ r. ⌜ r ≡ textShared (viewOf h (now (image .entry))) i ⌝ }
 {
-    let r = layout::records::inode(s, h, i);
+    let r = layout::records::inode(image, h, i);
     let text = layout::inode::field(r);
     let mut k: usize = 0;
     while k < i {
-        if has_text(s, h, k, text) {
+        if has_text(image, h, k, text) {
             return true;
         }
         k += 1;
@@ -102,57 +102,57 @@ fn text_shared(s: &[u8], h: Shape, i: usize) -> bool
 }
 
 // Whether t is a text in use.
-fn text_used(s: &[u8], h: Shape, t: usize) -> bool
-    requires { ⌜ Laid h (now s) × (t < h .texts) ⌝ }
-    ensures { λ r. ⌜ r ≡ textUsed (viewOf h (now (s .entry))) t ⌝ }
+fn text_used(image: &[u8], h: Shape, t: usize) -> bool
+    requires { ⌜ Laid h (now image) × (t < h .texts) ⌝ }
+    ensures { λ r. ⌜ r ≡ textUsed (viewOf h (now (image .entry))) t ⌝ }
 {
-    let r = layout::records::text(s, h, t);
+    let r = layout::records::text(image, h, t);
     layout::text::length(r) != 0
 }
 
-fn symlink_good(s: &[u8], h: Shape, i: usize) -> bool
-    requires { ⌜ Laid h (now s) × (i < h .inodes) ⌝ }
-    ensures { λ r. ⌜ r ≡ symlinkGood (viewOf h (now (s .entry))) i ⌝ }
+fn symlink_good(image: &[u8], h: Shape, i: usize) -> bool
+    requires { ⌜ Laid h (now image) × (i < h .inodes) ⌝ }
+    ensures { λ r. ⌜ r ≡ symlinkGood (viewOf h (now (image .entry))) i ⌝ }
 {
-    if !leaf_good(s, h, i) {
+    if !leaf_good(image, h, i) {
         return false;
     }
-    let r = layout::records::inode(s, h, i);
+    let r = layout::records::inode(image, h, i);
     let text = layout::inode::field(r);
     if h.texts <= text {
         return false;
     }
-    if !text_used(s, h, text) {
+    if !text_used(image, h, text) {
         return false;
     }
-    !text_shared(s, h, i)
+    !text_shared(image, h, i)
 }
 
 // The type number decides what is asked of an inode.
-fn good(s: &[u8], h: Shape, i: usize) -> bool
-    requires { ⌜ Laid h (now s) × (i < h .inodes) ⌝ }
-    ensures { λ r. ⌜ r ≡ inodeGood h (now (s .entry)) i ⌝ }
+fn good(image: &[u8], h: Shape, i: usize) -> bool
+    requires { ⌜ Laid h (now image) × (i < h .inodes) ⌝ }
+    ensures { λ r. ⌜ r ≡ inodeGood h (now (image .entry)) i ⌝ }
 {
-    let r = layout::records::inode(s, h, i);
+    let r = layout::records::inode(image, h, i);
     let kind = layout::inode::kind(r);
     match kind {
         0 => layout::bytes::all_zero(r, 0, 32),
-        1 => file_good(s, h, i),
-        2 => directory_good(s, h, i),
-        3 => symlink_good(s, h, i),
+        1 => file_good(image, h, i),
+        2 => directory_good(image, h, i),
+        3 => symlink_good(image, h, i),
         _ => false,
     }
 }
 
 // Whether every inode is consistent.
-pub fn all_good(s: &[u8], h: Shape) -> bool
-    requires { ⌜ Laid h (now s) ⌝ }
-    ensures { λ r. ⌜ r ≡ all (inodeGood h (now (s .entry))) (h .inodes) ⌝ }
+pub fn all_good(image: &[u8], h: Shape) -> bool
+    requires { ⌜ Laid h (now image) ⌝ }
+    ensures { λ r. ⌜ r ≡ all (inodeGood h (now (image .entry))) (h .inodes) ⌝ }
 {
     let n = h.inodes;
     let mut i: usize = 0;
     while i < n {
-        if !good(s, h, i) {
+        if !good(image, h, i) {
             return false;
         }
         i += 1;

@@ -9,11 +9,11 @@ ghost use Rattle.tree.specs.Tree.{targets, entriesOf, holdsDirectory, ch
 pub mod inodes;
 
 // Whether the entry in slot j is in use and targets inode i.
-fn entry_targets(s: &[u8], h: Shape, i: usize, j: usize) -> bool
-    requires { ⌜ Laid h (now s) × (j < h .entries) ⌝ }
-    ensures { λ r. ⌜ r ≡ targets (viewOf h (now (s .entry))) i j ⌝ }
+fn entry_targets(image: &[u8], h: Shape, i: usize, j: usize) -> bool
+    requires { ⌜ Laid h (now image) × (j < h .entries) ⌝ }
+    ensures { λ r. ⌜ r ≡ targets (viewOf h (now (image .entry))) i j ⌝ }
 {
-    let e = layout::records::entry(s, h, j);
+    let e = layout::records::entry(image, h, j);
     if layout::entry::name_length(e) == 0 {
         return false;
     }
@@ -21,15 +21,15 @@ fn entry_targets(s: &[u8], h: Shape, i: usize, j: usize) -> bool
 }
 
 // How many entries target inode i.
-pub fn entries_of(s: &[u8], h: Shape, i: usize) -> usize
-    requires { ⌜ Laid h (now s) ⌝ }
-    ensures { λ r. ⌜ r ≡ entriesOf (viewOf h (now (s .entry))) i ⌝ }
+pub fn entries_of(image: &[u8], h: Shape, i: usize) -> usize
+    requires { ⌜ Laid h (now image) ⌝ }
+    ensures { λ r. ⌜ r ≡ entriesOf (viewOf h (now (image .entry))) i ⌝ }
 {
     let n = h.entries;
     let mut found: usize = 0;
     let mut j: usize = 0;
     while j < n {
-        if entry_targets(s, h, i, j) {
+        if entry_targets(image, h, i, j) {
             found += 1;
         }
         j += 1;
@@ -38,30 +38,30 @@ pub fn entries_of(s: &[u8], h: Shape, i: usize) -> usize
 }
 
 // Whether the entry in slot j is in use, lies in directory i and targets a directory.
-fn entry_holds_directory(s: &[u8], h: Shape, i: usize, j: usize) -> bool
-    requires { ⌜ Laid h (now s) × (j < h .entries) ⌝ }
-    ensures { λ r. ⌜ r ≡ holdsDirectory (viewOf h (now (s .entry))) i j ⌝ }
+fn entry_holds_directory(image: &[u8], h: Shape, i: usize, j: usize) -> bool
+    requires { ⌜ Laid h (now image) × (j < h .entries) ⌝ }
+    ensures { λ r. ⌜ r ≡ holdsDirectory (viewOf h (now (image .entry))) i j ⌝ }
 {
-    let e = layout::records::entry(s, h, j);
+    let e = layout::records::entry(image, h, j);
     if layout::entry::name_length(e) == 0 {
         return false;
     }
     if layout::entry::parent(e) != i {
         return false;
     }
-    layout::lookup::is_directory(s, h, layout::entry::target(e))
+    layout::lookup::is_directory(image, h, layout::entry::target(e))
 }
 
 // How many child directories directory i has.
-pub fn child_directories(s: &[u8], h: Shape, i: usize) -> usize
-    requires { ⌜ Laid h (now s) ⌝ }
-    ensures { λ r. ⌜ (r ≡ childDirectories (viewOf h (now (s .entry))) i) × (r ≤ 1024) ⌝ }
+pub fn child_directories(image: &[u8], h: Shape, i: usize) -> usize
+    requires { ⌜ Laid h (now image) ⌝ }
+    ensures { λ r. ⌜ (r ≡ childDirectories (viewOf h (now (image .entry))) i) × (r ≤ 1024) ⌝ }
 {
     let n = h.entries;
     let mut found: usize = 0;
     let mut j: usize = 0;
     while j < n {
-        if entry_holds_directory(s, h, i, j) {
+        if entry_holds_directory(image, h, i, j) {
             found += 1;
         }
         j += 1;
@@ -71,9 +71,9 @@ pub fn child_directories(s: &[u8], h: Shape, i: usize) -> usize
 
 // Whether inode i is the goal, or the goal is above it. More steps than there are inodes would go round in a circle, or stay at the root, which is its own
 // parent.
-pub fn is_above(s: &[u8], h: Shape, goal: usize, i: usize) -> bool
-    requires { ⌜ Laid h (now s) × (i < h .inodes) ⌝ }
-    ensures { λ r. ⌜ r ≡ reaches (viewOf h (now (s .entry))) goal (h .inodes) i ⌝ }
+pub fn is_above(image: &[u8], h: Shape, goal: usize, i: usize) -> bool
+    requires { ⌜ Laid h (now image) × (i < h .inodes) ⌝ }
+    ensures { λ r. ⌜ r ≡ reaches (viewOf h (now (image .entry))) goal (h .inodes) i ⌝ }
 {
     let mut at = i;
     let mut left = h.inodes;
@@ -81,9 +81,9 @@ pub fn is_above(s: &[u8], h: Shape, goal: usize, i: usize) -> bool
         if at == goal {
             return true;
         }
-        let r = layout::records::inode(s, h, at);
+        let r = layout::records::inode(image, h, at);
         at = layout::inode::field(r);
-        if !layout::lookup::is_directory(s, h, at) {
+        if !layout::lookup::is_directory(image, h, at) {
             return false;
         }
         left -= 1;

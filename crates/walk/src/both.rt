@@ -19,13 +19,13 @@ pub struct Walks {
 
 // Old must name something, new need not. Where old's walk is refused, new's does not begin, and ends with the same number: so the number
 // of new's is that of both.
-pub fn both(s: &[u8], h: Shape, q: Request, old: &[u8], new: &[u8]) -> Walks
-    requires { ⌜ Readable h (now s) × (requestGood (viewOf h (now s)) q (now old) (now new) ≡ true) ⌝ }
-    ensures { λ r. ⌜ BothAnswered (viewOf h (now (s .entry))) r (walksOf (viewOf h (now (s .entry))) q (now (old .entry)) (now (new .entry))) ⌝ }
+pub fn both(image: &[u8], h: Shape, q: Request, old: &[u8], new: &[u8]) -> Walks
+    requires { ⌜ Readable h (now image) × (requestGood (viewOf h (now image)) q (now old) (now new) ≡ true) ⌝ }
+    ensures { λ r. ⌜ BothAnswered (viewOf h (now (image .entry))) r (walksOf (viewOf h (now (image .entry))) q (now (old .entry)) (now (new .entry))) ⌝ }
 {
     let current = q.current as usize;
     let first = resolve::walk(
-        s,
+        image,
         h,
         q.who,
         Final::MustExist,
@@ -41,7 +41,7 @@ pub fn both(s: &[u8], h: Shape, q: Request, old: &[u8], new: &[u8]) -> Walks
         };
     }
     let second = resolve::walk(
-        s,
+        image,
         h,
         q.who,
         Final::MayBeMissing,

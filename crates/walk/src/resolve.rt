@@ -46,13 +46,13 @@ fn ended(w: Walk, number: u8, found: Found) -> Walked
 }
 
 // Goes through the components that are left. Each makes the rest shorter or follows one of few symlinks, so there is an end.
-fn run(s: &[u8], h: Shape, who: Credentials, last: Final, w: Walk) -> Walked
-    requires { ⌜ Readable h (now s) × Fit w × (w .links ≡ 0) × (w .steps ≡ 0) ⌝ }
-    ensures { λ r. ⌜ Ended r (walkFrom (viewOf h (now (s .entry))) who last stepLimit (positionOf w)) ⌝ }
+fn run(image: &[u8], h: Shape, who: Credentials, last: Final, w: Walk) -> Walked
+    requires { ⌜ Readable h (now image) × Fit w × (w .links ≡ 0) × (w .steps ≡ 0) ⌝ }
+    ensures { λ r. ⌜ Ended r (walkFrom (viewOf h (now (image .entry))) who last stepLimit (positionOf w)) ⌝ }
 {
     let mut w = w;
     loop {
-        let r = component::step::step(s, h, who, last, w);
+        let r = component::step::step(image, h, who, last, w);
         let leave = r.leave;
         let next = r.walk;
         match leave {
@@ -104,15 +104,15 @@ pub fn stop(number: u8) -> Walked
 
 // The walk from a start, which a closed handle and a path of slashes only do not have.
 fn from_start(
-    s: &[u8],
+    image: &[u8],
     h: Shape,
     who: Credentials,
     last: Final,
     start: Start,
     path: &[u8],
 ) -> Walked
-    requires { ⌜ Readable h (now s) × (length (now path) ≤ pathLimit) ⌝ }
-    ensures { λ r. ⌜ Ended r (begun (viewOf h (now (s .entry))) who last start (now (path .entry))) ⌝ }
+    requires { ⌜ Readable h (now image) × (length (now path) ≤ pathLimit) ⌝ }
+    ensures { λ r. ⌜ Ended r (begun (viewOf h (now (image .entry))) who last start (now (path .entry))) ⌝ }
 {
     match start {
         Start::Closed => stop(errno::EBADF),
@@ -121,14 +121,14 @@ fn from_start(
                 return stop(errno::EBUSY);
             }
             let w = begin(path, directory, waived);
-            run(s, h, who, last, w)
+            run(image, h, who, last, w)
         }
     }
 }
 
 // The walk of a path from the current directory and a start.
 fn resolve(
-    s: &[u8],
+    image: &[u8],
     h: Shape,
     who: Credentials,
     last: Final,
@@ -136,8 +136,8 @@ fn resolve(
     start: usize,
     path: &[u8],
 ) -> Walked
-    requires { ⌜ Readable h (now s) ⌝ }
-    ensures { λ r. ⌜ Ended r (walk (viewOf h (now (s .entry))) who last current start (now (path .entry))) ⌝ }
+    requires { ⌜ Readable h (now image) ⌝ }
+    ensures { λ r. ⌜ Ended r (walk (viewOf h (now (image .entry))) who last current start (now (path .entry))) ⌝ }
 {
     if path.len() == 0 {
         return stop(errno::ENOENT);
@@ -145,13 +145,13 @@ fn resolve(
     if limits::PATH_LIMIT < path.len() {
         return stop(errno::ENAMETOOLONG);
     }
-    let from = crate::start::locate(s, h, current, start, path);
-    from_start(s, h, who, last, from, path)
+    let from = crate::start::locate(image, h, current, start, path);
+    from_start(image, h, who, last, from, path)
 }
 
 // The same, with all that a caller may rely on: the bound of the count, and what is known of each end.
 pub fn walk(
-    s: &[u8],
+    image: &[u8],
     h: Shape,
     who: Credentials,
     last: Final,
@@ -159,8 +159,8 @@ pub fn walk(
     start: usize,
     path: &[u8],
 ) -> Walked
-    requires { ⌜ Readable h (now s) × (noZero (now path) ≡ true) ⌝ }
-    ensures { λ r. ⌜ Answered (viewOf h (now (s .entry))) last r (walk (viewOf h (now (s .entry))) who last current start (now (path .entry))) ⌝ }
+    requires { ⌜ Readable h (now image) × (noZero (now path) ≡ true) ⌝ }
+    ensures { λ r. ⌜ Answered (viewOf h (now (image .entry))) last r (walk (viewOf h (now (image .entry))) who last current start (now (path .entry))) ⌝ }
 {
-    resolve(s, h, who, last, current, start, path)
+    resolve(image, h, who, last, current, start, path)
 }

@@ -14,9 +14,9 @@ pub enum Start {
 }
 
 // The root for an absolute path; else the current directory, or what the handle is open on.
-pub fn locate(s: &[u8], h: Shape, current: usize, start: usize, path: &[u8]) -> Start
-    requires { ⌜ Laid h (now s) ⌝ }
-    ensures { λ r. ⌜ r ≡ startOf (viewOf h (now (s .entry))) current start (now (path .entry)) ⌝ }
+pub fn locate(image: &[u8], h: Shape, current: usize, start: usize, path: &[u8]) -> Start
+    requires { ⌜ Laid h (now image) ⌝ }
+    ensures { λ r. ⌜ r ≡ startOf (viewOf h (now (image .entry))) current start (now (path .entry)) ⌝ }
 {
     if path::is_absolute(path) {
         return Start::At {
@@ -33,7 +33,7 @@ pub fn locate(s: &[u8], h: Shape, current: usize, start: usize, path: &[u8]) -> 
     if h.handles <= start {
         return Start::Closed;
     }
-    let r = layout::records::handle(s, h, start);
+    let r = layout::records::handle(image, h, start);
     let state = layout::handle::state(r);
     if state == 0 {
         return Start::Closed;

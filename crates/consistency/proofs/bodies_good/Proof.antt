@@ -29,7 +29,7 @@ has-duplicate-requires : tie.Need-has-duplicate-requires
 has-duplicate-requires c κs =
     let args = c .before .before .before .before .before .before .before .args in
     let pre = c .before .before .before .before .before .before .before .pre in
-    (search needs, entries-named (args .h) (args .s .now) pre (holds (c .before .all-good2 .ensures) (c .if3 .left)))
+    (search needs, entries-named (args .h) (args .image .now) pre (holds (c .before .all-good2 .ensures) (c .if3 .left)))
 
 returns-4 : tie.Need-returns-4
 returns-4 c = out-names _ _ (sym (c .before .has-duplicate .ensures) ∙ c .if4 .taken)

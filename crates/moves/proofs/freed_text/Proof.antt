@@ -18,7 +18,7 @@ abbrev start : tie.Else1 → tie.Start
 start c = c .before .before .before
 
 abbrev view : tie.Else1 → View
-view c = viewOf (start c .args .h) (start c .args .s .now)
+view c = viewOf (start c .args .h) (start c .args .image .now)
 
 -- past the first test the replaced inode is a symlink, and what is counted are its entries after the move
 symlink : (c : tie.Else1) → isSymlink (view c) (start c .args .c .replaced) ≡ true
@@ -36,7 +36,7 @@ is-symlink-requires c κs = search needs
 returns : tie.Need-returns
 returns c =
     let args = c .before .before .before .args in
-    text-other (viewOf (args .h) (args .s .now)) (args .c) (args .time) (fails (c .before .is-symlink .ensures) (c .if1 .taken))
+    text-other (viewOf (args .h) (args .image .now)) (args .c) (args .time) (fails (c .before .is-symlink .ensures) (c .if1 .taken))
 
 move-with-requires : tie.Need-move-with-requires
 move-with-requires c κs = search needs
@@ -52,7 +52,7 @@ returns-2 c =
 inode-requires : tie.Need-inode-requires
 inode-requires c κs =
     let args = start (c .before .before .before) .args in
-    (search needs, isKind-below (args .h) (args .s .now) _ 3 (symlink (c .before .before .before)))
+    (search needs, isKind-below (args .h) (args .image .now) _ 3 (symlink (c .before .before .before)))
 
 field-requires : tie.Need-field-requires
 field-requires c κs = search needs

@@ -29,7 +29,7 @@ returns : tie.Need-returns
 returns c =
     let args = c .before .before .before .before .before .before .before .before .before .before .before .before .args in
     let set = fails (c .before .before .before .before .before .before .before .before .journal-clear .ensures) (c .before .before .before .before .before .before .before .if1 .taken) in
-    answers-pending (args .plan .now) (args .scratch .now) (args .s .now) (args .h) (c .before .before .before .before .before .before .before .before .before .before .before .before .pre .2) set (c .before .before .before .before .pending .ensures)
+    answers-pending (args .plan .now) (args .scratch .now) (args .image .now) (args .h) (c .before .before .before .before .before .before .before .before .before .before .before .before .pre .2) set (c .before .before .before .before .pending .ensures)
 
 bodies-good-requires : tie.Need-bodies-good-requires
 bodies-good-requires c κs = search needs
@@ -42,7 +42,7 @@ returns-2 c =
     let args = c .before .before .before .before .before .before .before .before .args in
     let clear = holds (c .before .before .before .before .journal-clear .ensures) (c .before .before .before .if1 .left) in
     let bad = fails (c .before .before .bodies-good .ensures) (c .before .if2 .taken) in
-    answers-as (answers-unsound (args .plan .now) (args .scratch .now) (args .s .now) (args .h) (c .before .before .before .before .before .before .before .before .pre .0) clear bad) (c .refused .ensures) refl
+    answers-as (answers-unsound (args .plan .now) (args .scratch .now) (args .image .now) (args .h) (c .before .before .before .before .before .before .before .before .pre .0) clear bad) (c .refused .ensures) refl
 
 clear-requires : tie.Need-clear-requires
 clear-requires c κs = search needs
@@ -62,7 +62,7 @@ returns-3 c =
     let clear = holds (c .before .before .before .before .before .before .before .before .before .before .before .journal-clear .ensures) (c .before .before .before .before .before .before .before .before .before .before .if1 .left) in
     let good = holds (c .before .before .before .before .before .before .before .before .before .bodies-good .ensures) (c .before .before .before .before .before .before .before .before .if2 .left) in
     let zeroed = c .before .before .before .before .before .before .clear .ensures in
-    answers-nothing (start .args .plan .now) (start .args .scratch .now) (start .args .s .now) (start .args .h) (start .pre .0) clear good zeroed (c .before .before .copy .ensures)
+    answers-nothing (start .args .plan .now) (start .args .scratch .now) (start .args .image .now) (start .args .h) (start .pre .0) clear good zeroed (c .before .before .copy .ensures)
 
 pub by-journal-spec : {M : Type 1} → statement M
 by-journal-spec =

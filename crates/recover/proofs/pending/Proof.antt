@@ -36,7 +36,7 @@ settle-requires c κs =
     let args = c .before .before .before .before .before .before .before .before .before .before .before .before .args in
     let pre = c .before .before .before .before .before .before .before .before .before .before .before .before .pre in
     let make = c .before .before .before .before .before .before .before .make in
-    let drafted = subst (λ (f : Draft). Drafted (args .h) (replicate planBytes 0) (draft (args .h) (args .s .now)) f (make .last .0)) (c .before .before .before .before .found .given .1) (make .ensures) in
+    let drafted = subst (λ (f : Draft). Drafted (args .h) (replicate planBytes 0) (draft (args .h) (args .image .now)) f (make .last .0)) (c .before .before .before .before .found .given .1) (make .ensures) in
     (record { read = pre .0; drafted = drafted }, search needs, search needs)
 
 same-length : tie.Need-same-length
@@ -47,9 +47,9 @@ returns c =
     let args = c .before .before .before .before .before .before .before .before .before .before .before .before .before .args in
     let pre = c .before .before .before .before .before .before .before .before .before .before .before .before .before .pre in
     let make = c .before .before .before .before .before .before .before .before .make in
-    let drafted = subst (λ (f : Draft). Drafted (args .h) (replicate planBytes 0) (draft (args .h) (args .s .now)) f (make .last .0)) (c .before .before .before .before .before .enum-told .given .1) (make .ensures) in
-    let none = unfit-none (args .h) (args .s .now) (replicate planBytes 0) (make .last .0) drafted in
-    answers-as (answers-none (args .plan .now) (args .scratch .now) (args .s .now) (args .h) (pre .2) none _ (c .before .before .before .clear .ensures)) (c .refused .ensures) refl
+    let drafted = subst (λ (f : Draft). Drafted (args .h) (replicate planBytes 0) (draft (args .h) (args .image .now)) f (make .last .0)) (c .before .before .before .before .before .enum-told .given .1) (make .ensures) in
+    let none = unfit-none (args .h) (args .image .now) (replicate planBytes 0) (make .last .0) drafted in
+    answers-as (answers-none (args .plan .now) (args .scratch .now) (args .image .now) (args .h) (pre .2) none _ (c .before .before .before .clear .ensures)) (c .refused .ensures) refl
 
 same-length-2 : tie.Need-same-length-2
 same-length-2 c = search needs

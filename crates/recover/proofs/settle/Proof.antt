@@ -33,7 +33,7 @@ returns c =
     let pre = c .before .before .before .before .before .before .before .before .before .before .before .before .before .before .before .before .before .before .before .before .pre in
     let copied = c .before .before .before .before .before .before .before .before .before .before .before .before .before .before .copy .ensures in
     let outcome = c .before .before .before .before .before .before .before .before .before .before .apply .ensures ∙ ap (λ (xs : List ℕ). appliedFrom xs (args .draft .now) 0 (args .rows)) copied in
-    answers-as (settle-refused (args .plan .now) (args .scratch .now) (args .s .now) (args .h) (pre .2) (pre .1) (pre .0 .read) (args .rows) (args .draft .now) (pre .0) _
+    answers-as (settle-refused (args .plan .now) (args .scratch .now) (args .image .now) (args .h) (pre .2) (pre .1) (pre .0 .read) (args .rows) (args .draft .now) (pre .0) _
     outcome (λ z. c .before .before .before .before .before .if1 .taken (c .before .before .before .before .before .before .check .ensures ∙ z)) _ (c .before .before .before .clear .ensures)) (c .refused .ensures) refl
 
 copy-requires-2 : tie.Need-copy-requires-2
@@ -53,7 +53,7 @@ returns-2 c =
     let copied = c .before .before .before .before .before .before .before .before .before .before .before .before .before .copy .ensures in
     let outcome = c .before .before .before .before .before .before .before .before .before .apply .ensures ∙ ap (λ (xs : List ℕ). appliedFrom xs (args .draft .now) 0 (args .rows)) copied in
     let good = sym (c .before .before .before .before .before .check .ensures) ∙ c .before .before .before .before .if1 .left in
-    settle-done (args .plan .now) (args .scratch .now) (args .s .now) (args .h) (pre .2) (pre .1) (pre .0 .read) (args .rows) (args .draft .now) (pre .0) _ outcome good _
+    settle-done (args .plan .now) (args .scratch .now) (args .image .now) (args .h) (pre .2) (pre .1) (pre .0 .read) (args .rows) (args .draft .now) (pre .0) _ outcome good _
     (c .before .before .copy2 .ensures)
 
 pub settle-spec : {M : Type 1} → statement M

@@ -16,7 +16,7 @@ returns : tie.Need-returns
 returns c =
     let args = c .before .before .before .before .before .before .before .args in
     let pre = c .before .before .before .before .before .before .before .pre in
-    answers-as (answers-records (args .s .now) (args .plan .now) (args .q) (args .old .now) (args .new .now) (pre .0) (args .h) (pre .1) _ (c .before .before .records-number .ensures) (c .before .if1 .taken)) (c .refused .ensures)
+    answers-as (answers-records (args .image .now) (args .plan .now) (args .q) (args .old .now) (args .new .now) (pre .0) (args .h) (pre .1) _ (c .before .before .records-number .ensures) (c .before .if1 .taken)) (c .refused .ensures)
 
 good-requires : tie.Need-good-requires
 good-requires c κs = search needs
@@ -29,7 +29,7 @@ returns-2 c =
     let args = c .before .before .before .before .before .before .before .before .before .args in
     let pre = c .before .before .before .before .before .before .before .before .before .pre in
     let fine = sym (c .before .before .before .before .records-number .ensures) ∙ c .before .before .before .if1 .left in
-    answers-as (answers-request (args .s .now) (args .plan .now) (args .q) (args .old .now) (args .new .now) (pre .0) (args .h) (pre .1) fine (fails (c .before .before .good2 .ensures) (c .before .if2 .taken))) (c .refused2 .ensures)
+    answers-as (answers-request (args .image .now) (args .plan .now) (args .q) (args .old .now) (args .new .now) (pre .0) (args .h) (pre .1) fine (fails (c .before .before .good2 .ensures) (c .before .if2 .taken))) (c .refused2 .ensures)
 
 walked-requires : tie.Need-walked-requires
 walked-requires c κs =

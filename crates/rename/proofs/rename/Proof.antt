@@ -12,7 +12,7 @@ refused-requires c κs = search needs
 returns : tie.Need-returns
 returns c =
     let args = c .before .before .before .before .before .before .args in
-    answers-as (answers-short (args .s .now) (args .plan .now) (args .q) (args .old .now) (args .new .now) (c .before .if1 .taken)) (c .refused .ensures)
+    answers-as (answers-short (args .image .now) (args .plan .now) (args .q) (args .old .now) (args .new .now) (c .before .if1 .taken)) (c .refused .ensures)
 
 read-requires : tie.Need-read-requires
 read-requires c κs = search needs
@@ -35,7 +35,7 @@ returns-2 : tie.Need-returns-2
 returns-2 c =
     let args = c .before .before .before .before .before .before .before .before .before .args in
     let bad = contents-bad _ (sym (c .before .before .before .read .ensures) ∙ c .before .enum-told .given .1) in
-    answers-as (answers-layout (args .s .now) (args .plan .now) (args .q) (args .old .now) (args .new .now) (c .before .before .before .before .if1 .left) bad) (c .refused2 .ensures)
+    answers-as (answers-layout (args .image .now) (args .plan .now) (args .q) (args .old .now) (args .new .now) (c .before .before .before .before .if1 .left) bad) (c .refused2 .ensures)
 
 same-length : tie.Need-same-length
 same-length c = search needs

@@ -11,7 +11,7 @@ start c = c .before .before .before .before .before .before .before .before .bef
 abbrev walks : tie.After-judge → tie.After-both
 walks c = c .before .before .before .before .before .before
 
-given : (c : tie.Start) → Given (c .args .s .now) (c .args .plan .now) (c .args .q) (c .args .old .now) (c .args .new .now) (c .args .h)
+given : (c : tie.Start) → Given (c .args .image .now) (c .args .plan .now) (c .args .q) (c .args .old .now) (c .args .new .now) (c .args .h)
 given c = record { long = c .pre .0; read = c .pre .1; fine = c .pre .2; good = c .pre .3 }
 
 both-requires : tie.Need-both-requires

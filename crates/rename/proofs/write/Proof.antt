@@ -91,7 +91,7 @@ unfolding part
 returns c =
     let args = c .before .before .before .before .before .before .before .before .before .before .before .before .before .args in
     let name = called (args .new .path) (c .before .before .before .before .before .before .before .before .found .given .1) in
-    planned-as (args .h) (args .s .now) (args .plan .now) _ _ (c .before .before .before .before .before .before .before .before .before .before .move-of .ensures) name (c .before .before .put .ensures)
+    planned-as (args .h) (args .image .now) (args .plan .now) _ _ (c .before .before .before .before .before .before .before .before .before .before .move-of .ensures) name (c .before .before .put .ensures)
 
 same-length-2 : tie.Need-same-length-2
 same-length-2 c = search needs
@@ -100,7 +100,7 @@ returns-2 : tie.Need-returns-2
 returns-2 c =
     let args = c .before .before .before .before .before .before .before .before .before .before .args in
     let name = called (args .new .path) (c .before .before .before .before .before .enum-told .given .1) in
-    planned-as (args .h) (args .s .now) (args .plan .now) _ _ (c .before .before .before .before .before .before .before .move-of .ensures) name (c .before .before .put2 .ensures)
+    planned-as (args .h) (args .image .now) (args .plan .now) _ _ (c .before .before .before .before .before .before .before .move-of .ensures) name (c .before .before .put2 .ensures)
 
 same-length-3 : tie.Need-same-length-3
 same-length-3 c = search needs
@@ -109,7 +109,7 @@ returns-3 : tie.Need-returns-3
 returns-3 c =
     let args = c .before .before .before .before .before .before .before .before .before .before .args in
     let name = called (args .new .path) (c .before .before .before .before .before .enum-told2 .given .1) in
-    planned-as (args .h) (args .s .now) (args .plan .now) _ _ (c .before .before .before .before .before .before .before .move-of .ensures) name (c .before .before .put3 .ensures)
+    planned-as (args .h) (args .image .now) (args .plan .now) _ _ (c .before .before .before .before .before .before .before .move-of .ensures) name (c .before .before .put3 .ensures)
 
 pub write-spec : {M : Type 1} → statement M
 write-spec =

@@ -44,7 +44,7 @@ returns-2 c =
     let loop-test = c .before .before .before .before .before .loop-test in
     let if1 = c .before .before .before .before .if1 in
     let f = field-of inodeField (c .before .before .before .inode .ensures) (c .before .before .field .ensures .0) in
-    let none = ap (λ x. isDirectory (viewOf (args .h) (args .s .now)) x) (sym f) ∙ fails (c .before .is-directory .ensures) (c .if2 .taken) in
+    let none = ap (λ x. isDirectory (viewOf (args .h) (args .image .now)) x) (sym f) ∙ fails (c .before .is-directory .ensures) (c .if2 .taken) in
     sym (reaches-out _ _ _ _ (loop-test .taken) (if1 .left) none) ∙ loop′ .inv .2
 
 sub-left : tie.Need-sub-left Inv-loop μ-loop
@@ -62,10 +62,10 @@ loop-again c =
     let if1 = c .before .before .before .before .if1 in
     let f = field-of inodeField (c .before .before .before .inode .ensures) (c .before .before .field .ensures .0) in
     let some = holds (c .before .is-directory .ensures) (c .if2 .left) in
-    let there = ap (λ x. isDirectory (viewOf (args .h) (args .s .now)) x) (sym f) ∙ some in (
+    let there = ap (λ x. isDirectory (viewOf (args .h) (args .image .now)) x) (sym f) ∙ some in (
       search needs,
       isKind-below _ _ _ 2 some,
-      ap (λ x. reaches (viewOf (args .h) (args .s .now)) (args .goal) (loop′ .left - 1) x) f
+      ap (λ x. reaches (viewOf (args .h) (args .image .now)) (args .goal) (loop′ .left - 1) x) f
           ∙ sym (reaches-on _ _ _ _ (loop-test .taken) (if1 .left) there) ∙ loop′ .inv .2,
     )
 
@@ -74,7 +74,7 @@ returns-3 c =
     let args = c .before .before .before .args in
     let loop′ = c .before .loop in
     let e : loop′ .left ≡ 0 = omega arith in
-    sym (reaches-end _ _ _) ∙ ap (λ n. reaches (viewOf (args .h) (args .s .now)) (args .goal) n (loop′ .at)) (sym e) ∙ loop′ .inv .2
+    sym (reaches-end _ _ _) ∙ ap (λ n. reaches (viewOf (args .h) (args .image .now)) (args .goal) n (loop′ .at)) (sym e) ∙ loop′ .inv .2
 
 pub is-above-spec : {M : Type 1} → statement M
 is-above-spec =

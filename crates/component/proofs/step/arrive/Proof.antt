@@ -18,7 +18,7 @@ returns : tie.Need-returns
 returns c =
     let args = c .before .before .before .before .args in
     let pre = c .before .before .before .before .pre in
-    arrives-plain (viewOf (args .h) (args .s .now)) _ (positionOf (args .w)) (restFrom (args .w) (args .e)) (args .slot) (args .target) (pre .2) (plain-end (args .w) (args .e) (pre .1) (c .before .if1 .taken)) (c .exists .ensures)
+    arrives-plain (viewOf (args .h) (args .image .now)) _ (positionOf (args .w)) (restFrom (args .w) (args .e)) (args .slot) (args .target) (pre .2) (plain-end (args .w) (args .e) (pre .1) (c .before .if1 .taken)) (c .exists .ensures)
 
 inode-requires : tie.Need-inode-requires
 inode-requires c κs = search needs
@@ -39,9 +39,9 @@ returns-2 c =
     let pre = c .before .before .before .before .before .before .before .pre in
     let if1 = c .before .before .before .before .if1 in
     let inode = c .before .before .before .inode in
-    arrives-directory (viewOf (args .h) (args .s .now)) _ (positionOf (args .w)) (restFrom (args .w) (args .e)) (args .slot) (args .target) (pre .2)
+    arrives-directory (viewOf (args .h) (args .image .now)) _ (positionOf (args .w)) (restFrom (args .w) (args .e)) (args .slot) (args .target) (pre .2)
     (slash-end (args .w) (args .e) (pre .1) (if1 .left))
-    (is-kind (args .h) (args .s .now) (args .target) 2 (pre .3) (sym (field-of inodeKind (inode .ensures) (c .before .before .kind .ensures)) ∙ c .before .match .keys1)) (c .exists2 .ensures)
+    (is-kind (args .h) (args .image .now) (args .target) 2 (pre .3) (sym (field-of inodeKind (inode .ensures) (c .before .before .kind .ensures)) ∙ c .before .match .keys1)) (c .exists2 .ensures)
 
 returns-3 : tie.Need-returns-3
 unfolding viewOf
@@ -51,9 +51,9 @@ returns-3 c =
     let if1 = c .before .before .before .before .if1 in
     let inode = c .before .before .before .inode in
     let k = field-of inodeKind (inode .ensures) (c .before .before .kind .ensures) in
-    arrives-other (viewOf (args .h) (args .s .now)) _ (positionOf (args .w)) (restFrom (args .w) (args .e)) (args .slot) (args .target) (pre .2)
+    arrives-other (viewOf (args .h) (args .image .now)) _ (positionOf (args .w)) (restFrom (args .w) (args .e)) (args .slot) (args .target) (pre .2)
     (slash-end (args .w) (args .e) (pre .1) (if1 .left))
-    (is-other (args .h) (args .s .now) (args .target) 2 (pre .3) (λ e. c .before .match .rest .1 (k ∙ e))) (c .refuse .ensures)
+    (is-other (args .h) (args .image .now) (args .target) 2 (pre .3) (λ e. c .before .match .rest .1 (k ∙ e))) (c .refuse .ensures)
 
 pub arrive-spec : {M : Type 1} → statement M
 arrive-spec =

@@ -26,7 +26,7 @@ returns c =
     let args = c .before .before .before .before .args in
     let pre = c .before .before .before .before .pre in
     let l = part-length (args .w .path) (args .a) (args .e - args .a) (omega (arith, pre .1 .within, pre .1 .short, pre .1 .whole)) in
-    reads-long (viewOf (args .h) (args .s .now)) _ (positionOf (args .w)) (args .last) (part (args .w .path) (args .a) (args .e - args .a)) (restFrom (args .w) (args .e)) (rw (← l) at (c .before .if1 .taken)) (c .refuse .ensures)
+    reads-long (viewOf (args .h) (args .image .now)) _ (positionOf (args .w)) (args .last) (part (args .w .path) (args .a) (args .e - args .a)) (restFrom (args .w) (args .e)) (rw (← l) at (c .before .if1 .taken)) (c .refuse .ensures)
 
 sub-is-dot : tie.Need-sub-is-dot
 sub-is-dot c = search needs
@@ -53,7 +53,7 @@ returns-2 c =
     let if1 = c .before .before .before .before .before .before .if1 in
     let l = part-length (args .w .path) (args .a) (args .e - args .a) (omega (arith, pre .1 .within, pre .1 .short, pre .1 .whole)) in
     let d = sym (c .before .before .is-dot .ensures) ∙ c .before .if2 .taken in
-    reads-dots (viewOf (args .h) (args .s .now)) _ (positionOf (args .w)) (args .last) (part (args .w .path) (args .a) (args .e - args .a)) (restFrom (args .w) (args .e)) (rw (← l) at (if1 .left)) (rw d) (c .dots .ensures)
+    reads-dots (viewOf (args .h) (args .image .now)) _ (positionOf (args .w)) (args .last) (part (args .w .path) (args .a) (args .e - args .a)) (restFrom (args .w) (args .e)) (rw (← l) at (if1 .left)) (rw d) (c .dots .ensures)
 
 sub-is-dot-dot : tie.Need-sub-is-dot-dot
 sub-is-dot-dot c = search needs
@@ -83,7 +83,7 @@ returns-3 c =
     let l = part-length (args .w .path) (args .a) (args .e - args .a) (omega (arith, pre .1 .within, pre .1 .short, pre .1 .whole)) in
     let d = sym (is-dot .ensures) ∙ if2 .left in
     let e = sym (c .before .before .is-dot-dot .ensures) ∙ c .before .if3 .taken in
-    reads-dots (viewOf (args .h) (args .s .now)) _ (positionOf (args .w)) (args .last) (part (args .w .path) (args .a) (args .e - args .a)) (restFrom (args .w) (args .e)) (rw (← l) at (if1 .left)) (rw (d, e)) (c .dots2 .ensures)
+    reads-dots (viewOf (args .h) (args .image .now)) _ (positionOf (args .w)) (args .last) (part (args .w .path) (args .a) (args .e - args .a)) (restFrom (args .w) (args .e)) (rw (← l) at (if1 .left)) (rw (d, e)) (c .dots2 .ensures)
 
 seek-requires : tie.Need-seek-requires
 seek-requires c κs = search needs
@@ -99,7 +99,7 @@ returns-4 c =
     let l = part-length (args .w .path) (args .a) (args .e - args .a) (omega (arith, pre .1 .within, pre .1 .short, pre .1 .whole)) in
     let d = sym (is-dot .ensures) ∙ if2 .left in
     let e = sym (c .before .before .is-dot-dot .ensures) ∙ c .before .if3 .left in
-    reads-name (viewOf (args .h) (args .s .now)) _ (positionOf (args .w)) (args .last) (part (args .w .path) (args .a) (args .e - args .a)) (restFrom (args .w) (args .e)) (rw (← l) at (if1 .left)) d e (c .seek .ensures)
+    reads-name (viewOf (args .h) (args .image .now)) _ (positionOf (args .w)) (args .last) (part (args .w .path) (args .a) (args .e - args .a)) (restFrom (args .w) (args .e)) (rw (← l) at (if1 .left)) d e (c .seek .ensures)
 
 pub component-spec : {M : Type 1} → statement M
 component-spec =

@@ -33,7 +33,7 @@ returns : tie.Need-returns
 unfolding part
 returns c =
     let args = c .before .before .before .before .before .before .before .args in
-    dots-last (viewOf (args .h) (args .s .now)) _ (positionOf (args .w)) (part (args .w .path) (args .a) (args .e - args .a)) (restFrom (args .w) (args .e)) (sym (c .before .before .is-bare .ensures) ∙ c .before .if1 .taken) (c .refuse .ensures)
+    dots-last (viewOf (args .h) (args .image .now)) _ (positionOf (args .w)) (part (args .w .path) (args .a) (args .e - args .a)) (restFrom (args .w) (args .e)) (sym (c .before .before .is-bare .ensures) ∙ c .before .if1 .taken) (c .refuse .ensures)
 
 sub-is-dot : tie.Need-sub-is-dot
 sub-is-dot c = search needs
@@ -62,7 +62,7 @@ returns-2 c =
     let args = c .before .before .before .before .before .before .before .before .before .before .before .args in
     let is-bare = c .before .before .before .before .before .before .is-bare in
     let if1 = c .before .before .before .before .before .if1 in
-    dots-stay (viewOf (args .h) (args .s .now)) _ (positionOf (args .w)) (part (args .w .path) (args .a) (args .e - args .a)) (restFrom (args .w) (args .e))
+    dots-stay (viewOf (args .h) (args .image .now)) _ (positionOf (args .w)) (part (args .w .path) (args .a) (args .e - args .a)) (restFrom (args .w) (args .e))
     (sym (is-bare .ensures) ∙ if1 .left) (sym (c .before .before .is-dot .ensures) ∙ c .before .if2 .taken) (c .advance .ensures)
 
 inode-requires : tie.Need-inode-requires
@@ -86,7 +86,7 @@ returns-3 c =
     let if1 = c .before .before .before .before .before .before .before .if1 in
     let is-dot = c .before .before .before .before .is-dot in
     let if2 = c .before .before .before .if2 in
-    dots-up (viewOf (args .h) (args .s .now)) _ (positionOf (args .w)) (part (args .w .path) (args .a) (args .e - args .a)) (restFrom (args .w) (args .e)) _
+    dots-up (viewOf (args .h) (args .image .now)) _ (positionOf (args .w)) (part (args .w .path) (args .a) (args .e - args .a)) (restFrom (args .w) (args .e)) _
     (sym (is-bare .ensures) ∙ if1 .left) (sym (is-dot .ensures) ∙ if2 .left) (field-of inodeField (c .before .before .inode .ensures) (c .before .field .ensures .0)) (c .advance2 .ensures)
 
 pub dots-spec : {M : Type 1} → statement M

@@ -19,11 +19,11 @@ abbrev start : tie.At-match-keys1 → tie.Start
 start c = c .before .before .before .before
 
 -- by its type the target is a symlink, and the text that it names is there
-is-link : (c : tie.At-match-keys1) → isSymlink (viewOf (start c .args .h) (start c .args .s .now)) (start c .args .target) ≡ true
+is-link : (c : tie.At-match-keys1) → isSymlink (viewOf (start c .args .h) (start c .args .image .now)) (start c .args .target) ≡ true
 unfolding viewOf
 is-link c =
     let says = field-of inodeKind (c .before .before .inode .ensures) (c .before .kind .ensures) in
-    is-kind (start c .args .h) (start c .args .s .now) (start c .args .target) 3 (start c .pre .3) (sym says ∙ c .match .keys1)
+    is-kind (start c .args .h) (start c .args .image .now) (start c .args .target) 3 (start c .pre .3) (sym says ∙ c .match .keys1)
 
 text-there : (c : tie.After-field) → c .field .result < start (c .before) .args .h .texts
 unfolding viewOf
@@ -70,8 +70,8 @@ returns c =
     let at = start (c .before .before .before .before) in
     let inode = c .before .before .before .before .before .before .inode in
     let f = field-of inodeField (inode .ensures) (c .before .before .before .field .ensures .0) in
-    let x = c .before .bytes .ensures ∙ ap textBytes (c .before .before .text .ensures .is) ∙ ap (λ i. textBytes (textAt (at .args .h) (at .args .s .now) i)) f in
-    enters-link (viewOf (at .args .h) (at .args .s .now)) _ (positionOf (at .args .w)) (restFrom (at .args .w) (at .args .e)) _ (at .args .target)
+    let x = c .before .bytes .ensures ∙ ap textBytes (c .before .before .text .ensures .is) ∙ ap (λ i. textBytes (textAt (at .args .h) (at .args .image .now) i)) f in
+    enters-link (viewOf (at .args .h) (at .args .image .now)) _ (positionOf (at .args .w)) (restFrom (at .args .w) (at .args .e)) _ (at .args .target)
     (is-link (c .before .before .before .before)) x (c .follow .ensures)
 
 returns-2 : tie.Need-returns-2
@@ -79,8 +79,8 @@ unfolding viewOf
 returns-2 c =
     let args = c .before .before .before .before .before .args in
     let k = field-of inodeKind (c .before .before .before .inode .ensures) (c .before .before .kind .ensures) in
-    let other = is-other (args .h) (args .s .now) (args .target) 3 (c .before .before .before .before .before .pre .3) (λ e. c .before .match .rest .1 (k ∙ e)) in
-    enters-other (viewOf (args .h) (args .s .now)) _ (positionOf (args .w)) (restFrom (args .w) (args .e)) (args .target) other (c .advance .ensures)
+    let other = is-other (args .h) (args .image .now) (args .target) 3 (c .before .before .before .before .before .pre .3) (λ e. c .before .match .rest .1 (k ∙ e)) in
+    enters-other (viewOf (args .h) (args .image .now)) _ (positionOf (args .w)) (restFrom (args .w) (args .e)) (args .target) other (c .advance .ensures)
 
 pub enter-spec : {M : Type 1} → statement M
 enter-spec =

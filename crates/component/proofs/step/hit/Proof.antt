@@ -17,14 +17,14 @@ abbrev start : tie.After-target → tie.Start
 start c = c .before .before .before
 
 -- the target that was read is the entry's, and so it is an inode
-target-is : (c : tie.After-target) → c .target .result ≡ entryTarget (entryAt (start c .args .h) (start c .args .s .now) (start c .args .slot))
+target-is : (c : tie.After-target) → c .target .result ≡ entryTarget (entryAt (start c .args .h) (start c .args .image .now) (start c .args .slot))
 target-is c = field-of entryTarget (c .before .entry .ensures) (c .target .ensures .0)
 
 target-below : (c : tie.After-target) → c .target .result < start c .args .h .inodes
 unfolding viewOf
 target-below c =
     let pre = start c .pre in
-    rw (← target-is c) at (isUsed-below (start c .args .h) (start c .args .s .now) _ (pre .0 .targets (start c .args .slot) (pre .2) (pre .3)))
+    rw (← target-is c) at (isUsed-below (start c .args .h) (start c .args .image .now) _ (pre .0 .targets (start c .args .slot) (pre .2) (pre .3)))
 
 entry-requires : tie.Need-entry-requires
 entry-requires c κs = search needs
@@ -56,7 +56,7 @@ returns : tie.Need-returns
 unfolding viewOf part
 returns c =
     let args = c .before .before .before .before .before .before .before .before .before .args in
-    hits-last (viewOf (args .h) (args .s .now)) _ (positionOf (args .w)) (restFrom (args .w) (args .e)) (args .slot)
+    hits-last (viewOf (args .h) (args .image .now)) _ (positionOf (args .w)) (restFrom (args .w) (args .e)) (args .slot)
     (sym (c .before .before .is-bare .ensures) ∙ c .before .if1 .taken) (c .arrive .ensures)
 
 enter-requires : tie.Need-enter-requires
@@ -70,7 +70,7 @@ unfolding viewOf part
 returns-2 c =
     let args = c .before .before .before .before .before .before .before .before .before .args in
     let target = c .before .before .before .before .before .before in
-    hits-more (viewOf (args .h) (args .s .now)) _ (positionOf (args .w)) (restFrom (args .w) (args .e)) (args .slot) (target .target .result) (target-is target)
+    hits-more (viewOf (args .h) (args .image .now)) _ (positionOf (args .w)) (restFrom (args .w) (args .e)) (args .slot) (target .target .result) (target-is target)
     (sym (c .before .before .is-bare .ensures) ∙ c .before .if1 .left) (c .enter .ensures)
 
 pub hit-spec : {M : Type 1} → statement M

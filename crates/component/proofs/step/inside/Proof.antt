@@ -23,8 +23,8 @@ refuse-requires c κs = search needs
 returns : tie.Need-returns
 returns c =
     let args = c .before .before .before .before .args in
-    inside-denied (viewOf (args .h) (args .s .now)) (args .who) (args .last) _ (positionOf (args .w))
-    (fails {x = args .w .waived || allows (viewOf (args .h) (args .s .now)) (args .who) (args .w .directory) searchBit} (c .before .before .may-search .ensures) (c .before .if1 .taken)) (c .refuse .ensures)
+    inside-denied (viewOf (args .h) (args .image .now)) (args .who) (args .last) _ (positionOf (args .w))
+    (fails {x = args .w .waived || allows (viewOf (args .h) (args .image .now)) (args .who) (args .w .directory) searchBit} (c .before .before .may-search .ensures) (c .before .if1 .taken)) (c .refuse .ensures)
 
 sub-slashes : tie.Need-sub-slashes
 sub-slashes c = search needs
@@ -92,8 +92,8 @@ returns-2 c =
     let more = name-bytes .ensures .1 in
     let start = ap (λ n. args .w .at + n) (slashes .ensures .0) in
     let end = ap (λ n. a + n) (name-bytes .ensures .0) in
-    inside-reads (viewOf (args .h) (args .s .now)) (args .who) (args .last) _ (positionOf (args .w)) _ _
-    (holds {x = args .w .waived || allows (viewOf (args .h) (args .s .now)) (args .who) (args .w .directory) searchBit} (may-search .ensures) (if1 .left))
+    inside-reads (viewOf (args .h) (args .image .now)) (args .who) (args .last) _ (positionOf (args .w)) _ _
+    (holds {x = args .w .waived || allows (viewOf (args .h) (args .image .now)) (args .who) (args .w .directory) searchBit} (may-search .ensures) (if1 .left))
     (component-range (args .w .path) (args .w .at) (args .w .len) a (a + name-bytes .result) (fit .within) start end (omega (arith, fit .within)))
     (behind-range (args .w .path) (args .w .at) (args .w .len) a (a + name-bytes .result) (fit .within) start end) (c .component .ensures)
 

@@ -29,14 +29,14 @@ unfolding part viewOf
 hit-requires c κs =
     let args = c .before .before .before .before .before .before .before .args in
     let j = c .before .before .find .ensures .0 in
-    (search needs, search needs, c .if1 .taken, lookup-used (viewOf (args .h) (args .s .now)) (args .w .directory) (part (args .w .path) (args .a) (args .e - args .a)) _ j (c .if1 .taken))
+    (search needs, search needs, c .if1 .taken, lookup-used (viewOf (args .h) (args .image .now)) (args .w .directory) (part (args .w .path) (args .a) (args .e - args .a)) _ j (c .if1 .taken))
 
 returns : tie.Need-returns
 unfolding part viewOf
 returns c =
     let args = c .before .before .before .before .before .before .before .before .args in
     let find = c .before .before .before .find in
-    seeks-hit (viewOf (args .h) (args .s .now)) _ (positionOf (args .w)) (args .last) (part (args .w .path) (args .a) (args .e - args .a)) (restFrom (args .w) (args .e)) (find .result) (find .ensures .0) (c .before .if1 .taken) (c .hit .ensures)
+    seeks-hit (viewOf (args .h) (args .image .now)) _ (positionOf (args .w)) (args .last) (part (args .w .path) (args .a) (args .e - args .a)) (restFrom (args .w) (args .e)) (find .result) (find .ensures .0) (c .before .if1 .taken) (c .hit .ensures)
 
 miss-requires : tie.Need-miss-requires
 miss-requires c κs = search needs
@@ -46,7 +46,7 @@ unfolding part viewOf
 returns-2 c =
     let args = c .before .before .before .before .before .before .before .before .args in
     let find = c .before .before .before .find in
-    seeks-miss (viewOf (args .h) (args .s .now)) _ (positionOf (args .w)) (args .last) (part (args .w .path) (args .a) (args .e - args .a)) (restFrom (args .w) (args .e)) (find .result) (find .ensures .0) (c .before .if1 .left) (c .miss .ensures)
+    seeks-miss (viewOf (args .h) (args .image .now)) _ (positionOf (args .w)) (args .last) (part (args .w .path) (args .a) (args .e - args .a)) (restFrom (args .w) (args .e)) (find .result) (find .ensures .0) (c .before .if1 .left) (c .miss .ensures)
 
 pub seek-spec : {M : Type 1} → statement M
 seek-spec =

@@ -13,11 +13,11 @@ use Rattle.drafts.proofs.draft.make.Tie as tie
 abbrev start : tie.After-formed → tie.Start
 start c = c .before .before .before .before
 
-formed : (c : tie.Else1) → journalFormed (journalAt (start (c .before) .args .h) (start (c .before) .args .s .now)) ≡ true
+formed : (c : tie.Else1) → journalFormed (journalAt (start (c .before) .args .h) (start (c .before) .args .image .now)) ≡ true
 formed c = holds (field-of journalFormed (c .before .before .journal .ensures) (c .before .formed .ensures)) (c .if1 .left)
 
 -- what was read is what the image's journal record says
-says : (c : tie.After-read) → c .read .result ≡ journalOf (journalAt (start (c .before .before) .args .h) (start (c .before .before) .args .s .now))
+says : (c : tie.After-read) → c .read .result ≡ journalOf (journalAt (start (c .before .before) .args .h) (start (c .before .before) .args .image .now))
 says c = field-of journalOf (c .before .before .before .journal .ensures) (c .read .ensures .0)
 
 journal-requires : tie.Need-journal-requires
@@ -30,7 +30,7 @@ returns : tie.Need-returns
 returns c =
     let args = start (c .before) .args in
     let unformed = fails (field-of journalFormed (c .before .before .journal .ensures) (c .before .formed .ensures)) (c .if1 .taken) in
-    rw (draft-unformed (args .h) (args .s .now) unformed) tt
+    rw (draft-unformed (args .h) (args .image .now) unformed) tt
 
 read-requires : tie.Need-read-requires
 read-requires c κs = search needs
@@ -46,12 +46,12 @@ returns-2 c =
     let drafted = c .before .before in
     let arm = drafted .before .before in
     let args = start (arm .before .before .before) .args in
-    rw (draft-rename (args .h) (args .s .now) (formed (arm .before .before)) _ (says (arm .before)) (arm .match .keys1)) (drafted .draft .ensures)
+    rw (draft-rename (args .h) (args .image .now) (formed (arm .before .before)) _ (says (arm .before)) (arm .match .keys1)) (drafted .draft .ensures)
 
 returns-3 : tie.Need-returns-3
 returns-3 c =
     let args = start (c .before .before .before) .args in
-    rw (draft-other (args .h) (args .s .now) (formed (c .before .before)) _ (says (c .before)) (c .match .rest .1)) tt
+    rw (draft-other (args .h) (args .image .now) (formed (c .before .before)) _ (says (c .before)) (c .match .rest .1)) tt
 
 pub make-spec : {M : Type 1} → statement M
 make-spec =

@@ -12,13 +12,13 @@ put-clear-requires : tie.Need-put-clear-requires
 put-clear-requires c κs =
     let made = c .before .before .before in
     let args = made .before .before .before .before .args in
-    (search needs, results-below (args .h) (args .s .now) (args .m) (made .put .ensures), search needs)
+    (search needs, results-below (args .h) (args .image .now) (args .m) (made .put .ensures), search needs)
 
 add-result : tie.Need-add-result
 add-result c =
     let made = c .before .before .before .before .before .before in
     let args = made .before .before .before .before .args in
-    let l = results-below (args .h) (args .s .now) (args .m) (made .put .ensures) in
+    let l = results-below (args .h) (args .image .now) (args .m) (made .put .ensures) in
     omega arith
 
 same-length : tie.Need-same-length
@@ -29,7 +29,7 @@ returns c =
     let cleared = c .before .before in
     let made = cleared .before .before .before .before in
     let args = made .before .before .before .before .args in
-    finishing-filled (args .h) (args .s .now) (args .m) (made .put .ensures) (cleared .put-clear .ensures)
+    finishing-filled (args .h) (args .image .now) (args .m) (made .put .ensures) (cleared .put-clear .ensures)
 
 pub finish-spec : {M : Type 1} → statement M
 finish-spec = tie.close (tie.spec put-requires put-clear-requires add-result same-length returns)

@@ -17,7 +17,7 @@ returns : tie.Need-returns
 returns c =
     let args = c .before .before .before .before .before .before .before .before .before .args in
     let pre = c .before .before .before .before .before .before .before .before .before .pre in
-    entry-made (args .h) (args .s .now) (args .m) (args .called .now) _ (c .before .before .before .before .if1 .taken) _ (pre .2) (c .before .before .write .ensures)
+    entry-made (args .h) (args .image .now) (args .m) (args .called .now) _ (c .before .before .before .before .if1 .taken) _ (pre .2) (c .before .before .write .ensures)
 
 entry-requires : tie.Need-entry-requires
 entry-requires c κs = search needs
@@ -37,7 +37,7 @@ returns-2 c =
     let pre = c .before .before .before .before .before .before .before .before .before .before .before .before .before .before .pre in
     let entry = c .before .before .before .before .before .before .before .entry in
     let copied = c .before .before .before .before .before .before .copy .ensures ∙ put-whole (args .r .now) _ (pre .2 ∙ sym (entry .ensures .long)) ∙ entry .ensures .is in
-    entry-taken (args .h) (args .s .now) (args .m) (args .called .now) _ (c .before .before .before .before .before .before .before .before .before .if1 .left) _ copied (c .before .before .set-target .ensures)
+    entry-taken (args .h) (args .image .now) (args .m) (args .called .now) _ (c .before .before .before .before .before .before .before .before .before .if1 .left) _ copied (c .before .before .set-target .ensures)
 
 pub make-entry-spec : {M : Type 1} → statement M
 make-entry-spec =

@@ -20,12 +20,12 @@ put-requires c κs = search needs
 put-clear-requires : tie.Need-put-clear-requires
 put-clear-requires c κs =
     let args = c .before .before .before .before .before .before .before .before .before .before .before .before .before .before .before .before .before .before .before .before .args in
-    (search needs, results-below (args .h) (args .s .now) (args .m) (args .called .now) (c .before .before .before .put .ensures), search needs)
+    (search needs, results-below (args .h) (args .image .now) (args .m) (args .called .now) (c .before .before .before .put .ensures), search needs)
 
 add-result : tie.Need-add-result
 add-result c =
     let args = c .before .before .before .before .before .before .before .before .before .before .before .before .before .before .before .before .before .before .before .before .before .before .before .args in
-    let l = results-below (args .h) (args .s .now) (args .m) (args .called .now) (c .before .before .before .before .before .before .put .ensures) in
+    let l = results-below (args .h) (args .image .now) (args .m) (args .called .now) (c .before .before .before .before .before .before .put .ensures) in
     omega arith
 
 same-length : tie.Need-same-length
@@ -38,8 +38,8 @@ returns c =
     let journal = c .before .before .before .before .before .before .before .before .before .before .before .before .before .before .put-journal .ensures in
     let entry = c .before .before .before .before .before .before .before .before .before .before .put-entry .ensures in
     let results = c .before .before .before .before .before .before .put .ensures in
-    planned-filled (args .h) (args .s .now) (args .m) (args .called .now) (args .plan .now) cleared
-    (rename-filled (args .h) (args .s .now) (args .m) (args .called .now) journal entry results (c .before .before .put-clear .ensures))
+    planned-filled (args .h) (args .image .now) (args .m) (args .called .now) (args .plan .now) cleared
+    (rename-filled (args .h) (args .image .now) (args .m) (args .called .now) journal entry results (c .before .before .put-clear .ensures))
 
 pub put-spec : {M : Type 1} → statement M
 put-spec =

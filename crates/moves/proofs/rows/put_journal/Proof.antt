@@ -23,7 +23,7 @@ same-length c = search needs
 returns : tie.Need-returns
 returns c =
     let args = c .before .before .before .before .before .before .before .before .before .before .args in
-    row-put (args .h) (journalRow (args .h) (args .s .now) (args .m) (args .called .now)) _ _ (c .before .before .put-row .ensures) (c .before .before .before .before .journal2 .ensures)
+    row-put (args .h) (journalRow (args .h) (args .image .now) (args .m) (args .called .now)) _ _ (c .before .before .put-row .ensures) (c .before .before .before .before .journal2 .ensures)
     (c .before .before .before .before .before .before .journal .ensures)
 
 pub put-journal-spec : {M : Type 1} → statement M

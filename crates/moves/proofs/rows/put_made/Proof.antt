@@ -23,7 +23,7 @@ same-length-2 c = search needs
 returns : tie.Need-returns
 returns c =
     let args = c .before .before .before .before .before .before .before .before .before .before .before .before .before .before .args in
-    row-put (args .h) (entryRow (args .h) (args .s .now) (args .m) (args .called .now)) _ _ (c .before .before .put-row .ensures) (c .before .before .before .before .entry .ensures)
+    row-put (args .h) (entryRow (args .h) (args .image .now) (args .m) (args .called .now)) _ _ (c .before .before .put-row .ensures) (c .before .before .before .before .entry .ensures)
     (c .before .before .before .before .before .before .before .before .make-entry .ensures)
 
 pub put-made-spec : {M : Type 1} → statement M

@@ -9,7 +9,7 @@ use Rattle.refusals.proofs.parents.number.Statement.{statement}
 use Rattle.refusals.proofs.parents.number.Tie as tie
 
 abbrev view : tie.Start → View
-view start = viewOf (start .args .h) (start .args .s .now)
+view start = viewOf (start .args .h) (start .args .image .now)
 
 abbrev rules : tie.Start → List Rule
 rules start = parentRules (view start) (start .args .c)

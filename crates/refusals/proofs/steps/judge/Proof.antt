@@ -9,7 +9,7 @@ use Rattle.refusals.proofs.steps.judge.Statement.{statement}
 use Rattle.refusals.proofs.steps.judge.Tie as tie
 
 abbrev view : tie.Start → View
-view start = viewOf (start .args .h) (start .args .s .now)
+view start = viewOf (start .args .h) (start .args .image .now)
 
 returns : tie.Need-returns
 returns c =

@@ -24,7 +24,7 @@ returns-3 c =
     simp (
       sym (c .before .before .before .before .before .busy .ensures) ∙ c .before .before .before .before .if1 .left,
       sym (c .before .before .before .full-parent .ensures) ∙ c .before .before .if2 .left,
-      sym (c .before .no-slot .ensures (c .before .before .before .before .before .before .before .args .s .now)) ∙ c .if3 .taken,
+      sym (c .before .no-slot .ensures (c .before .before .before .before .before .before .before .args .image .now)) ∙ c .if3 .taken,
     )
 
 returns-4 : tie.Need-returns-4
@@ -32,7 +32,7 @@ returns-4 c =
     simp (
       sym (c .before .before .before .before .before .busy .ensures) ∙ c .before .before .before .before .if1 .left,
       sym (c .before .before .before .full-parent .ensures) ∙ c .before .before .if2 .left,
-      sym (c .before .no-slot .ensures (c .before .before .before .before .before .before .before .args .s .now)) ∙ c .if3 .left,
+      sym (c .before .no-slot .ensures (c .before .before .before .before .before .before .before .args .image .now)) ∙ c .if3 .left,
     )
 
 pub number-spec : {M : Type 1} → statement M

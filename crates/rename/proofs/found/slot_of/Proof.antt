@@ -22,12 +22,12 @@ enum-told-2 c = search needs
 returns : tie.Need-returns
 returns c =
     let args = c .before .before .before .before .args in
-    sym (ap (λ x. slotOf (viewOf (args .h) (args .s .now)) (findingOf (args .w .path) x)) (c .before .found .given .1))
+    sym (ap (λ x. slotOf (viewOf (args .h) (args .image .now)) (findingOf (args .w .path) x)) (c .before .found .given .1))
 
 returns-2 : tie.Need-returns-2
 returns-2 c =
     let args = c .before .before .before .before .args in
-    c .free-slot .ensures .0 ∙ sym (ap (λ x. slotOf (viewOf (args .h) (args .s .now)) (findingOf (args .w .path) x)) (c .before .enum-told .given .1))
+    c .free-slot .ensures .0 ∙ sym (ap (λ x. slotOf (viewOf (args .h) (args .image .now)) (findingOf (args .w .path) x)) (c .before .enum-told .given .1))
 
 returns-3 : tie.Need-returns-3
 returns-3 c = search needs

@@ -17,7 +17,7 @@ put-into-requires c κs = search needs
 put-replaced-requires : tie.Need-put-replaced-requires
 put-replaced-requires c κs =
     let args = c .before .before .before .before .before .before .before .before .before .before .before .args in
-    (search needs, omega (arith, into-le (args .h) (args .s .now) (args .m)), search needs, search needs)
+    (search needs, omega (arith, into-le (args .h) (args .image .now) (args .m)), search needs, search needs)
 
 same-length : tie.Need-same-length
 same-length c = search needs
@@ -28,8 +28,8 @@ returns c =
     let second = third .before .before .before .before in
     let first = second .before .before .before .before in
     let args = first .before .before .before .before .args in
-    results-filled (args .h) (args .s .now) (args .m) (first .put-always .ensures) (second .put-into .ensures) (third .put-replaced .ensures)
-    (text-none (args .h) (args .s .now) (args .m) (c .if1 .taken))
+    results-filled (args .h) (args .image .now) (args .m) (first .put-always .ensures) (second .put-into .ensures) (third .put-replaced .ensures)
+    (text-none (args .h) (args .image .now) (args .m) (c .if1 .taken))
 
 text-requires : tie.Need-text-requires
 text-requires c κs = (search needs, c .before .before .before .before .before .before .before .before .before .before .before .before .before .before .before .before .before .pre .3 .text (c .before .if1 .left))
@@ -37,12 +37,12 @@ text-requires c κs = (search needs, c .before .before .before .before .before .
 put-clearing-requires : tie.Need-put-clearing-requires
 put-clearing-requires c κs =
     let args = c .before .before .before .before .before .before .before .before .before .before .before .before .before .before .before .before .before .before .args in
-    (search needs, omega (arith, into-le (args .h) (args .s .now) (args .m), replaced-le (args .h) (args .s .now) (args .m)), search needs)
+    (search needs, omega (arith, into-le (args .h) (args .image .now) (args .m), replaced-le (args .h) (args .image .now) (args .m)), search needs)
 
 add-result : tie.Need-add-result
 add-result c =
     let args = c .before .before .before .before .before .before .before .before .before .before .before .before .before .before .before .before .before .before .before .before .before .args in
-    omega (arith, into-le (args .h) (args .s .now) (args .m), replaced-le (args .h) (args .s .now) (args .m))
+    omega (arith, into-le (args .h) (args .image .now) (args .m), replaced-le (args .h) (args .image .now) (args .m))
 
 same-length-2 : tie.Need-same-length-2
 same-length-2 c = search needs
@@ -54,9 +54,9 @@ returns-2 c =
     let second = third .before .before .before .before in
     let first = second .before .before .before .before in
     let args = first .before .before .before .before .args in
-    let cleared = row-put (args .h) (textRow (args .h) (args .s .now) (args .m)) _ _ (row .put-clearing .ensures) (row .before .text .ensures) refl in
-    results-filled (args .h) (args .s .now) (args .m) (first .put-always .ensures) (second .put-into .ensures) (third .put-replaced .ensures)
-    (text-one (args .h) (args .s .now) (args .m) (row .before .before .before .if1 .left) cleared)
+    let cleared = row-put (args .h) (textRow (args .h) (args .image .now) (args .m)) _ _ (row .put-clearing .ensures) (row .before .text .ensures) refl in
+    results-filled (args .h) (args .image .now) (args .m) (first .put-always .ensures) (second .put-into .ensures) (third .put-replaced .ensures)
+    (text-one (args .h) (args .image .now) (args .m) (row .before .before .before .if1 .left) cleared)
 
 pub put-spec : {M : Type 1} → statement M
 put-spec =

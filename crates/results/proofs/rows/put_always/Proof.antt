@@ -38,8 +38,8 @@ returns c =
     let first = second .before .before .before .before in
     let args = first .before .before .before .before .before .args in
     let cleared =
-    row-put (args .h) (oldRow (args .h) (args .s .now) (args .m)) _ _ (first .put-clearing .ensures) (first .before .entry .ensures) refl in
-    always-filled (args .h) (args .s .now) (args .m) cleared (second .put-moved .ensures) (third .put-holder .ensures)
+    row-put (args .h) (oldRow (args .h) (args .image .now) (args .m)) _ _ (first .put-clearing .ensures) (first .before .entry .ensures) refl in
+    always-filled (args .h) (args .image .now) (args .m) cleared (second .put-moved .ensures) (third .put-holder .ensures)
 
 pub put-always-spec : {M : Type 1} → statement M
 put-always-spec =

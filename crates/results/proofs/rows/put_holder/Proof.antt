@@ -25,7 +25,7 @@ returns c =
     let row = c .before .before in
     let made = row .before .before .before .before in
     let args = made .before .before .before .args in
-    row-put (args .h) (holderRow (args .h) (args .s .now) (args .m) (args .i)) _ _ (row .put-row .ensures) (row .before .before .inode .ensures)
+    row-put (args .h) (holderRow (args .h) (args .image .now) (args .m) (args .i)) _ _ (row .put-row .ensures) (row .before .before .inode .ensures)
     (made .holder .ensures)
 
 pub put-holder-spec : {M : Type 1} → statement M

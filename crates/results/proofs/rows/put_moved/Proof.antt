@@ -25,7 +25,7 @@ returns c =
     let row = c .before .before in
     let made = row .before .before .before .before in
     let args = made .before .before .before .args in
-    row-put (args .h) (movedRow (args .h) (args .s .now) (args .m)) _ _ (row .put-row .ensures) (row .before .before .inode .ensures)
+    row-put (args .h) (movedRow (args .h) (args .image .now) (args .m)) _ _ (row .put-row .ensures) (row .before .before .inode .ensures)
     (made .moved .ensures)
 
 pub put-moved-spec : {M : Type 1} → statement M

@@ -9,7 +9,7 @@ use Rattle.results.proofs.rows.put_replaced.Tie as tie
 returns : tie.Need-returns
 returns c =
     let args = c .before .before .before .before .args in
-    replaced-none (args .h) (args .s .now) (args .m) (c .if1 .taken)
+    replaced-none (args .h) (args .image .now) (args .m) (c .if1 .taken)
 
 replaced-requires : tie.Need-replaced-requires
 replaced-requires c κs = (search needs, c .before .before .before .before .pre .3 .replaced (c .if1 .left))
@@ -34,8 +34,8 @@ returns-2 c =
     let row = c .before .before in
     let made = row .before .before .before .before in
     let args = made .before .before .before .before .before .args in
-    replaced-one (args .h) (args .s .now) (args .m) (made .before .if1 .left)
-    (row-put (args .h) (replacedRow (args .h) (args .s .now) (args .m)) _ _ (row .put-row .ensures) (row .before .before .inode .ensures)
+    replaced-one (args .h) (args .image .now) (args .m) (made .before .if1 .left)
+    (row-put (args .h) (replacedRow (args .h) (args .image .now) (args .m)) _ _ (row .put-row .ensures) (row .before .before .inode .ensures)
     (made .replaced .ensures))
 
 pub put-replaced-spec : {M : Type 1} → statement M

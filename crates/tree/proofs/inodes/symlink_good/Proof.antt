@@ -36,7 +36,7 @@ unfolding symlinkGood viewOf
 returns-3 c =
     let args = c .before .before .before .before .before .before .before .before .before .args in
     let f = field-of inodeField (c .before .before .before .before .before .inode .ensures) (c .before .before .before .before .field .ensures .0) in
-    simp (and-false, ap (λ x. textUsed (viewOf (args .h) (args .s .now)) x) (sym f) ∙ fails (c .before .text-used .ensures) (c .if3 .taken))
+    simp (and-false, ap (λ x. textUsed (viewOf (args .h) (args .image .now)) x) (sym f) ∙ fails (c .before .text-used .ensures) (c .if3 .taken))
 
 text-shared-requires : tie.Need-text-shared-requires
 text-shared-requires c κs = search needs
@@ -51,7 +51,7 @@ returns-4 c =
     simp (
       holds (leaf-good .ensures) (if1 .left),
       lt-ltb _ _ (rw f at (c .before .before .before .if2 .left)),
-      ap (λ x. textUsed (viewOf (args .h) (args .s .now)) x) (sym f) ∙ holds (c .before .before .text-used .ensures) (c .before .if3 .left),
+      ap (λ x. textUsed (viewOf (args .h) (args .image .now)) x) (sym f) ∙ holds (c .before .before .text-used .ensures) (c .before .if3 .left),
       c .text-shared .ensures,
     )
 

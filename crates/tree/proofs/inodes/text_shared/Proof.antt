@@ -38,7 +38,7 @@ returns c =
     let inode = c .before .before .before .before .before .inode in
     let field = c .before .before .before .before .field in
     let f = field-of inodeField (inode .ensures) (field .ensures .0) in
-    rw f at (any-found (hasText (viewOf (args .h) (args .s .now)) (field .result)) _ _ (c .before .before .loop-test .taken) (c .before .has-text .ensures) (c .if1 .taken))
+    rw f at (any-found (hasText (viewOf (args .h) (args .image .now)) (field .result)) _ _ (c .before .before .loop-test .taken) (c .before .has-text .ensures) (c .if1 .taken))
 
 add-k : tie.Need-add-k Inv-loop μ-loop
 add-k c = search needs

@@ -29,7 +29,7 @@ stop-requires-2 c κs = search needs
 returns : tie.Need-returns
 returns c =
     let args = c .before .before .before .before .before .before .before .before .args in
-    let v = viewOf (args .h) (args .s .now) in
+    let v = viewOf (args .h) (args .image .now) in
     let start = c .before .before .before .before .start in
     ended-as _ _ _ (c .stop2 .ensures)
     (begun-bare v (args .who) (args .last) (args .start) _ _ (args .path .now) (start .given .1) (sym (c .before .before .is-bare .ensures) ∙ c .before .if1 .taken))
@@ -49,12 +49,12 @@ returns-2 : tie.Need-returns-2
 returns-2 c =
     let args = c .before .before .before .before .before .args in
     ended-as _ _ _ (c .stop .ensures)
-    (ap (λ x. begun (viewOf (args .h) (args .s .now)) (args .who) (args .last) x (args .path .now)) (c .before .enum-told .given .1))
+    (ap (λ x. begun (viewOf (args .h) (args .image .now)) (args .who) (args .last) x (args .path .now)) (c .before .enum-told .given .1))
 
 returns-3 : tie.Need-returns-3
 returns-3 c =
     let args = c .before .before .before .before .before .before .before .before .before .args in
-    let v = viewOf (args .h) (args .s .now) in
+    let v = viewOf (args .h) (args .image .now) in
     let start = c .before .before .before .before .before .start in
     let is-bare = c .before .before .before .is-bare in
     let if1 = c .before .before .if1 in

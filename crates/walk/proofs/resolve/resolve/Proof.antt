@@ -14,7 +14,7 @@ stop-requires c κs = search needs
 returns : tie.Need-returns
 returns c =
     let args = c .before .before .before .before .args in
-    ended-as _ _ _ (c .stop .ensures) (walk-empty (viewOf (args .h) (args .s .now)) (args .who) (args .last) (args .current) (args .start) (args .path .now) (c .before .if1 .taken))
+    ended-as _ _ _ (c .stop .ensures) (walk-empty (viewOf (args .h) (args .image .now)) (args .who) (args .last) (args .current) (args .start) (args .path .now) (c .before .if1 .taken))
 
 stop-requires-2 : tie.Need-stop-requires-2
 stop-requires-2 c κs = search needs
@@ -23,7 +23,7 @@ returns-2 : tie.Need-returns-2
 returns-2 c =
     let args = c .before .before .before .before .before .args in
     ended-as _ _ _ (c .stop2 .ensures)
-    (walk-long (viewOf (args .h) (args .s .now)) (args .who) (args .last) (args .current) (args .start) (args .path .now) (c .before .before .if1 .left) (c .before .if2 .taken))
+    (walk-long (viewOf (args .h) (args .image .now)) (args .who) (args .last) (args .current) (args .start) (args .path .now) (c .before .before .if1 .left) (c .before .if2 .taken))
 
 locate-requires : tie.Need-locate-requires
 locate-requires c κs = search needs
@@ -34,9 +34,9 @@ from-start-requires c κs = search needs
 returns-3 : tie.Need-returns-3
 returns-3 c =
     let args = c .before .before .before .before .before .before .args in
-    let v = viewOf (args .h) (args .s .now) in
+    let v = viewOf (args .h) (args .image .now) in
     ended-as _ _ _ (c .from-start .ensures)
-    (walk-begins (viewOf (args .h) (args .s .now)) (args .who) (args .last) (args .current) (args .start) (args .path .now) (c .before .before .before .if1 .left) (c .before .before .if2 .left)
+    (walk-begins (viewOf (args .h) (args .image .now)) (args .who) (args .last) (args .current) (args .start) (args .path .now) (c .before .before .before .if1 .left) (c .before .before .if2 .left)
     ∙ sym (ap (λ x. begun v (args .who) (args .last) x (args .path .now)) (c .before .locate .ensures)))
 
 pub resolve-spec : {M : Type 1} → statement M

@@ -43,7 +43,7 @@ loop-less c =
     let step = c .before .before .before .step in
     let e = turned-goes (step .result) _ (step .ensures) (c .enum-told .given .1) in
     budget-falls (positionOf (loop′ .w)) (positionOf (step .result .walk)) (loop′ .inv .0 .more)
-    (after-is (viewOf (args .h) (args .s .now)) (args .who) (args .last) (positionOf (loop′ .w)) _ e)
+    (after-is (viewOf (args .h) (args .image .now)) (args .who) (args .last) (positionOf (loop′ .w)) _ e)
 
 loop-again : tie.Need-loop-again Inv-loop μ-loop
 loop-again c =
@@ -52,8 +52,8 @@ loop-again c =
     let step = c .before .before .before .step in
     let e = turned-goes (step .result) _ (step .ensures) (c .enum-told .given .1) in (
       turned-fit (step .result) _ (step .ensures) (c .enum-told .given .1),
-      ready-next (viewOf (args .h) (args .s .now)) (args .who) (args .last) (positionOf (loop′ .w)) (positionOf (step .result .walk)) (loop′ .inv .1) e,
-      sym (walk-goes (viewOf (args .h) (args .s .now)) (args .who) (args .last) (positionOf (loop′ .w)) (positionOf (step .result .walk)) (loop′ .inv .1) e) ∙ loop′ .inv .2,
+      ready-next (viewOf (args .h) (args .image .now)) (args .who) (args .last) (positionOf (loop′ .w)) (positionOf (step .result .walk)) (loop′ .inv .1) e,
+      sym (walk-goes (viewOf (args .h) (args .image .now)) (args .who) (args .last) (positionOf (loop′ .w)) (positionOf (step .result .walk)) (loop′ .inv .1) e) ∙ loop′ .inv .2,
     )
 
 enum-known-leave : tie.Need-enum-known-leave Inv-loop μ-loop
@@ -69,7 +69,7 @@ returns c =
     let step = c .before .before .before .before .before .step in
     let k = refused-closes (step .result) _ (c .ended .result) (step .ensures) _ (c .before .before .leave .given .1) (c .ended .ensures) in
     record {
-      is = sym (walk-ends (viewOf (args .h) (args .s .now)) (args .who) (args .last) (positionOf (loop′ .w)) (endOf (c .ended .result)) (loop′ .inv .1) (k .is)) ∙ loop′ .inv .2;
+      is = sym (walk-ends (viewOf (args .h) (args .image .now)) (args .who) (args .last) (positionOf (loop′ .w)) (endOf (c .ended .result)) (loop′ .inv .1) (k .is)) ∙ loop′ .inv .2;
       range = k .range;
     }
 
@@ -86,7 +86,7 @@ returns-2 c =
     let step = c .before .before .before .before .before .step in
     let k = found-closes (step .result) _ (c .ended2 .result) (step .ensures) _ (c .before .before .leave2 .given .1) (c .ended2 .ensures) in
     record {
-      is = sym (walk-ends (viewOf (args .h) (args .s .now)) (args .who) (args .last) (positionOf (loop′ .w)) (endOf (c .ended2 .result)) (loop′ .inv .1) (k .is)) ∙ loop′ .inv .2;
+      is = sym (walk-ends (viewOf (args .h) (args .image .now)) (args .who) (args .last) (positionOf (loop′ .w)) (endOf (c .ended2 .result)) (loop′ .inv .1) (k .is)) ∙ loop′ .inv .2;
       range = k .range;
     }
 

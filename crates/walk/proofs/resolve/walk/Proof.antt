@@ -13,8 +13,8 @@ returns : tie.Need-returns
 returns c =
     let args = c .before .before .before .args in
     let pre = c .before .before .before .pre in
-    walk-answered (viewOf (args .h) (args .s .now)) (args .who) (args .last) (args .current) (args .start) (args .path .now) (c .resolve .result)
-    (readable-text (args .h) (args .s .now) (pre .0)) (pre .1) (c .resolve .ensures)
+    walk-answered (viewOf (args .h) (args .image .now)) (args .who) (args .last) (args .current) (args .start) (args .path .now) (c .resolve .result)
+    (readable-text (args .h) (args .image .now) (pre .0)) (pre .1) (c .resolve .ensures)
 
 pub walk-spec : {M : Type 1} → statement M
 walk-spec = tie.close (tie.spec resolve-requires returns)
