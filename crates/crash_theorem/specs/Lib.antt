@@ -4,6 +4,7 @@ pub mod PickLaws
 pub mod Turn
 pub mod TurnLaws
 pub mod Store
+pub mod StoreLaws
 pub mod Change
 pub mod Events
 pub mod Obligations

@@ -8,7 +8,8 @@ use native.Mathlib.Omega.{arith}
 use Rattle.crash_theorem.specs.Pick.{All, Pick}
 use Rattle.crash_theorem.specs.PickLaws.{all-pick, any-pick, all-left, all-map, all-zip, all-any, any-split}
 use Rattle.crash_theorem.specs.Turn.{Low}
-use Rattle.crash_theorem.specs.Store.{Store, Rows, Covers, after-put}
+use Rattle.crash_theorem.specs.Store.{Store, Rows, Covers}
+use Rattle.crash_theorem.specs.StoreLaws.{after-put}
 use Rattle.crash_theorem.specs.Change.{Change}
 use Rattle.crash_theorem.specs.Events.{own}
 use Rattle.crash_theorem.specs.Obligations.{OnTheWay, Sets, WritesFinal, Opens, Settles, Clears, Mends, Cover, Ahead, Behind, Orderly}

@@ -9,7 +9,8 @@ use native.Mathlib.Omega.{arith}
 use lib.Dec.{T}
 use Rattle.crash_theorem.specs.Pick.{All, Any, Has}
 use Rattle.crash_theorem.specs.PickLaws.{all-map, any-map, all-zip, all-has, has-all, all-right, all-join, any-left, any-right, any-split}
-use Rattle.crash_theorem.specs.Store.{Store, Rows, Covers, Spares, Distinct, putAll, covers?, spares-not, all-ok, all-other, all-same}
+use Rattle.crash_theorem.specs.Store.{Store, Rows, Covers, Spares, Distinct, putAll}
+use Rattle.crash_theorem.specs.StoreLaws.{covers?, spares-not, all-ok, all-other, all-same}
 use Rattle.crash_theorem.specs.Change.{Change, goal}
 use Rattle.crash_theorem.specs.Obligations.{OnTheWay, MayMark, Opens, Settles, Cover, Ahead, Behind, Recovery, Orderly, Obligations}
 use Rattle.crash_theorem.specs.Settle.{settled}

@@ -9,7 +9,8 @@ use lib.Dec.{T}
 use Rattle.crash_theorem.specs.Pick.{All, Empty, Pick, here}
 use Rattle.crash_theorem.specs.PickLaws.{pick-full, all-pick, any-pick, all-zip, all-any}
 use Rattle.crash_theorem.specs.Turn.{Low}
-use Rattle.crash_theorem.specs.Store.{Store, Rows, Covers, putAll, after-put}
+use Rattle.crash_theorem.specs.Store.{Store, Rows, Covers, putAll}
+use Rattle.crash_theorem.specs.StoreLaws.{after-put}
 use Rattle.crash_theorem.specs.Change.{Change, goal}
 use Rattle.crash_theorem.specs.Events.{Phase, own, recovering, stopped, recoveryDone}
 use Rattle.crash_theorem.specs.Obligations.{OnTheWay, Settles, Clears, Mends, Cover}

@@ -12,8 +12,8 @@ use Rattle.seq.specs.Truth.{and-left, and-right, and-both, same-truth, implies-
 use Rattle.seq.specs.Search.{all}
 use Rattle.seq.specs.SearchLaws.{all-at, all-not, all-of}
 use Rattle.seq.specs.Number.{numberAt, span}
+use Rattle.layout.specs.Limits.{widestEntry, entrySize, inodeLimit, entryLimit, textLimit, handleLimit, contentsBytes, journalSize}
 use Rattle.layout.specs.declared.Shape.{Shape}
-use Rattle.layout.specs.Limits.{entrySize, inodeLimit, entryLimit, textLimit, handleLimit, contentsBytes, journalSize}
 use Rattle.layout.specs.declared.contents.Contents.the-variants.{Bad, Good}
 use Rattle.layout.specs.Place.{imageBytes, base}
 use Rattle.layout.specs.Contents.{fewest, layoutGood, most, nameIs, shapeOf, widthOf, sectionNamed, sectionPlaced, sectionCounted, layoutRules, countIn, contentsThere, offsetIn, sectionName}
@@ -74,7 +74,7 @@ pub record Laid (h : Shape) (s : List ℕ) : Type 0 where
   pub texts-most : h .texts ≤ textLimit
   pub handles-most : h .handles ≤ handleLimit
   pub width-least : entrySize ≤ h .width
-  pub width-most : h .width ≤ 48
+  pub width-most : h .width ≤ widestEntry
   pub small : imageBytes h ≤ span 2
   pub long : length s ≡ imageBytes h
 
@@ -175,7 +175,7 @@ pub record CountsFit (h : Shape) : Type 0 where
   pub entries : h .entries < 65536
   pub texts : h .texts < 65536
   pub handles : h .handles < 65536
-  pub width : h .width ≤ 48
+  pub width : h .width ≤ widestEntry
 
 -- its entries end where 22 bits reach, so no sum of its places wraps
 pub product : (h : Shape) → CountsFit h → h .width * h .entries < 4194304

@@ -12,6 +12,10 @@ inodeSize = 32
 abbrev pub entrySize : ℕ
 entrySize = 32
 
+-- the widest entry of any edition that the laws hold for
+abbrev pub widestEntry : ℕ
+widestEntry = 48
+
 abbrev pub textSize : ℕ
 textSize = 64
 

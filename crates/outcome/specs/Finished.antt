@@ -18,7 +18,8 @@ use Rattle.plan.specs.Write.{Write, inodeKey, entryKey, textKey, journalKey}
 use Rattle.plan.specs.WriteLaws.{other-section, other-index}
 use Rattle.crash_theorem.specs.Pick.{Has}
 use Rattle.crash_theorem.specs.PickLaws.{any-left, any-right}
-use Rattle.crash_theorem.specs.Store.{Spares, all-ok, all-same, all-other}
+use Rattle.crash_theorem.specs.Store.{Spares}
+use Rattle.crash_theorem.specs.StoreLaws.{all-ok, all-same, all-other}
 use Rattle.crash_theorem.specs.Plan.{afterOf, writes}
 use Rattle.image_store.specs.Image.{Ok, recordOf, record-is, images}
 use Rattle.image_store.specs.Safe.{after-stored}

@@ -1,4 +1,5 @@
 pub mod Tree
 pub mod TreeLaws
 pub mod Inode
+pub mod InodeTests
 pub mod InodeFacts

@@ -6,6 +6,8 @@ use crate::request::Job;
 use component::state::Found;
 use layout::Shape;
 use layout::contents::Contents;
+use layout::errno;
+use layout::limits;
 use libc::STDOUT_FILENO;
 use paths::request::Request;
 use walk::resolve::Walked;
@@ -15,8 +17,6 @@ ghost use Rattle.layout.specs.View.{viewOf};
 ghost use Rattle.layout.specs.ViewLaws.{Readable};
 ghost use Rattle.paths.specs.Request.{requestGood};
 ghost use Rattle.component.specs.State.{Ranged};
-
-const NONE: usize = 65535;
 
 fn print(number: u64) {
     io::print_decimal(STDOUT_FILENO, number);
@@ -72,8 +72,8 @@ fn print_found(r: Walked)
             slash,
         } => {
             print_next(directory);
-            print_next(NONE);
-            print_next(NONE);
+            print_next(limits::ABSENT);
+            print_next(limits::ABSENT);
             print_slash(slash);
             let path = r.path;
             print_name(&path[from..to]);
@@ -103,7 +103,7 @@ fn line(s: &[u8], h: Shape, q: Request, old: &[u8], new: &[u8])
     if paths::request::good(s, h, q, old, new) {
         resolve(s, h, q, old, new);
     } else {
-        print_counts(202, 0, 0);
+        print_counts(errno::WRONG_REQUEST as u64, 0, 0);
     }
     io::write_all(STDOUT_FILENO, b"\n");
 }
