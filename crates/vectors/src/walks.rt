@@ -6,7 +6,6 @@ use crate::request::Job;
 use component::state::Found;
 use layout::Shape;
 use layout::contents::Contents;
-use layout::errno;
 use layout::limits;
 use libc::STDOUT_FILENO;
 use paths::request::Request;
@@ -103,7 +102,7 @@ fn line(s: &[u8], h: Shape, q: Request, old: &[u8], new: &[u8])
     if paths::request::good(s, h, q, old, new) {
         resolve(s, h, q, old, new);
     } else {
-        print_counts(errno::WRONG_REQUEST as u64, 0, 0);
+        print_counts(202, 0, 0);
     }
     io::write_all(STDOUT_FILENO, b"\n");
 }
