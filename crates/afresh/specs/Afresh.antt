@@ -16,7 +16,7 @@ use Rattle.layout.specs.Fields.{inodeKind}
 use Rattle.layout.specs.View.{viewOf, inodeAt, entryAt}
 use Rattle.layout.specs.Limits.{absent}
 use Rattle.plan.specs.Write.{Write, inodeKey}
-use Rattle.edits.specs.Written.{same-entry}
+use Rattle.edits.specs.WrittenLaws.{same-entry}
 use Rattle.results.specs.declared.Move.{Move}
 use Rattle.results.specs.Results.{present, entriesAfter, linksAfter, movedBytes, holderBytes, replacedBytes, movedAfter, holderAfter, replacedAfter, resultRow, when, oldRow, results}
 use Rattle.results.specs.InImage.{InImage}

@@ -1,3 +1,4 @@
 pub mod Recount
 pub mod Cleared
+pub mod ClearedLaws
 pub mod Afresh

@@ -8,7 +8,7 @@ use lib.Dec.{eqb}
 use borrow.Author.Tests.{eq-eqb, ne-eqb}
 use Rattle.seq.specs.Truth.{same-truth}
 use Rattle.seq.specs.SearchLaws.{count-same}
-use Rattle.seq.specs.Count.{count-zero}
+use Rattle.seq.specs.CountLaws.{count-zero}
 use Rattle.layout.specs.View.{View, isDirectory, entryUsed}
 use Rattle.tree.specs.Tree.{targets, holdsDirectory, entriesOf, childDirectories}
 use Rattle.edits.specs.Tests.{kind-is, is-kind}

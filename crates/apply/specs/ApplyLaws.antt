@@ -14,10 +14,7 @@ use Rattle.layout.specs.ContentsLaws.{Read}
 use Rattle.plan.specs.Form.{planBytes, rowOffset, rowAt}
 use Rattle.plan.specs.Fit.{applicable}
 use Rattle.apply.specs.Apply.{applied, appliedImage, applyNumber, rowNumber}
-
--- the image where the plan is long enough and the layout good
-abbrev pub rowImage : Shape → List ℕ → List ℕ → ℕ → List ℕ
-rowImage h image plan i = cond (applicable h plan i) (applied image (rowAt plan i)) image
+use Rattle.apply.specs.OneRow.{rowImage}
 
 -- the ways out of the job
 module _ (image plan : List ℕ) (i : ℕ) where

@@ -18,17 +18,12 @@ use Rattle.layout.specs.Record.{recordAt, store}
 use Rattle.layout.specs.RecordLaws.{store-length, store-same, store-other}
 use Rattle.layout.specs.Commute.{store-shape, store-layout, store-swap}
 use Rattle.plan.specs.Form.{Row, planRows, planBytes, bodyAt, rowLength, rowOffset, rowAt}
-use Rattle.plan.specs.RowLaws.{Stands}
+use Rattle.plan.specs.Stands.{Stands}
 use Rattle.plan.specs.Fit.{applicable, rowFor}
-use Rattle.plan.specs.FitLaws.{Covered, Applicable, Writes, applicable-is, is-applicable, applicable-fits, stands-applicable, written-fits}
+use Rattle.plan.specs.FitLaws.{Covered, Writes, applicable-is, is-applicable, applicable-fits, stands-applicable, written-fits}
 use Rattle.apply.specs.Apply.{applyNumber, applied, appliedImage}
 use Rattle.layout.specs.Errno.{shortBuffer, inconsistent, badRow}
-
--- What it takes for the job to answer 0.
-pub record Applies (image plan : List ℕ) (i : ℕ) : Type 0 where
-  pub long : planBytes ≤ length plan
-  pub layout : layoutGood image ≡ true
-  pub row : Applicable (shapeOf image) plan i
+use Rattle.apply.specs.OneRow.{Applies, appliedKey, appliedBody}
 
 pub applies-zero : (image plan : List ℕ) (i : ℕ) → Applies image plan i → applyNumber image plan i ≡ 0
 unfolding applyNumber
@@ -66,34 +61,27 @@ unfolding store
 applied-store h s r c = rw (c .begins)
 
 module _ (image plan : List ℕ) (i : ℕ) (a : Applies image plan i) where
-  -- the record, and its new bytes
-  abbrev pub appliedKey : Key
-  appliedKey = a .row .covered .key
-
-  abbrev pub appliedBody : List ℕ
-  appliedBody = rowAt plan i .body
-
-  pub body-whole : length appliedBody ≡ recordBytes (shapeOf image) (appliedKey .section)
+  pub body-whole : length (appliedBody image plan i a) ≡ recordBytes (shapeOf image) (appliedKey image plan i a .section)
   unfolding rowAt
   body-whole =
       let f = applicable-fits (shapeOf image) image plan i (good-laid image (a .layout)) (a .row) in
       part-length plan (bodyAt i) (rowLength plan i) (omega (arith, f .0, a .long, a .row .below)) ∙ a .row .covered .whole
 
-  pub applied-is : appliedImage image plan i ≡ store (shapeOf image) image appliedKey appliedBody
+  pub applied-is : appliedImage image plan i ≡ store (shapeOf image) image (appliedKey image plan i a) (appliedBody image plan i a)
   unfolding rowAt
   applied-is = applied-done image plan i a ∙ applied-store (shapeOf image) image (rowAt plan i) (a .row .covered)
 
   -- so the record is read back, and every other is untouched
-  pub applied-same : recordAt (shapeOf image) (appliedImage image plan i) (appliedKey .section) (appliedKey .index) ≡ appliedBody
+  pub applied-same : recordAt (shapeOf image) (appliedImage image plan i) (appliedKey image plan i a .section) (appliedKey image plan i a .index) ≡ appliedBody image plan i a
   applied-same =
-      ap (λ (s : List ℕ). recordAt (shapeOf image) s (appliedKey .section) (appliedKey .index)) applied-is
-      ∙ store-same (shapeOf image) image appliedBody appliedKey (good-laid image (a .layout) .long) (a .row .covered .valid) body-whole
+      ap (λ (s : List ℕ). recordAt (shapeOf image) s (appliedKey image plan i a .section) (appliedKey image plan i a .index)) applied-is
+      ∙ store-same (shapeOf image) image (appliedBody image plan i a) (appliedKey image plan i a) (good-laid image (a .layout) .long) (a .row .covered .valid) body-whole
 
-  pub applied-other : (j : Key) → Valid (shapeOf image) j → j ≢ appliedKey
+  pub applied-other : (j : Key) → Valid (shapeOf image) j → j ≢ appliedKey image plan i a
       → recordAt (shapeOf image) (appliedImage image plan i) (j .section) (j .index) ≡ recordAt (shapeOf image) image (j .section) (j .index)
   applied-other j valid differ =
       ap (λ (s : List ℕ). recordAt (shapeOf image) s (j .section) (j .index)) applied-is
-      ∙ store-other (shapeOf image) image appliedBody appliedKey (good-laid image (a .layout) .long) (a .row .covered .valid) body-whole j valid differ
+      ∙ store-other (shapeOf image) image (appliedBody image plan i a) (appliedKey image plan i a) (good-laid image (a .layout) .long) (a .row .covered .valid) body-whole j valid differ
 
 -- a row that an operation wrote, and that stands in a plan, is applied as the store it is meant to be
 module _ (image plan : List ℕ) (i group : ℕ) (k : Key) (body : List ℕ) (long : planBytes ≤ length plan) (good : layoutGood image ≡ true) (below : i < planRows)

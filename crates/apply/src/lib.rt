@@ -10,7 +10,7 @@ ghost use Rattle.plan.specs.Form.{planBytes, planRows, rowAt};
 ghost use Rattle.plan.specs.Fit.{rowFits, applicable};
 ghost use Rattle.apply.specs.Find.{Bounded};
 ghost use Rattle.apply.specs.Apply.{rowNumber, applyNumber, appliedImage};
-ghost use Rattle.apply.specs.ApplyLaws.{rowImage};
+ghost use Rattle.apply.specs.OneRow.{rowImage};
 
 pub mod sections;
 

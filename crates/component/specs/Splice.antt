@@ -12,7 +12,8 @@ use Rattle.seq.specs.Bytes.{part}
 use Rattle.seq.specs.BytesLaws.{part-length}
 use Rattle.paths.specs.Path.{empty, bare, absolute}
 use Rattle.paths.specs.PathLaws.{bare-append}
-use Rattle.paths.specs.WorkingPath.{workingPath, filled-length, filled-part}
+use Rattle.paths.specs.WorkingPath.{workingPath}
+use Rattle.paths.specs.WorkingPathLaws.{filled-length, filled-part}
 use Rattle.component.specs.declared.state.Walk.{Walk}
 use Rattle.component.specs.declared.state.Leave.the-variants.{Goes}
 use Rattle.component.specs.Step.{splice}

@@ -7,7 +7,7 @@ use native.Mathlib.Omega.{arith}
 use lib.ListN.{length}
 use Rattle.seq.specs.BytesLaws.{part-length}
 use Rattle.paths.specs.Path.{bare}
-use Rattle.paths.specs.WorkingPath.{filled-length, filled-part}
+use Rattle.paths.specs.WorkingPathLaws.{filled-length, filled-part}
 use Rattle.component.specs.declared.state.Walk.{Walk}
 use Rattle.component.specs.declared.state.Found.{Found}
 use Rattle.component.specs.declared.state.Found.the-variants.{Missing}

@@ -13,8 +13,10 @@ use Rattle.crash_theorem.specs.Store.{Store, Rows}
 use Rattle.crash_theorem.specs.Change.{Change, goal}
 use Rattle.crash_theorem.specs.Events.{EventOf, crash, through, St, decided, start, step, run}
 use Rattle.crash_theorem.specs.Obligations.{OnTheWay, Obligations}
-use Rattle.crash_theorem.specs.Invariant.{Inv, whole, inside-of, ended-of, logged-of, decision-of, fits-of, start-inv, run-inv}
-use Rattle.crash_theorem.specs.Finish.{Finishes, finish-of}
+use Rattle.crash_theorem.specs.Invariant.{Inv}
+use Rattle.crash_theorem.specs.InvariantLaws.{whole, inside-of, ended-of, logged-of, decision-of, fits-of, start-inv, run-inv}
+use Rattle.crash_theorem.specs.Finish.{Finishes}
+use Rattle.crash_theorem.specs.FinishLaws.{finish-of}
 
 module _ {𝓢 : Store} (𝓒 : Change 𝓢) where
   -- What holds of a state.

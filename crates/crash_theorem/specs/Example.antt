@@ -14,7 +14,7 @@ use Rattle.crash_theorem.specs.Obligations.{Obligations}
 use Rattle.crash_theorem.specs.Plan.{by-row, by-journal, Plan, afterOf, behindOf, lending, change, WellFormed, Recovers}
 use Rattle.crash_theorem.specs.Planned.{clear-settles, behind-all, journaled}
 use Rattle.crash_theorem.specs.Queue.{end, call, Queue, play, decisions}
-use Rattle.crash_theorem.specs.Chain.{queue}
+use Rattle.crash_theorem.specs.ChainLaws.{queue}
 
 -- ---- the store: four numbers, of which the first is the journal record; recovery is lent a buffer for so many rows, and wants three
 

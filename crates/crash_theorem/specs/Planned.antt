@@ -13,8 +13,8 @@ use Rattle.crash_theorem.specs.Store.{Store, Rows, Covers, Spares, Disti
 use Rattle.crash_theorem.specs.StoreLaws.{covers?, spares-not, all-ok, all-other, all-same}
 use Rattle.crash_theorem.specs.Change.{Change, goal}
 use Rattle.crash_theorem.specs.Obligations.{OnTheWay, MayMark, Opens, Settles, Cover, Ahead, Behind, Recovery, Orderly, Obligations}
-use Rattle.crash_theorem.specs.Settle.{settled}
-use Rattle.crash_theorem.specs.Invariant.{goal-ok}
+use Rattle.crash_theorem.specs.SettleLaws.{settled}
+use Rattle.crash_theorem.specs.InvariantLaws.{goal-ok}
 use Rattle.crash_theorem.specs.Plan.{Decider, by-row, by-journal, createdOf, aheadOf, decideOf, writesOf, ByRow, Plan, writes, decideRow, afterOf, behindOf, pendingOf, ifEnough, lending, change, WellFormed, Recovers}
 
 module _ {R : Type 0} where

@@ -25,7 +25,8 @@ use Rattle.walk.specs.Both.{walksOf, oldWalk, newWalk, newAfter}
 use Rattle.plan.specs.Form.{planBytes}
 use Rattle.refusals.specs.declared.case.Answer.the-variants.{Planned}
 use Rattle.refusals.specs.Steps.{decide}
-use Rattle.refusals.specs.Passed.{Passes, passes}
+use Rattle.refusals.specs.Passed.{Passes}
+use Rattle.refusals.specs.PassedLaws.{passes}
 use Rattle.rename.specs.Order.{walks, early}
 
 module _ (s plan : List ℕ) (q : Request) (old new : List ℕ) (begun : decide (early s plan q old new) ≡ Planned) where

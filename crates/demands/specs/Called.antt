@@ -29,14 +29,17 @@ use Rattle.refusals.specs.declared.case.Case.{Case}
 use Rattle.refusals.specs.declared.case.Answer.the-variants.{Planned}
 use Rattle.refusals.specs.Case.{exists}
 use Rattle.refusals.specs.Steps.{Rule, refuse, decide, steps}
-use Rattle.refusals.specs.Passed.{Passes, passes, Passed, planned-passed}
+use Rattle.refusals.specs.Passed.{Passes, Passed}
+use Rattle.refusals.specs.PassedLaws.{passes, planned-passed}
 use Rattle.plan.specs.Form.{planBytes}
 use Rattle.moves.specs.Plan.{moveOf}
 use Rattle.rename.specs.Order.{walks, caseOf, early, late, order}
 use Rattle.rename.specs.Job.{answer, move, called}
-use Rattle.outcome.specs.Called.{Called, move-text}
+use Rattle.outcome.specs.Called.{Called}
+use Rattle.outcome.specs.CalledLaws.{move-text}
 use Rattle.demands.specs.Begun.{long, read, clear, bodies, old-facts, new-facts}
-use Rattle.demands.specs.Allowed.{newName, Granted, granted}
+use Rattle.demands.specs.Allowed.{newName, Granted}
+use Rattle.demands.specs.AllowedLaws.{granted}
 
 -- where no test of a list holds, the part behind decides
 skipped : (xs ys : List Rule) → Passes (xs ++ ys) → decide (xs ++ ys) ≡ decide ys

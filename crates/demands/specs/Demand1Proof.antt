@@ -22,7 +22,7 @@ use Rattle.plan.specs.Write.{Write}
 use Rattle.apply.specs.Apply.{applyNumber}
 use Rattle.refusals.specs.declared.case.Answer.the-variants.{Planned}
 use Rattle.refusals.specs.Steps.{numberOf, decide}
-use Rattle.refusals.specs.Decide.{decide-number, decide-refused, decide-passed}
+use Rattle.refusals.specs.DecideLaws.{decide-number, decide-refused, decide-passed}
 use Rattle.rename.specs.Order.{early, late, order}
 use Rattle.rename.specs.Job.{renamed}
 use Rattle.recover.specs.Recover.{pendingRows}

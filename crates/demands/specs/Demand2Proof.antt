@@ -11,12 +11,12 @@ use Rattle.consistency.specs.Facts.{Consistent, consistent-is, is-bodies}
 use Rattle.paths.specs.declared.request.Request.{Request}
 use Rattle.paths.specs.Request.{requestGood}
 use Rattle.crash_theorem.specs.Store.{putAll}
-use Rattle.image_store.specs.Job.{jobs}
+use Rattle.image_store.specs.JobLaws.{jobs}
 use Rattle.plan.specs.Jobs.{jobsIn, Job}
 use Rattle.refusals.specs.declared.case.Answer.{Answer}
 use Rattle.refusals.specs.declared.case.Answer.the-variants.{Same, Planned}
 use Rattle.refusals.specs.Steps.{numberOf, decide}
-use Rattle.refusals.specs.Decide.{steps-same}
+use Rattle.refusals.specs.DecideLaws.{steps-same}
 use Rattle.rename.specs.Order.{walks, inodeOf, caseOf, order}
 use Rattle.rename.specs.Job.{answer, rowsBy, planBy, renamed, planAfter}
 use Rattle.outcome.specs.Applied.{applied-in-order}

@@ -22,9 +22,10 @@ use Rattle.crash_theorem.specs.Pick.{All, Empty, Has}
 use Rattle.crash_theorem.specs.Turn.{Turn}
 use Rattle.crash_theorem.specs.Change.{Change}
 use Rattle.crash_theorem.specs.Events as theory
-use Rattle.image_store.specs.Job.{jobs}
+use Rattle.image_store.specs.JobLaws.{jobs}
 use Rattle.plan.specs.Jobs.{Job}
-use Rattle.image_store.specs.Buffers.{Buffers, enough, is-enough}
+use Rattle.image_store.specs.Buffers.{Buffers, enough}
+use Rattle.image_store.specs.BuffersLaws.{is-enough}
 use Rattle.edits.specs.Kinds.{EntryUsed}
 use Rattle.results.specs.declared.Move.{Move}
 use Rattle.refusals.specs.declared.case.Answer.{Answer}
@@ -33,13 +34,16 @@ use Rattle.rename.specs.Order.{walks, slotOf}
 use Rattle.moves.specs.Plan.{moveOf}
 use Rattle.rename.specs.Job.{answer, move, called, rowsBy, renamed}
 use Rattle.recover.specs.Job.{recovered}
-use Rattle.outcome.specs.RenamePlan.{rename-planned}
+use Rattle.outcome.specs.RenamePlanLaws.{rename-planned}
 use Rattle.outcome.specs.Called.{Called}
-use Rattle.rename_survives.specs.Safe.{NamesKept, rename-group}
-use Rattle.rename_survives.specs.Survives.{state, Survives, rename-survives}
+use Rattle.rename_survives.specs.Safe.{rename-group}
+use Rattle.rename_survives.specs.Run.{NamesKept}
+use Rattle.rename_survives.specs.Survives.{state, Survives}
+use Rattle.rename_survives.specs.SurvivesProof.{rename-survives}
 use Rattle.demands.specs.Called.{planned-new}
 use Rattle.demands.specs.Crashes.{Event, apply, crash, State, groupOf, step, run, entryApplied}
-use Rattle.demands.specs.Retold.{stateOf, eventOf, same-step, same-run, same-decision, places}
+use Rattle.demands.specs.Retold.{stateOf, eventOf}
+use Rattle.demands.specs.RetoldLaws.{same-step, same-run, same-decision, places}
 use Rattle.demands.specs.Demand2.{thePlan, after}
 use Rattle.demands.specs.Planned.{planned-move, planned-room, change, planned-bytes, planned-state}
 use Rattle.demands.specs.Demand3.{Demand3, Renamed, before, moved, now}

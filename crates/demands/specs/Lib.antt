@@ -3,10 +3,12 @@ pub mod Crashes
 pub mod Demand2
 pub mod Demand3
 pub mod Allowed
+pub mod AllowedLaws
 pub mod Begun
 pub mod Called
 pub mod Demand1Proof
 pub mod Retold
+pub mod RetoldLaws
 pub mod Planned
 pub mod Demand2Proof
 pub mod Demand3Proof

@@ -12,18 +12,20 @@ use Rattle.plan.specs.Form.{planBytes}
 use Rattle.plan.specs.Jobs.{Job, jobsIn}
 use Rattle.crash_theorem.specs.Change.{Change}
 use Rattle.crash_theorem.specs.Events as theory
-use Rattle.image_store.specs.Job.{jobs}
+use Rattle.image_store.specs.JobLaws.{jobs}
 use Rattle.results.specs.declared.Move.{Move}
 use Rattle.refusals.specs.declared.case.Answer.{Answer}
 use Rattle.refusals.specs.declared.case.Answer.the-variants.{Planned}
 use Rattle.moves.specs.Plan.{planned}
 use Rattle.rename.specs.Job.{answer, move, called, planBy, planAfter}
 use Rattle.outcome.specs.Called.{Called}
-use Rattle.rename_survives.specs.Safe.{renameJobs, rename-first}
+use Rattle.rename_survives.specs.Safe.{rename-first}
+use Rattle.rename_survives.specs.Run.{renameJobs}
 use Rattle.rename_survives.specs.Survives.{state}
 use Rattle.demands.specs.Called.{planned-long, planned-called}
 use Rattle.demands.specs.Crashes.{Event, begun}
-use Rattle.demands.specs.Retold.{stateOf, eventOf, same-run}
+use Rattle.demands.specs.Retold.{stateOf, eventOf}
+use Rattle.demands.specs.RetoldLaws.{same-run}
 use Rattle.demands.specs.Demand2.{thePlan, after}
 
 module _ (s plan : List ℕ) (q : Request) (old new : List ℕ) (e : answer s plan q old new ≡ Planned) (time : q .now < span 8) where

@@ -4,7 +4,7 @@ use mathlib.Core.Option.{Option, none, some}
 use Prim.Native.Nat.{ℕ}
 use Rattle.layout.specs.declared.Shape.{Shape}
 use Rattle.plan.specs.Write.{Write}
-use Rattle.plan.specs.WriteLaws.{Filled}
+use Rattle.plan.specs.Filled.{Filled}
 use Rattle.drafts.specs.declared.draft.Draft.{Draft}
 use Rattle.drafts.specs.declared.draft.Draft.the-variants.{Unfit, Rows}
 

@@ -19,7 +19,8 @@ use Rattle.encode.specs.Journal.{journalOf, journalFormed}
 use Rattle.layout.specs.Limits.{absent}
 use Rattle.plan.specs.Form.{planRows, rowPut}
 use Rattle.plan.specs.Write.{Write, rowFrom}
-use Rattle.plan.specs.WriteLaws.{AllWrites, writes-join, Filled, filled-one, filled-join}
+use Rattle.plan.specs.WriteLaws.{writes-join, filled-one, filled-join}
+use Rattle.plan.specs.Filled.{AllWrites, Filled}
 use Rattle.results.specs.declared.Move.{Move}
 use Rattle.results.specs.Results.{present, results, clearRow}
 use Rattle.results.specs.InImage.{InImage}

@@ -10,7 +10,7 @@ ghost use lib.ListN.{length};
 ghost use Rattle.layout.specs.ContentsLaws.{Laid};
 ghost use Rattle.layout.specs.View.{viewOf};
 ghost use Rattle.plan.specs.Form.{planBytes};
-ghost use Rattle.plan.specs.WriteLaws.{Filled};
+ghost use Rattle.plan.specs.Filled.{Filled};
 ghost use Rattle.results.specs.InImage.{InImage};
 ghost use Rattle.drafts.specs.Draft.{belowOrAbsent, numbersInRange, different, renameFits, moveFrom, entryStands, intoGood, finishing, renameDraft};
 ghost use Rattle.drafts.specs.Drafted.{Drafted};

@@ -16,7 +16,8 @@ use Rattle.consistency.specs.Facts.{consistent-is}
 use Rattle.consistency.specs.Bench.{bench-consistent}
 use Rattle.edits.specs.ConsistentView.{ConsistentView}
 use Rattle.edits.specs.Moved.{Allowed}
-use Rattle.edits.specs.Renamed.{movedView, renamed-consistent}
+use Rattle.edits.specs.Renamed.{movedView}
+use Rattle.edits.specs.RenamedLaws.{renamed-consistent}
 use Rattle.edits.specs.Refusals.{missing-of, unopened-of, not-above-of}
 use Rattle.edits.specs.Bodies.{bodies-consistent}
 

@@ -4,8 +4,9 @@ use mathlib.Core.Logic.{_≢_}
 use Prim.Native.Nat.{ℕ, _+_, _≤_, _<_}
 use native.Mathlib.Decide.{ℕ-discrete}
 use native.Mathlib.Omega.{arith}
-use Rattle.seq.specs.Count.{count-some}
-use Rattle.seq.specs.Climb.{up, no-circle}
+use Rattle.seq.specs.CountLaws.{count-some}
+use Rattle.seq.specs.Climb.{up}
+use Rattle.seq.specs.ClimbLaws.{no-circle}
 use Rattle.layout.specs.View.{View}
 use Rattle.tree.specs.Tree.{targets, entriesOf, childDirectories}
 use Rattle.layout.specs.Limits.{linkLimit}

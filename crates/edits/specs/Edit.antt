@@ -7,7 +7,8 @@ use Prim.Native.Nat.{ℕ, _+_, _<_}
 use native.Mathlib.Decide.{ℕ-discrete}
 use native.Mathlib.Omega.{arith}
 use Rattle.seq.specs.Truth.{same-truth}
-use Rattle.seq.specs.Count.{Off, On, Places, bits, on-or-off, count-edited}
+use Rattle.seq.specs.Count.{Off, On, Places, bits}
+use Rattle.seq.specs.CountLaws.{on-or-off, count-edited}
 use Rattle.layout.specs.View.{View}
 use Rattle.tree.specs.Tree.{targets, entriesOf, holdsDirectory, childDirectories}
 use Rattle.edits.specs.Kinds.{IsKind, IsDirectory, IsUsed, EntryUsed}

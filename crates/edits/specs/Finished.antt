@@ -5,19 +5,23 @@ use mathlib.Core.List.{List, [], _∷_}
 use Prim.Native.Nat.{ℕ, _+_, _≤_, _<_}
 use native.Mathlib.Decide.{ℕ-discrete}
 use native.Mathlib.Omega.{arith}
-use Rattle.seq.specs.Count.{Off, On, bit, bit-le, on-or-off, count-zero, count-unique}
+use Rattle.seq.specs.Count.{Off, On, bit}
+use Rattle.seq.specs.CountLaws.{bit-le, on-or-off, count-zero, count-unique}
 use Rattle.seq.specs.Climb.{up}
 use Rattle.layout.specs.View.{View}
 use Rattle.tree.specs.Tree.{targets, entriesOf, holdsDirectory, childDirectories}
 use Rattle.layout.specs.Limits.{linkLimit}
-use Rattle.edits.specs.Kinds.{IsDirectory, IsUsed, IsLeaf, EntryUsed, HandleOpen, directory-used, kind?, entry-used?}
+use Rattle.edits.specs.Kinds.{IsDirectory, IsUsed, IsLeaf, EntryUsed, HandleOpen}
+use Rattle.edits.specs.KindsLaws.{directory-used, kind?, entry-used?}
 use Rattle.edits.specs.Tests.{is-targets, no-targets, same-target, is-holds, no-holds}
 use Rattle.edits.specs.ConsistentView.{EntryLinked, ConsistentView, not-above-parent}
 use Rattle.edits.specs.Edit.{SameInode, Edit, was, stayed, entry-was, linked-new, entries-edited}
 use Rattle.edits.specs.InodeChange.{InodeChange, below, same-was, children-changed, handles-same}
 use Rattle.edits.specs.TextChange.{TextChange, texts-freed}
-use Rattle.edits.specs.Settled.{SameEntries, SameChildren, DirectoryCount, LeafCount, change-consistent}
-use Rattle.edits.specs.Moved.{Allowed, Replaced, Gone, replaced?, gone?, Moved}
+use Rattle.edits.specs.Settled.{SameEntries, SameChildren, DirectoryCount, LeafCount}
+use Rattle.edits.specs.SettledLaws.{change-consistent}
+use Rattle.edits.specs.Moved.{Allowed, Replaced, Gone, Moved}
+use Rattle.edits.specs.MovedLaws.{replaced?, gone?}
 
 module _ {v : View} {old new moved from into : ℕ} {called : List ℕ} (good : ConsistentView v) (ok : Allowed v old new moved from into called) where
   abbrev slots : List ℕ

@@ -4,11 +4,14 @@ use mathlib.Core.Logic.{_≢_, _⊎_, inl, inr, ⊎-elim}
 use mathlib.Core.List.{List}
 use Prim.Native.Nat.{ℕ, _+_, _<_}
 use native.Mathlib.Omega.{arith}
-use Rattle.seq.specs.Count.{Off, On, bits, on-or-off}
-use Rattle.seq.specs.Climb.{up, up-in, still-leads}
+use Rattle.seq.specs.Count.{Off, On, bits}
+use Rattle.seq.specs.CountLaws.{on-or-off}
+use Rattle.seq.specs.Climb.{up}
+use Rattle.seq.specs.ClimbLaws.{up-in, still-leads}
 use Rattle.layout.specs.View.{View}
 use Rattle.tree.specs.Tree.{holdsDirectory, childDirectories}
-use Rattle.edits.specs.Kinds.{IsDirectory, IsUsed, EntryUsed, HandleOpen, directory-used, either?}
+use Rattle.edits.specs.Kinds.{IsDirectory, IsUsed, EntryUsed, HandleOpen}
+use Rattle.edits.specs.KindsLaws.{directory-used, either?}
 use Rattle.edits.specs.ConsistentView.{EntryLinked, Placed, ConsistentView, parent-directory}
 use Rattle.edits.specs.Edit.{SameInode, SameHandle, SameSize, Edit, was, entry-was, entry-is, linked-kept, children-edited}
 

@@ -1,15 +1,14 @@
 -- A rename over views: what a plan that was not refused knows of the image, and what the finished image has. Assumes nothing.
 -- The inode `moved` goes from slot `old` of directory `from` to slot `new` of directory `into`, under the name `called`; what slot `new` named is replaced.
 use mathlib.Core.Path.{_≡_}
-use mathlib.Core.Logic.{_≢_, _⊎_, Dec·and}
+use mathlib.Core.Logic.{_≢_, _⊎_}
 use mathlib.Core.List.{List}
 use Prim.Native.Nat.{ℕ, _+_, _<_}
-use native.Mathlib.Decide.{ℕ-discrete}
 use Rattle.seq.specs.Climb.{up}
 use Rattle.layout.specs.View.{View}
 use Rattle.tree.specs.Tree.{entriesOf, childDirectories}
 use Rattle.layout.specs.Limits.{linkLimit}
-use Rattle.edits.specs.Kinds.{IsDirectory, IsSymlink, EntryUsed, HandleOpen, entry-used?}
+use Rattle.edits.specs.Kinds.{IsDirectory, IsSymlink, EntryUsed, HandleOpen}
 use Rattle.edits.specs.Edit.{SameEntry, SameInode, SameHandle, SameSize}
 
 -- Of the image before: both walks, and the refusals that did not come, by their steps in the order of refusal. The others are not needed.
@@ -46,12 +45,6 @@ Replaced v new i = EntryUsed v new × (v .target new ≡ i)
 
 abbrev pub Gone : View → View → ℕ → ℕ → Type 0
 Gone v w new i = Replaced v new i × (entriesOf w i ≡ 0)
-
-pub replaced? : (v : View) (new i : ℕ) → Dec (Replaced v new i)
-replaced? v new i = Dec·and (entry-used? v new) (ℕ-discrete (v .target new) i)
-
-pub gone? : (v w : View) (new i : ℕ) → Dec (Gone v w new i)
-gone? v w new i = Dec·and (replaced? v new i) (ℕ-discrete (entriesOf w i) 0)
 
 -- Of the finished image.
 pub record Moved (v w : View) (old new moved from into : ℕ) (called : List ℕ) : Type 0 where

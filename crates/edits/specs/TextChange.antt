@@ -6,7 +6,8 @@ use Prim.Native.Nat.{ℕ, _<_}
 use native.Mathlib.Decide.{ℕ-discrete}
 use native.Mathlib.Omega.{arith}
 use Rattle.layout.specs.View.{View}
-use Rattle.edits.specs.Kinds.{IsSymlink, TextUsed, symlink-used, kind?}
+use Rattle.edits.specs.Kinds.{IsSymlink, TextUsed}
+use Rattle.edits.specs.KindsLaws.{symlink-used, kind?}
 use Rattle.edits.specs.ConsistentView.{Texts, ConsistentView}
 use Rattle.edits.specs.Edit.{SameSize, kept, was}
 use Rattle.edits.specs.InodeChange.{InodeChange, not-gone, same-was, same-is}

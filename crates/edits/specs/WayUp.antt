@@ -8,7 +8,8 @@ use native.Mathlib.Decide.{ℕ-discrete}
 use native.Mathlib.Omega.{arith}
 use borrow.Author.Tests.{eqb-true, eq-eqb, ne-eqb}
 use Rattle.seq.specs.Truth.{and-right, not-both}
-use Rattle.seq.specs.Climb.{up, short-way}
+use Rattle.seq.specs.Climb.{up}
+use Rattle.seq.specs.ClimbLaws.{short-way}
 use Rattle.layout.specs.View.{View, isDirectory}
 use Rattle.tree.specs.Tree.{reaches}
 use Rattle.edits.specs.Kinds.{IsDirectory}

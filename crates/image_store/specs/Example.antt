@@ -30,9 +30,11 @@ use Rattle.crash_theorem.specs.Events.{EventOf, apply, stray, crash, decided, s
 use Rattle.crash_theorem.specs.Obligations.{Obligations}
 use Rattle.crash_theorem.specs.Plan.{by-row, Plan, behindOf, WellFormed, Recovers}
 use Rattle.crash_theorem.specs.Planned.{clear-settles, behind-all}
-use Rattle.image_store.specs.Image.{Fits, isValid, recordOf, read-of, first-ok, accepted, putWrite, images}
-use Rattle.image_store.specs.Buffers.{Buffers, enough, enough-is, is-enough, too-short}
-use Rattle.image_store.specs.Job.{jobs}
+use Rattle.image_store.specs.Image.{Fits, isValid, recordOf, accepted, putWrite}
+use Rattle.image_store.specs.ImageLaws.{read-of, first-ok, images}
+use Rattle.image_store.specs.Buffers.{Buffers, enough}
+use Rattle.image_store.specs.BuffersLaws.{enough-is, is-enough, too-short}
+use Rattle.image_store.specs.JobLaws.{jobs}
 use Rattle.image_store.specs.JobRows.{planOf}
 use Rattle.plan.specs.Jobs.{jobsIn}
 use Rattle.image_store.specs.Recovery.{RecoveryJob, AnswersRows}

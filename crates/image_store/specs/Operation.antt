@@ -7,8 +7,8 @@ use Rattle.plan.specs.Write.{Write}
 use Rattle.crash_theorem.specs.Change.{Change}
 use Rattle.crash_theorem.specs.Events.{EventOf, State, start, run}
 use Rattle.crash_theorem.specs.Plan.{Plan, aheadOf, decideRow, behindOf, afterOf, pendingOf}
-use Rattle.image_store.specs.Image.{images}
-use Rattle.image_store.specs.Job.{jobs}
+use Rattle.image_store.specs.ImageLaws.{images}
+use Rattle.image_store.specs.JobLaws.{jobs}
 use Rattle.plan.specs.Jobs.{Job, jobsFrom}
 use Rattle.image_store.specs.JobRows.{planOf}
 use Rattle.image_store.specs.Recovery.{RecoveryJob, answered}

@@ -1,10 +1,8 @@
--- What C hands over and gets back: the parts of a request, and the job's answer as one number, each part in bits of its own. Assumes nothing.
-use mathlib.Core.Path.{_≡_}
-use Prim.Native.Nat.{ℕ, _+_, _*_, _/_, _%_, _<_}
-use native.Mathlib.Omega.{arith}
+-- What C hands over and gets back: the parts of a request, and the job's answer as one number, each part in bits of its own. A reader has to believe this
+-- file. Assumes nothing.
+use Prim.Native.Nat.{ℕ, _+_, _*_}
 use Rattle.paths.specs.declared.request.Request.{Request}
 use Rattle.rename.specs.declared.Renamed.{Renamed}
-use Rattle.rename.specs.Bounds.{Small}
 use Rattle.recover.specs.Job.{Recovered}
 
 abbrev pub requestOf : ℕ → ℕ → ℕ → ℕ → ℕ → ℕ → Request
@@ -22,19 +20,3 @@ packed r = r .number + 256 * r .rows + 65536 * r .old + 4294967296 * r .new
 -- an answer of recovery has no walks
 abbrev pub withoutWalks : Recovered → Renamed
 withoutWalks r = record { number = r .number; rows = r .rows; old = 0; new = 0 }
-
--- The parts as the header's accessors take them out; nothing stands above them.
-pub record Parts (n : ℕ) (r : Renamed) : Type 0 where
-  pub number : n % 256 ≡ r .number
-  pub rows : n / 256 % 256 ≡ r .rows
-  pub old : n / 65536 % 65536 ≡ r .old
-  pub new : n / 4294967296 % 65536 ≡ r .new
-  pub rest : n < 281474976710656
-
-pub packed-parts : (r : Renamed) → r .number < 256 → Small r → Parts (packed r) r
-unfolding packed
-packed-parts r byte small =
-    let rows = small .rows in
-    let old = small .old in
-    let new = small .new in
-    record { number = omega arith; rows = omega arith; old = omega arith; new = omega arith; rest = omega arith }

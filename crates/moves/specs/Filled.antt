@@ -7,7 +7,8 @@ use lib.ListN.{length}
 use Rattle.layout.specs.declared.Shape.{Shape}
 use Rattle.plan.specs.Form.{planRows, rowPut, rowsPut, cleared}
 use Rattle.plan.specs.Write.{rowFrom, rowsFrom}
-use Rattle.plan.specs.WriteLaws.{Filled, filled-one, filled-join}
+use Rattle.plan.specs.WriteLaws.{filled-one, filled-join}
+use Rattle.plan.specs.Filled.{Filled}
 use Rattle.results.specs.declared.Move.{Move}
 use Rattle.results.specs.Results.{results, clearRow}
 use Rattle.results.specs.ResultRows.{results-le}

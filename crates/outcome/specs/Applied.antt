@@ -12,10 +12,11 @@ use Rattle.crash_theorem.specs.Pick.{All}
 use Rattle.crash_theorem.specs.PickLaws.{all-join, all-map}
 use Rattle.crash_theorem.specs.Store.{putAll}
 use Rattle.crash_theorem.specs.Order.{Permitted, Sorted}
-use Rattle.image_store.specs.Image.{Fits, images}
-use Rattle.image_store.specs.Job.{jobs}
+use Rattle.image_store.specs.Image.{Fits}
+use Rattle.image_store.specs.ImageLaws.{images}
+use Rattle.image_store.specs.JobLaws.{jobs}
 use Rattle.plan.specs.Jobs.{Job, jobsIn}
-use Rattle.image_store.specs.JobRows.{plan-count}
+use Rattle.image_store.specs.JobRowsLaws.{plan-count}
 use Rattle.image_store.specs.Operation.{rowsIn}
 use Rattle.image_store.specs.Safe.{planned-whole, planned-in-order}
 use Rattle.results.specs.declared.Move.{Move}
@@ -23,7 +24,8 @@ use Rattle.results.specs.Results.{results, clearRow}
 use Rattle.results.specs.ResultRows.{results-le}
 use Rattle.moves.specs.Plan.{renameRows, planned}
 use Rattle.outcome.specs.Outcome.{finished}
-use Rattle.outcome.specs.RenamePlan.{renamePlan, rename-rows, rename-planned}
+use Rattle.outcome.specs.RenamePlan.{renamePlan}
+use Rattle.outcome.specs.RenamePlanLaws.{rename-rows, rename-planned}
 use Rattle.outcome.specs.Called.{Called}
 use Rattle.outcome.specs.PlanRows.{results-all, results-fit, well-formed}
 

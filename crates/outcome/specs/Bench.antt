@@ -18,7 +18,7 @@ use Rattle.consistency.specs.Consistent.{checkNumber}
 use Rattle.consistency.specs.Facts.{Consistent, consistent-is}
 use Rattle.consistency.specs.Bench.{bench-consistent}
 use Rattle.edits.specs.Bench.{k, g, new-name, file-replaced}
-use Rattle.image_store.specs.Image.{read-of}
+use Rattle.image_store.specs.ImageLaws.{read-of}
 use Rattle.results.specs.declared.Move.{Move}
 use Rattle.results.specs.Results.{entriesAfter}
 use Rattle.outcome.specs.Outcome.{finished}

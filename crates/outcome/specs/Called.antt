@@ -1,43 +1,22 @@
--- What a rename that is not refused knows when it plans its rows: the records that they write are in the image, and different ones. Assumes nothing.
-use mathlib.Core.Path.{_≡_, refl, sym, _∙_}
+-- What a rename that is not refused knows when it plans its rows. Assumes nothing.
+use mathlib.Core.Path.{_≡_}
 use mathlib.Core.Logic.{_≢_}
-use mathlib.Core.Bool.{Bool, true, false, _&&_, cond}
+use mathlib.Core.Bool.{true, _&&_, cond}
 use mathlib.Core.List.{List}
 use Prim.Native.Nat.{ℕ, _≤_, _<_}
-use native.Mathlib.Nat.{zero-add}
-use native.Mathlib.Omega.{arith}
-use lib.Dec.{eqb, lit<}
-use lib.ListN.{length, getD-replicate}
-use lib.Seq.{ext-getD}
-use borrow.Author.Tests.{eqb-true, eqb-false, eq-eqb, ne-eqb, not-true}
-use Rattle.seq.specs.Truth.{and-left, and-right}
-use Rattle.seq.specs.SearchLaws.{all-at}
-use Rattle.seq.specs.Bytes.{zeros}
+use lib.Dec.{eqb}
+use lib.ListN.{length}
 use Rattle.seq.specs.Number.{span}
 use Rattle.layout.specs.declared.Shape.{Shape}
 use Rattle.layout.specs.ContentsLaws.{Read}
-use Rattle.layout.specs.RecordLaws.{record-length}
-use Rattle.layout.specs.View.{View, viewOf, entryAt, journalAt, entryUsed, isSymlink, nameRoom}
+use Rattle.layout.specs.View.{View, viewOf, entryUsed, isSymlink, nameRoom}
 use Rattle.names.specs.NameTests.{nameGood}
-use Rattle.encode.specs.Entry.{entryBytes, retargeted}
-use Rattle.encode.specs.EntryLaws.{Names}
 use Rattle.layout.specs.Limits.{absent}
 use Rattle.consistency.specs.Sound.{journalClear}
 use Rattle.consistency.specs.Facts.{Bodies}
-use Rattle.edits.specs.Kinds.{IsSymlink, EntryUsed}
-use Rattle.edits.specs.Tests.{kind-is}
-use Rattle.edits.specs.ConsistentView.{ConsistentView}
-use Rattle.edits.specs.Moved.{Allowed, Replaced}
-use Rattle.edits.specs.Finished.{from-directory, from-stays, into-stays, moved-stays}
-use Rattle.edits.specs.Bodies.{bodies-consistent}
-use Rattle.edits.specs.Written.{new-names}
-use Rattle.plan.specs.Write.{journalKey}
-use Rattle.image_store.specs.Image.{recordOf, record-is}
+use Rattle.edits.specs.Moved.{Allowed}
 use Rattle.results.specs.declared.Move.{Move}
-use Rattle.results.specs.Results.{entriesAfter, freeRecord}
-use Rattle.results.specs.InImage.{InImage}
-use Rattle.refusals.specs.declared.case.Case.{Case}
-use Rattle.moves.specs.Plan.{moveOf, newEntry}
+use Rattle.results.specs.Results.{entriesAfter}
 
 -- the inode that slot `new` names, if it is in use
 abbrev pub replacedOf : View → ℕ → ℕ
@@ -46,11 +25,6 @@ replacedOf v new = cond (entryUsed v new) (v .target new) absent
 -- the text of a replaced symlink with no entry left
 abbrev pub textOf : View → Move → ℕ
 textOf v m = cond (isSymlink v (m .replaced) && eqb (entriesAfter v m (m .replaced)) 0) (v .field (m .replaced)) absent
-
--- The planner's move frees that text.
-pub move-text : (v : View) (c : Case) (now : ℕ) → moveOf v c now .text ≡ textOf v (moveOf v c now)
-unfolding moveOf entriesAfter
-move-text v c now = refl
 
 pub record Called (h : Shape) (s : List ℕ) (m : Move) (called : List ℕ) : Type 0 where
   -- a consistent image
@@ -69,89 +43,3 @@ pub record Called (h : Shape) (s : List ℕ) (m : Move) (called : List ℕ) : Ty
   pub replaced : m .replaced ≡ replacedOf (viewOf h s) (m .new)
   pub text : m .text ≡ textOf (viewOf h s) m
   pub time : m .now < span 8
-
--- a number that is not absent was picked
-picked : (b : Bool) (i : ℕ) → cond b i absent ≢ absent → (b ≡ true) × (cond b i absent ≡ i)
-picked true i n = (refl, refl)
-picked false i n = absurd (n refl)
-
-module _ {h : Shape} {s : List ℕ} {m : Move} {called : List ℕ} (c : Called h s m called) where
-  abbrev v : View
-  v = viewOf h s
-
-  pub before-good : ConsistentView v
-  before-good = bodies-consistent (c .bodies)
-
-  -- ---- what is replaced, and what is freed
-
-  pub replaced-is : m .replaced ≢ absent → Replaced v (m .new) (m .replaced)
-  unfolding viewOf
-  replaced-is n =
-      let (u, e) = picked (entryUsed v (m .new)) (v .target (m .new)) (λ z. n (c .replaced ∙ z)) in
-      ((c .allowed .new-below, eqb-false _ _ (not-true _ u)), sym (c .replaced ∙ e))
-
-  pub is-replaced : (i : ℕ) → Replaced v (m .new) i → m .replaced ≡ i
-  is-replaced i (u, e) = c .replaced ∙ rw (ne-eqb _ _ (u .1)) e
-
-  pub replaced-below : (i : ℕ) → Replaced v (m .new) i → i < h .inodes
-  unfolding viewOf
-  replaced-below i (u, e) = rw e at (before-good .placed .entry (m .new) u .target .0)
-
-  pub replaced-present : EntryUsed v (m .new) → m .replaced ≢ absent
-  replaced-present u z =
-      let e : v .target (m .new) ≡ absent = sym (is-replaced _ (u, refl)) ∙ z in
-      omega (arith, replaced-below _ (u, e), c .read .laid .inodes-most)
-
-  pub text-is : m .text ≢ absent → IsSymlink v (m .replaced) × (entriesAfter v m (m .replaced) ≡ 0) × (m .text ≡ v .field (m .replaced))
-  text-is n =
-      let (b, e) = picked (isSymlink v (m .replaced) && eqb (entriesAfter v m (m .replaced)) 0) (v .field (m .replaced)) (λ z. n (c .text ∙ z)) in
-      (kind-is v (m .replaced) 3 (search and-left), eqb-true _ _ (search (and-left, and-right)), c .text ∙ e)
-
-  -- ---- the records that the rows write
-
-  pub in-image : InImage h m
-  unfolding viewOf
-  in-image = record {
-    old = c .allowed .old-used .0;
-    new = c .allowed .new-below;
-    moved = rw (c .allowed .old-target) at (before-good .placed .entry (m .old) (c .allowed .old-used) .target .0);
-    from = from-directory before-good (c .allowed) .0;
-    into = c .allowed .into-directory .0;
-    replaced = λ n. replaced-below _ (replaced-is n);
-    text = λ n. let (y, _, e) = text-is n in rw e (before-good .texts .used (m .replaced) y .0);
-  }
-
-  -- the replaced inode is none of the others
-  pub replaced-not-moved : m .replaced ≢ absent → m .replaced ≢ m .moved
-  replaced-not-moved n e = moved-stays before-good (c .allowed) (rw e at (replaced-is n))
-
-  pub replaced-not-from : m .replaced ≢ absent → m .replaced ≢ m .from
-  replaced-not-from n e = from-stays before-good (c .allowed) (rw e at (replaced-is n))
-
-  pub replaced-not-into : m .replaced ≢ absent → m .replaced ≢ m .into
-  replaced-not-into n e = into-stays before-good (c .allowed) (rw e at (replaced-is n))
-
-  -- ---- the new entry, and the journal record
-
-  -- whether a slot is taken over can be seen from the move, or from the slot
-  pub entry-bytes : newEntry h s m called
-      ≡ cond (entryUsed v (m .new)) (retargeted (m .moved) (entryAt h s (m .new))) (entryBytes (h .width) (m .into) (m .moved) (c .name))
-  entry-bytes = go (entryUsed v (m .new)) refl
-    where
-      go : (b : Bool) → entryUsed v (m .new) ≡ b
-          → newEntry h s m called ≡ cond b (retargeted (m .moved) (entryAt h s (m .new))) (entryBytes (h .width) (m .into) (m .moved) (c .name))
-      go true u = rw (ne-eqb _ _ (replaced-present (c .allowed .new-below, eqb-false _ _ (not-true _ u))))
-      go false u =
-          let none : m .replaced ≡ absent = c .replaced ∙ rw u in
-          rw (eq-eqb _ _ none, c .missing none)
-
-  pub entry-names : Names (newEntry h s m called) (h .width) (m .into) (m .moved) (c .name)
-  entry-names = rw entry-bytes (new-names (c .read .laid) (c .bodies) (c .allowed) (c .short))
-
-  pub journal-zeros : recordOf h s journalKey ≡ freeRecord h 4
-  unfolding journalClear zeros
-  journal-zeros =
-      let long : length (journalAt h s) ≡ 32 = record-length h s 4 0 (c .read .laid .long) (omega arith) (omega arith) in
-      record-is h s journalKey (record { in-image = lit< tt; in-section = lit< tt })
-      ∙ ext-getD 0 (journalAt h s) (freeRecord h 4) (long ∙ refl)
-      (λ k b. eqb-true _ _ (rw zero-add at (all-at _ 32 (c .clear) k (omega arith))) ∙ sym (getD-replicate {A = ℕ} 32 k 0 0 (omega arith)))

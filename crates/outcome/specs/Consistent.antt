@@ -9,7 +9,8 @@ use native.Mathlib.Omega.{arith}
 use lib.ListN.{getD-replicate}
 use borrow.Author.Tests.{eq-eqb, ne-eqb}
 use Rattle.seq.specs.Bytes.{part}
-use Rattle.seq.specs.Count.{bit, count-edited}
+use Rattle.seq.specs.Count.{bit}
+use Rattle.seq.specs.CountLaws.{count-edited}
 use Rattle.layout.specs.declared.Shape.{Shape}
 use Rattle.layout.specs.ContentsLaws.{Read}
 use Rattle.layout.specs.View.{View, viewOf, inodeAt, textAt}
@@ -20,11 +21,14 @@ use Rattle.consistency.specs.Sound.{journalClear}
 use Rattle.consistency.specs.Facts.{Bodies, is-consistent}
 use Rattle.consistency.specs.Consistent.{consistent, checkNumber}
 use Rattle.consistency.specs.ConsistentLaws.{consistent-checked}
-use Rattle.edits.specs.Kinds.{IsDirectory, IsSymlink, kind?}
+use Rattle.edits.specs.Kinds.{IsDirectory, IsSymlink}
+use Rattle.edits.specs.KindsLaws.{kind?}
 use Rattle.edits.specs.Tests.{is-kind, no-kind, is-targets, no-targets}
-use Rattle.edits.specs.Moved.{Replaced, Gone, replaced?}
+use Rattle.edits.specs.Moved.{Replaced, Gone}
+use Rattle.edits.specs.MovedLaws.{replaced?}
 use Rattle.edits.specs.Finished.{slots-differ, from-directory}
-use Rattle.edits.specs.Written.{Touched, Written, same-entry, written-consistent}
+use Rattle.edits.specs.Written.{Touched, Written}
+use Rattle.edits.specs.WrittenLaws.{same-entry, written-consistent}
 use Rattle.results.specs.declared.Move.{Move}
 use Rattle.results.specs.Results.{targetsAfter, entriesAfter, childrenAfter, linksAfter, freeRecord, holderAfter}
 use Rattle.results.specs.Edited.{edited-old, edited-new, edited-else}
@@ -32,7 +36,8 @@ use Rattle.results.specs.Links.{links-directory, links-other}
 use Rattle.results.specs.Records.{replaced-freed, moved-directory-says, moved-other-says, holder-says, replaced-says}
 use Rattle.afresh.specs.Recount.{Agrees, entries-agree, children-agree, Made, entries-made, children-made}
 use Rattle.outcome.specs.Outcome.{finished}
-use Rattle.outcome.specs.Called.{Called, before-good, replaced-is, is-replaced, replaced-present, replaced-below, text-is, in-image, entry-bytes, entry-names}
+use Rattle.outcome.specs.Called.{Called}
+use Rattle.outcome.specs.CalledLaws.{before-good, replaced-is, is-replaced, replaced-present, replaced-below, text-is, in-image, entry-bytes, entry-names}
 use Rattle.outcome.specs.PlanRows.{inode-long, links-small}
 use Rattle.outcome.specs.Finished.{finished-ok, new-written, old-cleared, moved-written, from-written, into-written, replaced-written, text-cleared, entry-kept, inode-kept, text-kept, handle-kept, journal-kept}
 

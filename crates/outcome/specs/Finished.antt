@@ -21,14 +21,16 @@ use Rattle.crash_theorem.specs.PickLaws.{any-left, any-right}
 use Rattle.crash_theorem.specs.Store.{Spares}
 use Rattle.crash_theorem.specs.StoreLaws.{all-ok, all-same, all-other}
 use Rattle.crash_theorem.specs.Plan.{afterOf, writes}
-use Rattle.image_store.specs.Image.{Ok, recordOf, record-is, images}
+use Rattle.image_store.specs.Image.{Ok, recordOf}
+use Rattle.image_store.specs.ImageLaws.{record-is, images}
 use Rattle.image_store.specs.Safe.{after-stored}
 use Rattle.results.specs.declared.Move.{Move}
 use Rattle.results.specs.Results.{when, freeRecord, movedAfter, holderAfter, replacedAfter, oldRow, movedRow, holderRow, replacedRow, textRow, intoRows, replacedRows, results}
 use Rattle.moves.specs.Plan.{newEntry, entryRow}
 use Rattle.outcome.specs.Outcome.{finished}
 use Rattle.outcome.specs.RenamePlan.{renamePlan}
-use Rattle.outcome.specs.Called.{Called, in-image}
+use Rattle.outcome.specs.Called.{Called}
+use Rattle.outcome.specs.CalledLaws.{in-image}
 use Rattle.outcome.specs.PlanRows.{results-are, section-spared, entry-spared, text-spared, inode-spared, well-formed}
 
 -- ---- which rows there are

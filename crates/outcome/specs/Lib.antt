@@ -1,6 +1,8 @@
 pub mod Outcome
 pub mod RenamePlan
+pub mod RenamePlanLaws
 pub mod Called
+pub mod CalledLaws
 pub mod Finished
 pub mod Applied
 pub mod Consistent

@@ -3,7 +3,7 @@ use mathlib.Core.Path.{_≡_, refl, sym, ap}
 use mathlib.Core.Logic.{_≢_}
 use mathlib.Core.Bool.{Bool, true, false, not}
 use mathlib.Core.List.{List, [], _∷_, _++_, append-assoc}
-use Prim.Native.Nat.{ℕ, _+_, _≤_, _<_}
+use Prim.Native.Nat.{ℕ, _≤_, _<_}
 use native.Mathlib.Omega.{arith}
 use lib.Dec.{eqb, lit<, lit≤}
 use lib.ListN.{length}
@@ -16,20 +16,23 @@ use Rattle.encode.specs.JournalLaws.{journal-length}
 use Rattle.layout.specs.Limits.{absent}
 use Rattle.edits.specs.Finished.{slots-differ, moved-not-from, moved-not-into}
 use Rattle.plan.specs.Write.{Write, inodeKey, entryKey, textKey}
-use Rattle.plan.specs.WriteLaws.{AllWrites, other-section, other-index}
+use Rattle.plan.specs.WriteLaws.{other-section, other-index}
+use Rattle.plan.specs.Filled.{AllWrites}
 use Rattle.crash_theorem.specs.Pick.{All}
 use Rattle.crash_theorem.specs.PickLaws.{all-join}
 use Rattle.crash_theorem.specs.Store.{Distinct, Spares}
 use Rattle.crash_theorem.specs.Plan.{WellFormed}
-use Rattle.image_store.specs.Image.{Fits, first-ok, images}
+use Rattle.image_store.specs.Image.{Fits}
+use Rattle.image_store.specs.ImageLaws.{first-ok, images}
 use Rattle.results.specs.declared.Move.{Move}
 use Rattle.results.specs.Results.{present, when, linksAfter, oldRow, movedRow, holderRow, replacedRow, textRow, intoRows, replacedRows, textRows, results}
 use Rattle.plan.specs.Form.{clearGroup, entryGroup}
 use Rattle.results.specs.Links.{links-le}
 use Rattle.results.specs.Owed.{results-write, clear-writes}
 use Rattle.moves.specs.Plan.{journalFor, journalRow, entryRow}
-use Rattle.outcome.specs.RenamePlan.{renamePlan}
-use Rattle.outcome.specs.Called.{Called, before-good, in-image, replaced-not-moved, replaced-not-from, replaced-not-into, entry-names, journal-zeros}
+use Rattle.outcome.specs.RenamePlan.{renamePlan, asked}
+use Rattle.outcome.specs.Called.{Called}
+use Rattle.outcome.specs.CalledLaws.{before-good, in-image, replaced-not-moved, replaced-not-from, replaced-not-into, entry-names, journal-zeros}
 
 -- rows that an operation may write fit
 writes-fit : (h : Shape) (ws : List Write) → AllWrites h ws → All (Fits h) ws
@@ -41,10 +44,6 @@ writes-fit h (w ∷ ws) a = (record { writes = a .0 }, writes-fit h ws (a .1))
 all-when : (P : Write → Type 0) (b : Bool) (w : Write) → (b ≡ true → P w) → All P (when b w)
 all-when P true w f = (f refl, tt)
 all-when P false w f = tt
-
--- the rows that there are only if the move asks for them
-abbrev pub asked : Shape → List ℕ → Move → List Write
-asked h s m = intoRows h s m ++ (replacedRows h s m ++ textRows h s m)
 
 pub results-are : (h : Shape) (s : List ℕ) (m : Move) → results h s m ≡ oldRow h s m ∷ movedRow h s m ∷ holderRow h s m (m .from) ∷ asked h s m
 unfolding results

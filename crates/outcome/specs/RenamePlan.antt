@@ -1,15 +1,13 @@
--- A rename's rows as a journaled plan, and that they are the job's. Assumes nothing.
-use mathlib.Core.Path.{_≡_, refl}
-use mathlib.Core.List.{List, []}
+-- A rename's rows as a journaled plan. Assumes nothing.
+use mathlib.Core.List.{List, [], _++_}
 use Prim.Native.Nat.{ℕ}
 use Rattle.layout.specs.declared.Shape.{Shape}
 use Rattle.crash_theorem.specs.Plan.{by-row, Plan}
-use Rattle.image_store.specs.Image.{images}
-use Rattle.image_store.specs.JobRows.{planOf}
-use Rattle.image_store.specs.Operation.{rowsIn}
+use Rattle.image_store.specs.ImageLaws.{images}
 use Rattle.results.specs.declared.Move.{Move}
-use Rattle.results.specs.Results.{results, clearRow}
-use Rattle.moves.specs.Plan.{journalRow, entryRow, renameRows, planned}
+use Rattle.results.specs.Results.{results, clearRow, intoRows, replacedRows, textRows}
+use Rattle.moves.specs.Plan.{journalRow, entryRow}
+use Rattle.plan.specs.Write.{Write}
 
 module _ (h : Shape) (s : List ℕ) (m : Move) (called : List ℕ) where
   -- the rows by what they do: the journal record is set, the new entry decides, the results follow, the journal record is cleared
@@ -22,11 +20,6 @@ module _ (h : Shape) (s : List ℕ) (m : Move) (called : List ℕ) where
     clear = clearRow h;
   }
 
-  -- the rows are those of the job, in its order, and so are the plan's bytes
-  pub rename-rows : rowsIn h s renamePlan ≡ renameRows h s m called
-  unfolding renameRows
-  rename-rows = refl
-
-  pub rename-planned : (plan : List ℕ) → planOf h plan (rowsIn h s renamePlan) ≡ planned h s m called plan
-  unfolding planOf renameRows planned
-  rename-planned plan = refl
+-- the rows that there are only if the move asks for them
+abbrev pub asked : Shape → List ℕ → Move → List Write
+asked h s m = intoRows h s m ++ (replacedRows h s m ++ textRows h s m)

@@ -8,3 +8,4 @@ pub mod LookupLaws
 pub mod PathLaws
 pub mod Plain
 pub mod WorkingPath
+pub mod WorkingPathLaws

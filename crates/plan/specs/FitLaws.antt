@@ -14,7 +14,8 @@ use Rattle.layout.specs.ContentsLaws.{Laid}
 use Rattle.layout.specs.Place.{Key, recordBytes, records, place, imageBytes}
 use Rattle.layout.specs.PlaceLaws.{Valid, inside}
 use Rattle.plan.specs.Form.{Row, planRows, bodyBytes, planBytes, bodyAt, rowGroup, rowBlank, rowLength, rowOffset, rowPosition, rowAt, rowPut, lastGroup}
-use Rattle.plan.specs.RowLaws.{RowFormed, Stands, row-stands}
+use Rattle.plan.specs.RowLaws.{row-stands}
+use Rattle.plan.specs.Stands.{RowFormed, Stands}
 use Rattle.plan.specs.Fit.{applicable, coverable, covers, coversRecord, coversSection, groupGood, rowFits, rowFor}
 
 -- The record that n bytes from at on are.

@@ -2,10 +2,13 @@ pub mod Form
 pub mod Jobs
 pub mod Many
 pub mod Unused
+pub mod UnusedLaws
 pub mod Copied
 pub mod Fit
 pub mod FitLaws
 pub mod Write
+pub mod Filled
 pub mod WriteLaws
 pub mod Bench
+pub mod Stands
 pub mod RowLaws

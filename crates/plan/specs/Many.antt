@@ -14,12 +14,8 @@ use Rattle.seq.specs.SearchLaws.{any-false, all-not, all-of, first-hit, first-n
 use Rattle.seq.specs.Bytes.{put, zeros}
 use Rattle.seq.specs.BytesLaws.{part-byte, put-length, put-inside, put-after}
 use Rattle.plan.specs.Form.{Row, planRows, headerBytes, bodyBytes, planBytes, headerAt, rowGroup, rowAt, rowPut, rowsPut, cleared, noRow, rowCount}
-use Rattle.plan.specs.RowLaws.{RowFormed, Stands, header, row-length, row-past, row-stands, header-other, stands-other}
-
--- every row of a list is such
-abbrev pub Each : (Row → Type 0) → List Row → Type 0
-Each P [] = Unit
-Each P (r ∷ rs) = P r × Each P rs
+use Rattle.plan.specs.RowLaws.{row-length, row-past, row-stands, header-other, stands-other}
+use Rattle.plan.specs.Stands.{RowFormed, Stands, header, Each}
 
 pub each-at : (P : Row → Type 0) (d : Row) (rs : List Row) → Each P rs → (k : ℕ) → k < length rs → P (getD rs k d)
 each-at P d [] e k l = absurd (not-suc-le-zero l)

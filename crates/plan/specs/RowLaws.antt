@@ -13,6 +13,7 @@ use Rattle.seq.specs.Number.{numberAt, bytesOf}
 use Rattle.seq.specs.NumberLaws.{number-part}
 use Rattle.layout.specs.RecordLaws.{Reads}
 use Rattle.plan.specs.Form.{Row, planRows, headerBytes, bodyBytes, planBytes, headerAt, bodyAt, rowGroup, rowBlank, rowLength, rowOffset, rowPosition, rowAt, headerOf, rowPut}
+use Rattle.plan.specs.Stands.{RowFormed, Fields, header, Stands}
 
 -- a body as the code takes it, `&plan[at..at + n]`
 pub reads-body : (plan : List ℕ) (i n : ℕ) → planBytes ≤ length plan → i < planRows → n ≤ bodyBytes → n ≡ rowLength plan i
@@ -22,23 +23,6 @@ reads-body plan i n long below small e =
     let same : take (bodyAt i + n - bodyAt i) (drop (bodyAt i) plan) ≡ part plan (bodyAt i) (rowLength plan i) =
     part-range plan (bodyAt i) n ∙ ap (λ (m : ℕ). part plan (bodyAt i) m) e in
     record { is = same; long = ap (λ (x : List ℕ). length x) same ∙ part-length plan (bodyAt i) (rowLength plan i) (omega arith) }
-
--- A row that a plan can hold.
-pub record RowFormed (r : Row) : Type 0 where
-  pub offset-small : r .offset < 65536
-  pub body-fits : r .bytes ≤ bodyBytes
-  pub whole : length (r .body) ≡ r .bytes
-
--- the fields of row i, from the eight bytes of its header
-pub record Fields (plan : List ℕ) (i : ℕ) (x : List ℕ) : Type 0 where
-  pub group : rowGroup plan i ≡ getD x 0 0
-  pub blank : rowBlank plan i ≡ getD x 1 0
-  pub length : rowLength plan i ≡ numberAt 2 x 2
-  pub offset : rowOffset plan i ≡ numberAt 2 x 4
-  pub position : rowPosition plan i ≡ numberAt 2 x 6
-
-abbrev pub header : List ℕ → ℕ → List ℕ
-header plan i = part plan (headerAt i) headerBytes
 
 pub fields : (plan : List ℕ) (i : ℕ) → Fields plan i (header plan i)
 fields plan i = record {
@@ -64,12 +48,6 @@ unfolding rowPut
 row-past plan i r below fits j past =
     put-after (r .body) (put plan (headerAt i) (headerOf i r)) (bodyAt i) j (omega arith)
     ∙ put-after (headerOf i r) plan (headerAt i) j (omega (arith, header-length i r))
-
--- Row r stands in place i of the plan, with its header in order.
-pub record Stands (plan : List ℕ) (i : ℕ) (r : Row) : Type 0 where
-  pub row : rowAt plan i ≡ r
-  pub blank : rowBlank plan i ≡ 0
-  pub position : rowPosition plan i ≡ bodyAt i
 
 -- a row is read back
 module _ (plan : List ℕ) (i : ℕ) (r : Row) (long : planBytes ≤ length plan) (below : i < planRows) where

@@ -9,8 +9,8 @@ use Rattle.layout.specs.declared.Shape.{Shape}
 use Rattle.layout.specs.Place.{Key, place}
 use Rattle.plan.specs.Form.{Row, rowOf, rowPut, rowsPut}
 use Rattle.plan.specs.Many.{rows-join}
-use Rattle.plan.specs.FitLaws.{Writes}
 use Rattle.plan.specs.Write.{Write, rowFrom, rowsFrom}
+use Rattle.plan.specs.Filled.{AllWrites, Filled}
 
 -- keys differ by their section, or by their index
 pub other-section : (j k : Key) → j .section ≢ k .section → j ≢ k
@@ -18,11 +18,6 @@ other-section j k n e = n (ap (λ (x : Key). x .section) e)
 
 pub other-index : (j k : Key) → j .index ≢ k .index → j ≢ k
 other-index j k n e = n (ap (λ (x : Key). x .index) e)
-
--- each is one that an operation may write (rule 84)
-abbrev pub AllWrites : Shape → List Write → Type 0
-AllWrites h [] = Unit {0}
-AllWrites h (w ∷ ws) = Writes h (w .group) (w .key) (w .body) × AllWrites h ws
 
 pub writes-join : (h : Shape) (us ws : List Write) → AllWrites h us → AllWrites h ws → AllWrites h (us ++ ws)
 writes-join h [] ws a b = b
@@ -35,17 +30,12 @@ module _ (h : Shape) where
       → b ≡ w .body → q ≡ rowPut p i (rowFrom h w)
   row-put w p i e begins whole = e ∙ ap₂ (λ (a : ℕ) (b : List ℕ). rowPut p i (rowOf (w .group) a b)) begins whole
 
-  -- Plan q is plan p with these writes as rows from place i on, and n is the next place.
-  pub record Filled (p : List ℕ) (i : ℕ) (ws : List Write) (q : List ℕ) (n : ℕ) : Type 0 where
-    pub plan : q ≡ rowsPut p i (rowsFrom h ws)
-    pub next : n ≡ i + length ws
-
   -- none, one, and some behind others
-  pub filled-none : (p : List ℕ) (i : ℕ) → Filled p i [] p i
+  pub filled-none : (p : List ℕ) (i : ℕ) → Filled h p i [] p i
   unfolding rowsPut
   filled-none p i = record { plan = refl; next = omega arith }
 
-  pub filled-one : (w : Write) {p q : List ℕ} {i : ℕ} → q ≡ rowPut p i (rowFrom h w) → Filled p i (w ∷ []) q (i + 1)
+  pub filled-one : (w : Write) {p q : List ℕ} {i : ℕ} → q ≡ rowPut p i (rowFrom h w) → Filled h p i (w ∷ []) q (i + 1)
   unfolding rowsPut
   filled-one w e = record { plan = e; next = refl }
 
@@ -55,7 +45,7 @@ module _ (h : Shape) where
       ap (λ (rs : List Row). rowsPut plan i rs) (map-append (rowFrom h) us ws) ∙ rows-join (rowsFrom h us) (rowsFrom h ws) plan i
       ∙ ap (λ (n : ℕ). rowsPut (rowsPut plan i (rowsFrom h us)) (i + n) (rowsFrom h ws)) (length-map us (rowFrom h))
 
-  pub filled-join : {p q r : List ℕ} {i j k : ℕ} {us ws : List Write} → Filled p i us q j → Filled q j ws r k → Filled p i (us ++ ws) r k
+  pub filled-join : {p q r : List ℕ} {i j k : ℕ} {us ws : List Write} → Filled h p i us q j → Filled h q j ws r k → Filled h p i (us ++ ws) r k
   filled-join {p} {q} {r} {i} {j} {k} {us} {ws} a b =
       let e : r ≡ rowsPut (rowsPut p i (rowsFrom h us)) (i + length us) (rowsFrom h ws) = b .plan ∙ rw (a .plan, a .next) in
       record { plan = e ∙ sym (rows-behind us ws p i); next = omega (arith, a .next, b .next, length-append us ws) }

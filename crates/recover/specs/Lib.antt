@@ -3,5 +3,7 @@ pub mod Job
 pub mod JobLaws
 pub mod Bounds
 pub mod Outcome
+pub mod OutcomeLaws
+pub mod Answers
 pub mod Outs
 pub mod Bench

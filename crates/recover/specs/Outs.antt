@@ -22,26 +22,18 @@ use Rattle.plan.specs.Form.{planRows, planBytes, rowsPut, cleared}
 use Rattle.plan.specs.Many.{rows-length}
 use Rattle.plan.specs.Copied.{rows-copied}
 use Rattle.plan.specs.Write.{Write, storeAll, rowsFrom}
-use Rattle.plan.specs.WriteLaws.{AllWrites, Filled}
+use Rattle.plan.specs.Filled.{AllWrites, Filled}
 use Rattle.recover.specs.declared.Answer.{Answer}
 use Rattle.drafts.specs.declared.draft.Draft.the-variants.{Unfit, Rows}
 use Rattle.drafts.specs.Draft.{draft}
 use Rattle.recover.specs.Recover.{ifConsistent, pendingRows}
-use Rattle.recover.specs.Job.{Recovered, answerOf, outcomeOf, refused, done, byRows, byJournal, recovered}
+use Rattle.recover.specs.Job.{Recovered, outcomeOf, refused, done, byRows, byJournal, recovered}
 use Rattle.recover.specs.Bounds.{draft-rows, recovered-few}
 use Rattle.drafts.specs.Drafted.{Drafted}
 use Rattle.drafts.specs.Fit.{draft-writes}
-use Rattle.recover.specs.Outcome.{appliedFrom, stored-length, rows-formed, rows-applied}
-
--- a refusal
-abbrev pub refusedBy : ℕ → Answer
-refusedBy n = record { number = n; rows = 0 }
-
--- The job answers so, and leaves these buffers.
-pub record RecoverAnswers (o : Recovered) (r : Answer) (plan scratch : List ℕ) : Type 0 where
-  pub is : r ≡ answerOf o
-  pub plan-is : plan ≡ o .plan
-  pub scratch-is : scratch ≡ o .scratch
+use Rattle.recover.specs.Outcome.{appliedFrom}
+use Rattle.recover.specs.OutcomeLaws.{stored-length, rows-formed, rows-applied}
+use Rattle.recover.specs.Answers.{refusedBy, RecoverAnswers, DraftReady}
 
 pub answers-as : {o p : Recovered} {r t : Answer} {plan scratch : List ℕ} → RecoverAnswers o r plan scratch → t ≡ r → o ≡ p → RecoverAnswers p t plan scratch
 answers-as {o} {p} {r} {t} {plan} {scratch} a e f = subst (λ (q : Recovered). RecoverAnswers q t plan scratch) f (record { is = e ∙ a .is; plan-is = a .plan-is; scratch-is = a .scratch-is })
@@ -53,11 +45,6 @@ answers-few plan scratch x a = subst (λ (r : Answer). r .rows ≤ planRows) (sy
 -- a refusal leaves both buffers as they were
 pub answers-refused : (plan scratch x : List ℕ) (n : ℕ) {o : Recovered} → o ≡ refused plan scratch x n → RecoverAnswers o (refusedBy n) plan scratch
 answers-refused plan scratch x n e = answers-as (record { is = refl; plan-is = refl; scratch-is = refl }) refl (sym e)
-
--- A draft of so many rows of an image is ready to be settled.
-pub record DraftReady (x : List ℕ) (h : Shape) (n : ℕ) (plan : List ℕ) : Type 0 where
-  pub read : Read x h
-  pub drafted : Drafted h (replicate planBytes 0) (draft h x) (Rows n) plan
 
 -- it is exactly a plan
 pub ready-exact : {x : List ℕ} {h : Shape} {n : ℕ} {d : List ℕ} → DraftReady x h n d → length d ≡ planBytes

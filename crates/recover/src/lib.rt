@@ -11,7 +11,7 @@ ghost use Rattle.layout.specs.ContentsLaws.{Read};
 ghost use Rattle.plan.specs.Form.{planBytes};
 ghost use Rattle.recover.specs.Recover.{pendingRows};
 ghost use Rattle.recover.specs.Job.{byRows, byJournal, recovered};
-ghost use Rattle.recover.specs.Outs.{refusedBy, DraftReady, RecoverAnswers};
+ghost use Rattle.recover.specs.Answers.{refusedBy, DraftReady, RecoverAnswers};
 
 pub mod outcome;
 

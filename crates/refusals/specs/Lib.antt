@@ -5,4 +5,6 @@ pub mod Kinds
 pub mod Steps
 pub mod KindLaws
 pub mod Decide
+pub mod DecideLaws
 pub mod Passed
+pub mod PassedLaws

@@ -26,7 +26,7 @@ use Rattle.rename.specs.declared.Renamed.{Renamed}
 use Rattle.moves.specs.Plan.{renameRows}
 use Rattle.rename.specs.Order.{view, early}
 use Rattle.rename.specs.Job.{answer, move, called, rowsBy, countBy, renamed}
-use Rattle.rename.specs.Outs.{RenameAnswers}
+use Rattle.rename.specs.Answers.{RenameAnswers}
 
 pub record Small (r : Renamed) : Type 0 where
   pub rows : r .rows ≤ planRows

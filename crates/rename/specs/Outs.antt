@@ -23,23 +23,15 @@ use Rattle.plan.specs.Form.{planBytes}
 use Rattle.refusals.specs.declared.case.Answer.{Answer}
 use Rattle.refusals.specs.declared.case.Answer.the-variants.{Refused, Planned}
 use Rattle.refusals.specs.Steps.{numberOf, decide, steps}
-use Rattle.refusals.specs.Decide.{decide-refused, decide-passed}
+use Rattle.refusals.specs.DecideLaws.{decide-refused, decide-passed}
 use Rattle.rename.specs.declared.Renamed.{Renamed}
 use Rattle.rename.specs.Order.{walks, caseOf, early, late, order}
 use Rattle.rename.specs.Job.{rowsBy, planBy, renamed, planAfter}
-
--- What the job answers, and the plan buffer after it.
-pub record RenameAnswers (s plan : List ℕ) (q : Request) (old new : List ℕ) (r : Renamed) (after : List ℕ) : Type 0 where
-  pub is : r ≡ renamed s plan q old new
-  pub buffer : after ≡ planAfter s plan q old new
+use Rattle.rename.specs.Answers.{RenameAnswers, refusedBy}
 
 pub answers-as : {s plan : List ℕ} {q : Request} {old new : List ℕ} {r t : Renamed} {after : List ℕ} → RenameAnswers s plan q old new r after → t ≡ r
     → RenameAnswers s plan q old new t after
 answers-as a e = record { is = e ∙ a .is; buffer = a .buffer }
-
--- a refusal before any walk
-abbrev pub refusedBy : ℕ → Renamed
-refusedBy n = record { number = n; rows = 0; old = 0; new = 0 }
 
 -- where new's walk is not refused, old's is not
 pub walked-old : (v : View) (q : Request) (old new : List ℕ) → walksOf v q old new .new .number ≡ 0 → walksOf v q old new .old .number ≡ 0

@@ -1,24 +1,21 @@
 -- From the code's walks to the job's answer: refused by a walk, or answered by what the steps make of the case. Assumes nothing.
 use mathlib.Core.Path.{_≡_, sym, ap, _∙_, subst}
 use mathlib.Core.Logic.{_≢_}
-use mathlib.Core.Bool.{true, false}
+use mathlib.Core.Bool.{false}
 use mathlib.Core.List.{List}
 use Prim.Native.Nat.{ℕ, _+_, _≤_}
 use lib.ListN.{length}
 use Rattle.layout.specs.declared.Shape.{Shape}
 use Rattle.layout.specs.Contents.{shapeOf}
-use Rattle.layout.specs.ContentsLaws.{Read}
 use Rattle.layout.specs.View.{View, viewOf}
 use Rattle.layout.specs.ViewLaws.{Readable}
-use Rattle.consistency.specs.Consistent.{recordsNumber}
 use Rattle.consistency.specs.ConsistentLaws.{check-read}
 use Rattle.consistency.specs.Facts.{checked-readable}
 use Rattle.paths.specs.declared.request.Request.{Request}
-use Rattle.paths.specs.Request.{requestGood}
 use Rattle.walk.specs.declared.both.Walks.{Walks}
 use Rattle.walk.specs.Answer.{endOf, BothAnswered}
 use Rattle.walk.specs.Both.{Ends, walksOf}
-use Rattle.plan.specs.Form.{planBytes, cleared}
+use Rattle.plan.specs.Form.{cleared}
 use Rattle.plan.specs.Write.{Write}
 use Rattle.refusals.specs.declared.case.Case.{Case}
 use Rattle.refusals.specs.declared.case.Answer.{Answer}
@@ -26,23 +23,14 @@ use Rattle.refusals.specs.declared.case.Answer.the-variants.{Refused, Same, Pla
 use Rattle.refusals.specs.Case.{noSlot}
 use Rattle.refusals.specs.CaseIn.{CaseIn}
 use Rattle.refusals.specs.Steps.{decide, steps}
-use Rattle.refusals.specs.Passed.{planned-passed}
+use Rattle.refusals.specs.PassedLaws.{planned-passed}
 use Rattle.results.specs.InImage.{InImage}
 use Rattle.rename.specs.declared.Renamed.{Renamed}
 use Rattle.moves.specs.Plan.{moveOf, renameRows, planned}
 use Rattle.rename.specs.Order.{nameOf, caseOf}
-use Rattle.rename.specs.Outs.{RenameAnswers, answers-as, walked-old, answers-walk, answers-steps}
+use Rattle.rename.specs.Outs.{answers-as, walked-old, answers-walk, answers-steps}
+use Rattle.rename.specs.Answers.{RenameAnswers, endsOf, Given}
 use Rattle.rename.specs.Known.{case-in, called-fits, move-in}
-
-abbrev pub endsOf : Walks → Ends
-endsOf w = record { old = endOf (w .old); new = endOf (w .new) }
-
--- What is known where the walks begin.
-pub record Given (s plan : List ℕ) (q : Request) (old new : List ℕ) (h : Shape) : Type 0 where
-  pub long : planBytes ≤ length plan
-  pub read : Read s h
-  pub fine : recordsNumber h s ≡ 0
-  pub good : requestGood (viewOf h s) q old new ≡ true
 
 module _ {s plan : List ℕ} {q : Request} {old new : List ℕ} {h : Shape} (given : Given s plan q old new h) where
   abbrev v : View

@@ -21,7 +21,7 @@ ghost use Rattle.plan.specs.Form.{planBytes};
 ghost use Rattle.results.specs.InImage.{InImage};
 ghost use Rattle.moves.specs.Plan.{moveOf, renameRows, planned};
 ghost use Rattle.rename.specs.Order.{nameOf};
-ghost use Rattle.rename.specs.Outs.{refusedBy, RenameAnswers};
+ghost use Rattle.rename.specs.Answers.{refusedBy, RenameAnswers};
 
 pub mod found;
 

@@ -30,9 +30,10 @@ use Rattle.crash_theorem.specs.PickLaws.{all-join}
 use Rattle.crash_theorem.specs.Store.{putAll}
 use Rattle.crash_theorem.specs.Change.{Change}
 use Rattle.crash_theorem.specs.Obligations.{OnTheWay}
-use Rattle.crash_theorem.specs.Plan.{Plan, WellFormed, Recovers, behindOf, change}
+use Rattle.crash_theorem.specs.Plan.{Plan, WellFormed, Recovers, behindOf}
 use Rattle.crash_theorem.specs.Planned.{clear-settles, behind-all, reached, decided-record, undecided-record}
-use Rattle.image_store.specs.Image.{Fits, recordOf, record-is, images, puts-store}
+use Rattle.image_store.specs.Image.{Fits, recordOf}
+use Rattle.image_store.specs.ImageLaws.{record-is, images, puts-store}
 use Rattle.results.specs.declared.Move.{Move}
 use Rattle.results.specs.Results.{holderAfter, results, clearRow}
 use Rattle.moves.specs.Plan.{journalFor, newEntry}
@@ -41,15 +42,13 @@ use Rattle.recover.specs.Recover.{ifConsistent, pendingRows, recover}
 use Rattle.drafts.specs.Fit.{move-undone, move-finished}
 use Rattle.outcome.specs.Outcome.{finished}
 use Rattle.outcome.specs.RenamePlan.{renamePlan}
-use Rattle.outcome.specs.Called.{Called, before-good, in-image, replaced-not-moved, replaced-not-from, replaced-not-into, entry-names}
+use Rattle.outcome.specs.Called.{Called}
+use Rattle.outcome.specs.CalledLaws.{before-good, in-image, replaced-not-moved, replaced-not-from, replaced-not-into, entry-names}
 use Rattle.outcome.specs.PlanRows.{results-fit, well-formed}
 use Rattle.outcome.specs.Finished.{finished-after, from-written, into-written}
 use Rattle.outcome.specs.Consistent.{before-consistent, finished-clear, finished-consistent}
 use Rattle.rename_survives.specs.Way.{Mixed, parent-typed, mixed-results}
-
--- a rename as the crash theorem sees it
-abbrev pub renameChange : (h : Shape) (s : List ℕ) → Move → List ℕ → Change (images h s)
-renameChange h s m called = change (images h s) (renamePlan h s m called) (recover h)
+use Rattle.rename_survives.specs.Run.{renameChange}
 
 below-or : (i n : ℕ) → (i ≢ absent → i < n) → belowOrAbsent i n ≡ true
 below-or i n f = go (ℕ-discrete i absent)

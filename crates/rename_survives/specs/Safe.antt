@@ -1,6 +1,6 @@
 -- The crash theorem for a rename, on bytes: its plan applied row by row, crashes anywhere, recovery's plans applied in turn. Assumes nothing.
 use mathlib.Core.Path.{_≡_, refl, sym, ap, _∙_}
-use mathlib.Core.Logic.{_≢_, _⊎_, inl, inr}
+use mathlib.Core.Logic.{_≢_, inl, inr}
 use mathlib.Core.Bool.{Bool, true, false, not}
 use mathlib.Core.List.{List}
 use mathlib.Core.Option.{some}
@@ -22,36 +22,37 @@ use Rattle.crash_theorem.specs.Events.{EventOf, State, decided}
 use Rattle.crash_theorem.specs.Obligations.{Obligations}
 use Rattle.crash_theorem.specs.Crash.{Safe}
 use Rattle.crash_theorem.specs.Plan.{Plan, WellFormed, Recovers}
-use Rattle.image_store.specs.Image.{Ok, recordOf, record-is, images}
-use Rattle.image_store.specs.Job.{jobs}
+use Rattle.image_store.specs.Image.{Ok, recordOf}
+use Rattle.image_store.specs.ImageLaws.{record-is, images}
+use Rattle.image_store.specs.JobLaws.{jobs}
 use Rattle.plan.specs.Jobs.{Job, jobsIn}
 use Rattle.image_store.specs.JobRows.{planOf}
-use Rattle.image_store.specs.Buffers.{Buffers, enough, enough-is, too-short}
-use Rattle.image_store.specs.Recovery.{RecoveryJob, Fills, AnswersRows}
-use Rattle.image_store.specs.Operation.{rowsIn, plannedChange, stateAfter}
+use Rattle.image_store.specs.Buffers.{Buffers, enough}
+use Rattle.image_store.specs.BuffersLaws.{enough-is, too-short}
+use Rattle.image_store.specs.Recovery.{Fills, AnswersRows}
+use Rattle.image_store.specs.Operation.{rowsIn}
 use Rattle.image_store.specs.Owed.{carries}
 use Rattle.image_store.specs.Safe.{planned-first, planned-owed, planned-safe, planned-zero, planned-recovers, planned-refuses, planned-decided, planned-undecided}
-use Rattle.edits.specs.Kinds.{EntryUsed}
 use Rattle.results.specs.declared.Move.{Move}
 use Rattle.moves.specs.Plan.{newEntry, planned as plannedBytes}
 use Rattle.recover.specs.Recover.{recover}
-use Rattle.recover.specs.Job.{Recovered, recovered}
+use Rattle.recover.specs.Job.{Recovered}
 use Rattle.recover.specs.JobLaws.{recovered-short, recovered-done}
 use Rattle.layout.specs.Errno.{shortBuffer}
 use Rattle.recover.specs.Bounds.{recover-few}
 use Rattle.outcome.specs.Outcome.{finished}
-use Rattle.outcome.specs.RenamePlan.{renamePlan, rename-planned}
-use Rattle.outcome.specs.Called.{Called, in-image, entry-names}
+use Rattle.outcome.specs.RenamePlan.{renamePlan}
+use Rattle.outcome.specs.RenamePlanLaws.{rename-planned}
+use Rattle.outcome.specs.Called.{Called}
+use Rattle.outcome.specs.CalledLaws.{in-image, entry-names}
 use Rattle.outcome.specs.PlanRows.{well-formed}
 use Rattle.outcome.specs.Finished.{finished-after}
 use Rattle.outcome.specs.Applied.{rows-few}
 use Rattle.outcome.specs.Consistent.{before-consistent, finished-consistent}
 use Rattle.rename_survives.specs.Recovers.{recovers}
+use Rattle.rename_survives.specs.Run.{recoveryJob, NamesKept, renameJobs, renameState}
 
 -- ---- the job recovery as the crash theorem calls it
-
-abbrev pub recoveryJob : RecoveryJob
-recoveryJob = record { number = λ b x. recovered (b .plan) (b .scratch) x .number; plan = λ b x. recovered (b .plan) (b .scratch) x .plan }
 
 -- it does what the rows by record say, and refuses buffers that are too short
 pub recovery-answers : (h : Shape) (s : List ℕ) → AnswersRows h s (recover h) recoveryJob
@@ -70,21 +71,6 @@ recovery-answers h s = record { fills = fills; refuses = refuses }
         omega arith
 
 -- ---- the theorem
-
--- What no crash takes away: the moved inode has a name, and where an inode is replaced its slot keeps parent and name, and targets it or the moved one.
-pub record NamesKept (h : Shape) (s x : List ℕ) (m : Move) : Type 0 where
-  pub name : (j : ℕ) × EntryUsed (viewOf h x) j × (viewOf h x .target j ≡ m .moved)
-  pub parent : EntryUsed (viewOf h s) (m .new) → viewOf h x .parent (m .new) ≡ viewOf h s .parent (m .new)
-  pub called : EntryUsed (viewOf h s) (m .new) → viewOf h x .name (m .new) ≡ viewOf h s .name (m .new)
-  pub target : EntryUsed (viewOf h s) (m .new) → (viewOf h x .target (m .new) ≡ viewOf h s .target (m .new)) ⊎ (viewOf h x .target (m .new) ≡ m .moved)
-
--- a rename whose plan fills `buffer`, and where it stands after events
-module _ (h : Shape) (s : List ℕ) (m : Move) (called buffer : List ℕ) where
-  abbrev pub renameJobs : Change (jobs h s)
-  renameJobs = plannedChange h s (renamePlan h s m called) buffer recoveryJob
-
-  abbrev pub renameState : List (EventOf (jobs h s)) → State (List ℕ) Job
-  renameState es = stateAfter h s (renamePlan h s m called) buffer recoveryJob es
 
 module _ {h : Shape} {s : List ℕ} {m : Move} {called : List ℕ} (c : Called h s m called) (buffer : List ℕ) (long : planBytes ≤ length buffer) where
   abbrev p : Plan (images h s)

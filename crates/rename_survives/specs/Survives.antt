@@ -1,31 +1,27 @@
--- A rename and whatever befalls it: one claim over every list of events, in the words of the crash theorem. What a reader has to believe is demand 3, which
--- says it again in the jobs' own. Assumes nothing.
-use mathlib.Core.Path.{_≡_, ap, _∙_}
+-- A rename and whatever befalls it: what holds after every list of events, in the words of the crash theorem. What a reader has to believe is demand 3,
+-- which says it again in the jobs' own. Assumes nothing.
+use mathlib.Core.Path.{_≡_}
 use mathlib.Core.Logic.{_⊎_, _↔_}
 use mathlib.Core.Bool.{true, false}
 use mathlib.Core.List.{List}
-use Prim.Native.Nat.{ℕ, _≤_}
+use Prim.Native.Nat.{ℕ}
 use lib.Dec.{T}
-use lib.ListN.{length}
 use Rattle.layout.specs.declared.Shape.{Shape}
 use Rattle.consistency.specs.Consistent.{checkNumber}
-use Rattle.consistency.specs.ConsistentLaws.{consistent-checked}
-use Rattle.plan.specs.Form.{planBytes}
 use Rattle.apply.specs.Apply.{applyNumber}
 use Rattle.crash_theorem.specs.Pick.{All, Empty, Has}
 use Rattle.crash_theorem.specs.Turn.{Turn}
-use Rattle.crash_theorem.specs.Change.{Change, plan, goal}
+use Rattle.crash_theorem.specs.Change.{Change, plan}
 use Rattle.crash_theorem.specs.Events.{EventOf, crash, State, step, decided}
 use Rattle.crash_theorem.specs.Finish.{Finishes}
-use Rattle.image_store.specs.Job.{jobs}
+use Rattle.image_store.specs.JobLaws.{jobs}
 use Rattle.plan.specs.Jobs.{Job, jobsIn}
 use Rattle.image_store.specs.Buffers.{Buffers, enough}
 use Rattle.results.specs.declared.Move.{Move}
 use Rattle.moves.specs.Plan.{planned}
 use Rattle.recover.specs.Job.{recovered}
 use Rattle.outcome.specs.Outcome.{finished}
-use Rattle.outcome.specs.Called.{Called}
-use Rattle.rename_survives.specs.Safe.{NamesKept, renameJobs, renameState, rename-first, rename-safe, rename-goal, rename-outcome, rename-zero, rename-recovers, rename-kept}
+use Rattle.rename_survives.specs.Run.{NamesKept, renameJobs, renameState}
 
 -- the move m on the image s, planned into the buffer
 module _ (h : Shape) (s : List ℕ) (m : Move) (called buffer : List ℕ) where
@@ -58,21 +54,3 @@ module _ (h : Shape) (s : List ℕ) (m : Move) (called buffer : List ℕ) where
     pub entry : T (decided rename (state es)) ↔ Has (state es .applied) (rename .decide)
     -- the moved inode has a name, and an entry that was there under the new name stays there, for the replaced inode or for the moved one
     pub names : NamesKept h s (state es .img) m
-
--- The claim.
-pub rename-survives : {h : Shape} {s : List ℕ} {m : Move} {called : List ℕ} → Called h s m called → (buffer : List ℕ) → planBytes ≤ length buffer
-    → (es : List (EventOf (jobs h s))) → Survives h s m called buffer es
-rename-survives {h} {s} {m} {called} c buffer long es =
-    let safe = rename-safe c buffer long es in
-    record {
-      first = rename-first c buffer long;
-      recovers = rename-recovers c buffer long es;
-      can-finish = safe .can-finish;
-      applies = rename-zero c buffer long es;
-      turn = safe .progress;
-      undone = λ d e. safe .outcome d ∙ ap (goal (rename h s m called buffer)) e;
-      done = λ d e. safe .outcome d ∙ ap (goal (rename h s m called buffer)) e ∙ rename-goal c buffer long;
-      checked = λ d. consistent-checked (state h s m called buffer es .img) (rename-outcome c buffer long es d);
-      entry = safe .decision;
-      names = rename-kept c buffer long es;
-    }

@@ -13,12 +13,14 @@ use Rattle.layout.specs.Fields.{inodeKind}
 use Rattle.layout.specs.View.{viewOf, inodeAt, entryAt}
 use Rattle.plan.specs.Write.{inodeKey, entryKey, journalKey}
 use Rattle.plan.specs.WriteLaws.{other-section}
-use Rattle.image_store.specs.Image.{recordOf, record-is}
+use Rattle.image_store.specs.Image.{recordOf}
+use Rattle.image_store.specs.ImageLaws.{record-is}
 use Rattle.results.specs.declared.Move.{Move}
 use Rattle.results.specs.Results.{holderAfter, results}
 use Rattle.results.specs.Again.{holder-kind}
 use Rattle.outcome.specs.Outcome.{finished}
-use Rattle.outcome.specs.Called.{Called, in-image}
+use Rattle.outcome.specs.Called.{Called}
+use Rattle.outcome.specs.CalledLaws.{in-image}
 use Rattle.outcome.specs.Finished.{moved-written, from-written, into-written, replaced-written, entry-kept}
 use Rattle.afresh.specs.Afresh.{PartWay, results-same}
 use Rattle.outcome.specs.Consistent.{finished-agrees}

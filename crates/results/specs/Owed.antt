@@ -14,7 +14,8 @@ use Rattle.layout.specs.View.{inodeAt}
 use Rattle.layout.specs.Limits.{absent}
 use Rattle.plan.specs.FitLaws.{Writes}
 use Rattle.plan.specs.Write.{Write, inodeKey, entryKey, textKey, journalKey}
-use Rattle.plan.specs.WriteLaws.{AllWrites, writes-join}
+use Rattle.plan.specs.WriteLaws.{writes-join}
+use Rattle.plan.specs.Filled.{AllWrites}
 use Rattle.results.specs.declared.Move.{Move}
 use Rattle.results.specs.Results.{present, freeRecord, movedAfter, holderAfter, replacedAfter, when, holderRow, replacedRow, textRow, intoRows, replacedRows, textRows, results}
 use Rattle.results.specs.InImage.{InImage}

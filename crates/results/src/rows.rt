@@ -11,7 +11,7 @@ ghost use lib.ListN.{length};
 ghost use Rattle.layout.specs.ContentsLaws.{Laid};
 ghost use Rattle.plan.specs.Form.{planRows, planBytes, rowPut};
 ghost use Rattle.plan.specs.Write.{rowFrom};
-ghost use Rattle.plan.specs.WriteLaws.{Filled};
+ghost use Rattle.plan.specs.Filled.{Filled};
 ghost use Rattle.results.specs.Results.{movedRow, holderRow, alwaysRows, intoRows, replacedRows, results, clearRow};
 ghost use Rattle.results.specs.InImage.{InImage};
 

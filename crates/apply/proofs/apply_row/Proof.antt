@@ -8,7 +8,7 @@ use Rattle.seq.specs.Truth.{fails, holds}
 use Rattle.plan.specs.Form.{bodyBytes, rowLength, rowOffset}
 use Rattle.plan.specs.Fit.{applicable}
 use Rattle.plan.specs.FitLaws.{Applicable, applicable-is, applicable-fits}
-use Rattle.apply.specs.Find.{laid-bounded}
+use Rattle.apply.specs.FindLaws.{laid-bounded}
 use Rattle.apply.specs.ApplyLaws.{row-copied}
 use borrow.Author.Needs.{needs}
 use Rattle.apply.proofs.apply_row.Statement.{statement}

@@ -2,7 +2,7 @@
 use mathlib.Core.Path.{sym, _∙_}
 use borrow.Author.Needs.{needs}
 use Rattle.seq.specs.Truth.{fails, holds}
-use Rattle.consistency.specs.Checked.{out-root, out-inodes, out-entries, out-names, out-texts, out-handles}
+use Rattle.consistency.specs.CheckedLaws.{out-root, out-inodes, out-entries, out-names, out-texts, out-handles}
 use Rattle.consistency.specs.EntryFits.{entries-named}
 use Rattle.consistency.proofs.bodies_good.Statement.{statement}
 use Rattle.consistency.proofs.bodies_good.Tie as tie

@@ -1,5 +1,6 @@
 -- `rename::walked` meets its contract: a walk refuses, or the steps answer. Assumes nothing.
-use Rattle.rename.specs.Walked.{Given, image-readable, refused-walk, walked-case, steps-refuse, steps-same, planned-move, planned-name, steps-plan}
+use Rattle.rename.specs.Walked.{image-readable, refused-walk, walked-case, steps-refuse, steps-same, planned-move, planned-name, steps-plan}
+use Rattle.rename.specs.Answers.{Given}
 use borrow.Author.Needs.{needs}
 use Rattle.rename.proofs.walked.Statement.{statement}
 use Rattle.rename.proofs.walked.Tie as tie

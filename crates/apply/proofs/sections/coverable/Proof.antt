@@ -1,6 +1,6 @@
 -- `apply::sections::coverable` meets its contract. Assumes nothing.
 use mathlib.Core.Path.{sym}
-use Rattle.apply.specs.Find.{coverable-else}
+use Rattle.apply.specs.FindLaws.{coverable-else}
 use borrow.Author.Needs.{needs}
 use Rattle.apply.proofs.sections.coverable.Statement.{statement}
 use Rattle.apply.proofs.sections.coverable.Tie as tie

@@ -6,7 +6,7 @@ use Rattle.seq.specs.SearchLaws.{any-none, any-turn, any-found, any-out}
 use Rattle.layout.specs.Place.{base}
 use Rattle.plan.specs.Fit.{coversSection, covers}
 use Rattle.plan.specs.FitLaws.{record-some}
-use Rattle.apply.specs.Find.{section-is, section-next, section-room}
+use Rattle.apply.specs.FindLaws.{section-is, section-next, section-room}
 use mathlib.Core.Path.{_≡_, _∙_}
 use Prim.Native.Nat.{_≤_, _-_}
 use native.Mathlib.Omega.{arith}

@@ -1,6 +1,6 @@
 -- `apply::sections::one_of` meets its contract. Assumes nothing.
 use mathlib.Core.Path.{sym}
-use Rattle.apply.specs.Find.{one-size, one-before, one-between, one-index}
+use Rattle.apply.specs.FindLaws.{one-size, one-before, one-between, one-index}
 use borrow.Author.Needs.{needs}
 use Rattle.apply.proofs.sections.one_of.Statement.{statement}
 use Rattle.apply.proofs.sections.one_of.Tie as tie

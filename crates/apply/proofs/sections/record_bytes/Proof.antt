@@ -1,7 +1,7 @@
 -- `apply::sections::record_bytes` meets its contract. Assumes nothing.
 use mathlib.Core.Path.{sym}
 use native.Mathlib.Omega.{arith}
-use Rattle.apply.specs.Find.{bytes-last}
+use Rattle.apply.specs.FindLaws.{bytes-last}
 use borrow.Author.Needs.{needs}
 use Rattle.apply.proofs.sections.record_bytes.Statement.{statement}
 use Rattle.apply.proofs.sections.record_bytes.Tie as tie

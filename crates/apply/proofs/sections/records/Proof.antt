@@ -1,7 +1,7 @@
 -- `apply::sections::records` meets its contract. Assumes nothing.
 use mathlib.Core.Path.{sym}
 use native.Mathlib.Omega.{arith}
-use Rattle.apply.specs.Find.{records-last}
+use Rattle.apply.specs.FindLaws.{records-last}
 use borrow.Author.Needs.{needs}
 use Rattle.apply.proofs.sections.records.Statement.{statement}
 use Rattle.apply.proofs.sections.records.Tie as tie

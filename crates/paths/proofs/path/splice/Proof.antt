@@ -4,7 +4,7 @@ use native.Mathlib.Omega.{arith}
 use lib.ListN.{length}
 use borrow.Author.Needs.{needs}
 use Rattle.seq.specs.Bytes.{put}
-use Rattle.paths.specs.WorkingPath.{twice}
+use Rattle.paths.specs.WorkingPathLaws.{twice}
 use Rattle.paths.specs.WorkingPath.{workingPath}
 use Rattle.paths.proofs.path.splice.Statement.{statement}
 use Rattle.paths.proofs.path.splice.Tie as tie

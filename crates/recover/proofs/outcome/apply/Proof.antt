@@ -5,7 +5,8 @@ use mathlib.Core.List.{List}
 use Prim.Native.Nat.{ℕ, _+_, _-_, _≤_}
 use lib.ListN.{length}
 use borrow.Author.Needs.{needs}
-use Rattle.recover.specs.Outcome.{appliedFrom, applied-first, applied-turn, applied-end}
+use Rattle.recover.specs.Outcome.{appliedFrom}
+use Rattle.recover.specs.OutcomeLaws.{applied-first, applied-turn, applied-end}
 use Rattle.recover.proofs.outcome.apply.Statement.{statement}
 use Rattle.recover.proofs.outcome.apply.Tie as tie
 

@@ -1,0 +1,91 @@
+-- What the first rule that holds decides, for a list of rules taken in parts. Assumes nothing.
+use mathlib.Core.Path.{_≡_, refl, _∙_}
+use mathlib.Core.Bool.{Bool, true, false, not, cond}
+use mathlib.Core.List.{List, [], _∷_, _++_}
+use Prim.Native.Nat.{ℕ}
+use lib.Dec.{eqb}
+use borrow.Author.Tests.{eqb-false, not-true, eq-eqb, ne-eqb}
+use Rattle.seq.specs.Truth.{and-left, and-right, by-test}
+use Rattle.layout.specs.View.{View}
+use Rattle.refusals.specs.declared.case.Case.{Case}
+use Rattle.refusals.specs.Case.{sameFile}
+use Rattle.refusals.specs.declared.case.Answer.{Answer}
+use Rattle.refusals.specs.declared.case.Answer.the-variants.{Refused, Same, Planned}
+use Rattle.refusals.specs.Steps.{Rule, numberOf, decide, parentRules, kindRules, targetRules, steps}
+use Rattle.refusals.specs.Decide.{numbers, refusing}
+
+-- one rule
+pub decide-here : (r : Rule) (rs : List Rule) → r .test ≡ true → decide (r ∷ rs) ≡ r .answer
+decide-here r rs e = rw e
+
+pub decide-on : (r : Rule) (rs : List Rule) → r .test ≡ false → decide (r ∷ rs) ≡ decide rs
+decide-on r rs e = rw e
+
+-- the number decided is a rule's, or 0
+pub decide-number : (p : ℕ → Bool) (rs : List Rule) → p 0 ≡ true → numbers p rs ≡ true → p (numberOf (decide rs)) ≡ true
+decide-number p [] none each = none
+decide-number p (r ∷ rs) none each =
+    by-test (λ a. p (numberOf a) ≡ true) (r .test) (r .answer) (decide rs) (λ e. and-left _ (numbers p rs) each)
+    (λ e. decide-number p rs none (and-right (p (numberOf (r .answer))) _ each))
+
+-- an answer with a number is a refusal by it
+numbered : (a : Answer) → (numberOf a ≡ 0 → ⊥) → a ≡ Refused (numberOf a)
+numbered (Refused n) some = refl
+numbered Same some = absurd (some refl)
+numbered Planned some = absurd (some refl)
+
+-- A list whose rules refuse decides by its number: a refusal ends the order, and 0 leaves it to the rules behind.
+module _ (ys : List Rule) where
+  pub decide-refused : (xs : List Rule) → (numberOf (decide xs) ≡ 0 → ⊥) → decide (xs ++ ys) ≡ Refused (numberOf (decide xs))
+  decide-refused [] some = absurd (some refl)
+  decide-refused (r ∷ rs) some = go (decide-refused rs) (r .test) some
+    where
+      go : ((numberOf (decide rs) ≡ 0 → ⊥) → decide (rs ++ ys) ≡ Refused (numberOf (decide rs)))
+          → (b : Bool) → (numberOf (cond b (r .answer) (decide rs)) ≡ 0 → ⊥)
+          → cond b (r .answer) (decide (rs ++ ys)) ≡ Refused (numberOf (cond b (r .answer) (decide rs)))
+      go rest true some = numbered (r .answer) some
+      go rest false some = rest some
+
+  pub decide-passed : (xs : List Rule) → refusing xs ≡ true → numberOf (decide xs) ≡ 0 → decide (xs ++ ys) ≡ decide ys
+  decide-passed [] each none = refl
+  decide-passed (r ∷ rs) each none = go (decide-passed rs (and-right (not (eqb (numberOf (r .answer)) 0)) _ each)) (r .test) none
+    where
+      go : (numberOf (decide rs) ≡ 0 → decide (rs ++ ys) ≡ decide ys)
+          → (b : Bool) → numberOf (cond b (r .answer) (decide rs)) ≡ 0 → cond b (r .answer) (decide (rs ++ ys)) ≡ decide ys
+      go rest true none = absurd (eqb-false _ _ (not-true (eqb (numberOf (r .answer)) 0) (and-left _ (refusing rs) each)) none)
+      go rest false none = rest none
+
+-- the ways out of the order of refusal, by the numbers of its parts
+module _ (v : View) (c : Case) where
+  abbrev first : Rule
+  first = record { test = sameFile c; answer = Same }
+
+  abbrev rest : List Rule
+  rest = parentRules v c ++ (kindRules v c ++ targetRules v c)
+
+  pub steps-same : c .moved ≡ c .replaced → decide (steps v c) ≡ Same
+  steps-same e = decide-here first rest (eq-eqb _ _ e)
+
+  module _ (other : c .moved ≡ c .replaced → ⊥) where
+    past-first : decide (steps v c) ≡ decide rest
+    past-first = decide-on first rest (ne-eqb _ _ other)
+
+    pub steps-parents : (numberOf (decide (parentRules v c)) ≡ 0 → ⊥) → decide (steps v c) ≡ Refused (numberOf (decide (parentRules v c)))
+    steps-parents some = past-first ∙ decide-refused (kindRules v c ++ targetRules v c) (parentRules v c) some
+
+    module _ (parents : numberOf (decide (parentRules v c)) ≡ 0) where
+      past-parents : decide (steps v c) ≡ decide (kindRules v c ++ targetRules v c)
+      past-parents = past-first ∙ decide-passed (kindRules v c ++ targetRules v c) (parentRules v c) refl parents
+
+      pub steps-kinds : (numberOf (decide (kindRules v c)) ≡ 0 → ⊥) → decide (steps v c) ≡ Refused (numberOf (decide (kindRules v c)))
+      steps-kinds some = past-parents ∙ decide-refused (targetRules v c) (kindRules v c) some
+
+      module _ (kinds : numberOf (decide (kindRules v c)) ≡ 0) where
+        past-kinds : decide (steps v c) ≡ decide (targetRules v c)
+        past-kinds = past-parents ∙ decide-passed (targetRules v c) (kindRules v c) refl kinds
+
+        pub steps-target : (numberOf (decide (targetRules v c)) ≡ 0 → ⊥) → decide (steps v c) ≡ Refused (numberOf (decide (targetRules v c)))
+        steps-target some = past-kinds ∙ decide-refused [] (targetRules v c) some
+
+        pub steps-planned : numberOf (decide (targetRules v c)) ≡ 0 → decide (steps v c) ≡ Planned
+        steps-planned none = past-kinds ∙ decide-passed [] (targetRules v c) refl none
