@@ -5,8 +5,8 @@ use Prim.Native.Nat.{ℕ}
 use Rattle.layout.specs.declared.Shape.{Shape}
 use Rattle.layout.specs.Record.{store}
 use Rattle.layout.specs.View.{viewOf}
-use Rattle.plan.specs.Write.{entryKey}
 use Rattle.edits.specs.Kinds.{EntryUsed}
+use Rattle.plan.specs.Write.{entryKey}
 use Rattle.results.specs.declared.Move.{Move}
 use Rattle.results.specs.Results.{freeRecord}
 

@@ -8,19 +8,19 @@ use lib.Dec.{lit<}
 use lib.ListN.{length-replicate, getD-replicate}
 use Rattle.layout.specs.declared.Shape.{Shape}
 use Rattle.layout.specs.Place.{Key}
-use Rattle.layout.specs.PlaceLaws.{Valid}
-use Rattle.layout.specs.ContentsLaws.{Laid}
+use Rattle.layout.specs.Facts.{Valid, Laid}
 use Rattle.layout.specs.Record.{recordAt}
 use Rattle.layout.specs.RecordLaws.{store-same, store-other}
 use Rattle.layout.specs.Fields.{inodeKind, entryParent, entryTarget, entryNameLength}
 use Rattle.layout.specs.View.{viewOf, entryAt}
 use Rattle.tree.specs.Tree.{entriesOf, childDirectories}
+use Rattle.edits.specs.WrittenLaws.{same-entry}
 use Rattle.plan.specs.Write.{inodeKey, entryKey}
 use Rattle.plan.specs.WriteLaws.{other-section, other-index}
-use Rattle.edits.specs.WrittenLaws.{same-entry}
 use Rattle.results.specs.declared.Move.{Move}
 use Rattle.results.specs.Results.{freeRecord, entriesAfter, childrenAfter}
-use Rattle.afresh.specs.Recount.{Agrees, Made, entries-agree, children-agree, entries-made, children-made}
+use Rattle.afresh.specs.Recount.{Agrees, Made}
+use Rattle.afresh.specs.RecountLaws.{entries-agree, children-agree, entries-made, children-made}
 use Rattle.afresh.specs.Cleared.{oldCleared, EntryStands}
 
 module _ (h : Shape) (x : List ℕ) (m : Move) (laid : Laid h x) (below : m .old < h .entries) (differ : m .old ≢ m .new) (stands : EntryStands h x m) where

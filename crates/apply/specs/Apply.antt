@@ -5,8 +5,8 @@ use Prim.Native.Nat.{ℕ}
 use lib.Dec.{eqb, ltb}
 use lib.ListN.{length}
 use Rattle.seq.specs.Bytes.{put}
-use Rattle.layout.specs.Errno.{shortBuffer, inconsistent, badRow}
 use Rattle.layout.specs.declared.Shape.{Shape}
+use Rattle.layout.specs.Errno.{shortBuffer, inconsistent, badRow}
 use Rattle.layout.specs.Contents.{layoutGood, shapeOf}
 use Rattle.plan.specs.Form.{Row, planBytes, rowAt}
 use Rattle.plan.specs.Fit.{applicable}

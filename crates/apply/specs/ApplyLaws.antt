@@ -7,10 +7,10 @@ use lib.Dec.{eqb}
 use lib.ListN.{length}
 use borrow.Author.Tests.{lt-ltb, le-ltb}
 use Rattle.seq.specs.Bytes.{put}
-use Rattle.layout.specs.Errno.{shortBuffer, inconsistent, badRow}
 use Rattle.layout.specs.declared.Shape.{Shape}
+use Rattle.layout.specs.Errno.{shortBuffer, inconsistent, badRow}
+use Rattle.layout.specs.Facts.{Read}
 use Rattle.layout.specs.Contents.{layoutGood, shapeOf}
-use Rattle.layout.specs.ContentsLaws.{Read}
 use Rattle.plan.specs.Form.{planBytes, rowOffset, rowAt}
 use Rattle.plan.specs.Fit.{applicable}
 use Rattle.apply.specs.Apply.{applied, appliedImage, applyNumber, rowNumber}

@@ -11,8 +11,9 @@ use borrow.Author.Tests.{eq-eqb, eqb-true, lt-ltb, ltb-true}
 use Rattle.seq.specs.Truth.{refuted, and-left, and-right, and-both, same-truth}
 use Rattle.seq.specs.SearchLaws.{any-hit, any-at}
 use Rattle.layout.specs.declared.Shape.{Shape}
-use Rattle.layout.specs.ContentsLaws.{Laid}
+use Rattle.layout.specs.Limits.{widestEntry, entryLimit}
 use Rattle.layout.specs.Place.{recordBytes, records, base, imageBytes}
+use Rattle.layout.specs.Facts.{Laid}
 use Rattle.plan.specs.Fit.{coverable, coversSection}
 use Rattle.apply.specs.Find.{oneOf, Bounded}
 
@@ -55,7 +56,7 @@ module _ (start width count at n : ℕ) where
 
 laid-image : (h : Shape) (s : List ℕ) → Laid h s → imageBytes h ≤ 131072
 laid-image h s l =
-    let p : h .width * h .entries ≤ 48 * 1024 = mul-le-mul (l .width-most) (l .entries-most) in
+    let p : h .width * h .entries ≤ widestEntry * entryLimit = mul-le-mul (l .width-most) (l .entries-most) in
     omega (arith, l .inodes-most, l .texts-most, l .handles-most)
 
 pub laid-bounded : (h : Shape) (s : List ℕ) → Laid h s → Bounded h

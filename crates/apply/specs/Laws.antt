@@ -10,19 +10,20 @@ use lib.ListN.{length}
 use borrow.Author.Tests.{eq-eqb, eqb-true, eqb-false, ne-eqb, le-ltb, ltb-false}
 use Rattle.seq.specs.BytesLaws.{part-length}
 use Rattle.layout.specs.declared.Shape.{Shape}
+use Rattle.layout.specs.Errno.{shortBuffer, inconsistent, badRow}
 use Rattle.layout.specs.Place.{Key, recordBytes, place}
-use Rattle.layout.specs.PlaceLaws.{Valid}
+use Rattle.layout.specs.Facts.{Valid}
 use Rattle.layout.specs.Contents.{layoutGood, shapeOf}
 use Rattle.layout.specs.ContentsLaws.{good-laid}
 use Rattle.layout.specs.Record.{recordAt, store}
 use Rattle.layout.specs.RecordLaws.{store-length, store-same, store-other}
 use Rattle.layout.specs.Commute.{store-shape, store-layout, store-swap}
 use Rattle.plan.specs.Form.{Row, planRows, planBytes, bodyAt, rowLength, rowOffset, rowAt}
-use Rattle.plan.specs.Stands.{Stands}
 use Rattle.plan.specs.Fit.{applicable, rowFor}
-use Rattle.plan.specs.FitLaws.{Covered, Writes, applicable-is, is-applicable, applicable-fits, stands-applicable, written-fits}
+use Rattle.plan.specs.FitFacts.{Covered, Writes}
+use Rattle.plan.specs.FitLaws.{applicable-is, is-applicable, applicable-fits, stands-applicable, written-fits}
+use Rattle.plan.specs.Stands.{Stands}
 use Rattle.apply.specs.Apply.{applyNumber, applied, appliedImage}
-use Rattle.layout.specs.Errno.{shortBuffer, inconsistent, badRow}
 use Rattle.apply.specs.OneRow.{Applies, appliedKey, appliedBody}
 
 pub applies-zero : (image plan : List ℕ) (i : ℕ) → Applies image plan i → applyNumber image plan i ≡ 0

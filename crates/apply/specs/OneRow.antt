@@ -4,12 +4,12 @@ use mathlib.Core.Bool.{true, cond}
 use mathlib.Core.List.{List}
 use Prim.Native.Nat.{ℕ, _≤_}
 use lib.ListN.{length}
+use Rattle.layout.specs.declared.Shape.{Shape}
 use Rattle.layout.specs.Place.{Key}
 use Rattle.layout.specs.Contents.{layoutGood, shapeOf}
 use Rattle.plan.specs.Form.{planBytes, rowAt}
-use Rattle.plan.specs.FitLaws.{Applicable}
-use Rattle.layout.specs.declared.Shape.{Shape}
 use Rattle.plan.specs.Fit.{applicable}
+use Rattle.plan.specs.FitFacts.{Applicable}
 use Rattle.apply.specs.Apply.{applied}
 
 -- What it takes for the job to answer 0.

@@ -5,7 +5,7 @@ use layout::errno;
 ghost use mathlib.Core.Path.{_≡_};
 ghost use Prim.Native.Nat.{_<_, _≤_};
 ghost use lib.ListN.{length};
-ghost use Rattle.layout.specs.ContentsLaws.{Laid};
+ghost use Rattle.layout.specs.Facts.{Laid};
 ghost use Rattle.plan.specs.Form.{planBytes, planRows, rowAt};
 ghost use Rattle.plan.specs.Fit.{rowFits, applicable};
 ghost use Rattle.apply.specs.Find.{Bounded};

@@ -7,7 +7,7 @@ use Rattle.paths.specs.declared.request.Credentials.{Credentials}
 use Rattle.paths.specs.Path.{empty, isDot, isDotDot}
 use Rattle.component.specs.declared.state.Final.{Final}
 use Rattle.component.specs.declared.state.Final.the-variants.{MustExist, MayBeMissing}
-use Rattle.component.specs.Step.{Position, nameAt, unread, isFinal, symlinksSpent, inDirectory, overlong, slotAt, targetAt, atDirectory, joinedOverlong, searchDenied, step}
+use Rattle.component.specs.Step.{Position, nameAt, unread, isFinal, symlinksSpent, inDirectory, overlong, slotAt, targetAt, atDirectory, joinedOverlong, searchDenied, walkStep}
 use Rattle.component.specs.Decisions.{decision}
 
 -- a test, whichever way it falls
@@ -17,39 +17,39 @@ either false yes-b no-b = no-b refl
 
 module _ (v : View) (who : Credentials) (last : Final) (w : Position) where
   abbrev Decides : Type 0
-  Decides = step v who last w ≡ decision v who last w
+  Decides = walkStep v who last w ≡ decision v who last w
 
   module _ (place : inDirectory v w ≡ true) (may : searchDenied v who w ≡ false) (short : overlong v w ≡ false) where
     dot : isDot (nameAt w) ≡ true → Decides
-    unfolding step
+    unfolding walkStep
     dot a = either (isFinal w) (λ f. rw (place, may, short, a, f)) (λ f. rw (place, may, short, a, f))
 
     dot-dot : isDot (nameAt w) ≡ false → isDotDot (nameAt w) ≡ true → Decides
-    unfolding step
+    unfolding walkStep
     dot-dot a b = either (isFinal w) (λ f. rw (place, may, short, a, b, f)) (λ f. rw (place, may, short, a, b, f))
 
     module _ (a : isDot (nameAt w) ≡ false) (b : isDotDot (nameAt w) ≡ false) where
       -- a symlink ahead of others
       symlink : isFinal w ≡ false → ltb (slotAt v w) (v .entries) ≡ true → isSymlink v (targetAt v w) ≡ true → Decides
-      unfolding step
+      unfolding walkStep
       symlink f g k =
           either (symlinksSpent w) (λ m. rw (place, may, short, a, b, f, g, k, m)) (λ m.
           either (joinedOverlong v w) (λ l. rw (place, may, short, a, b, f, g, k, m, l)) (λ l. rw (place, may, short, a, b, f, g, k, m, l)))
 
       ahead : isFinal w ≡ false → Decides
-      unfolding step
+      unfolding walkStep
       ahead f =
           either (ltb (slotAt v w) (v .entries)) (λ g.
           either (isSymlink v (targetAt v w)) (λ k. symlink f g k) (λ k. rw (place, may, short, a, b, f, g, k))) (λ g. rw (place, may, short, a, b, f, g))
 
       -- the final name
       lacked : (l : Final) → last ≡ l → isFinal w ≡ true → ltb (slotAt v w) (v .entries) ≡ false → Decides
-      unfolding step
+      unfolding walkStep
       lacked MustExist e f g = rw (place, may, short, a, b, f, g, e)
       lacked MayBeMissing e f g = rw (place, may, short, a, b, f, g, e)
 
       held : isFinal w ≡ true → ltb (slotAt v w) (v .entries) ≡ true → Decides
-      unfolding step
+      unfolding walkStep
       held f g =
           either (empty (unread w)) (λ z. rw (place, may, short, a, b, f, g, z)) (λ z.
           either (atDirectory v w) (λ d. rw (place, may, short, a, b, f, g, z, d)) (λ d. rw (place, may, short, a, b, f, g, z, d)))
@@ -60,7 +60,7 @@ module _ (v : View) (who : Credentials) (last : Final) (w : Position) where
           either (ltb (slotAt v w) (v .entries)) (λ g. held f g) (λ g. lacked last refl f g)) (λ f. ahead f)
 
   pub step-decides : Decides
-  unfolding step
+  unfolding walkStep
   step-decides =
       either (inDirectory v w) (λ place.
       either (searchDenied v who w) (λ d. rw (place, d)) (λ may.

@@ -4,16 +4,16 @@ use mathlib.Core.List.{List}
 use Prim.Native.Nat.{ℕ, _+_}
 use lib.Dec.{ltb, leb}
 use lib.ListN.{length}
+use Rattle.layout.specs.Limits.{symlinkLimit, pathLimit}
 use Rattle.layout.specs.Errno.{EACCES, EINVAL, ELOOP, ENAMETOOLONG, ENOENT, ENOTDIR}
 use Rattle.layout.specs.View.{View, isDirectory, isSymlink}
 use Rattle.paths.specs.declared.request.Credentials.{Credentials}
-use Rattle.paths.specs.Permission.{searchBit, allows}
 use Rattle.paths.specs.Path.{component, behind, empty, bare, isDot, isDotDot}
+use Rattle.paths.specs.Permission.{searchBit, allows}
 use Rattle.paths.specs.Lookup.{lookup}
 use Rattle.component.specs.declared.state.Final.{Final}
 use Rattle.component.specs.declared.state.Final.the-variants.{MustExist, MayBeMissing}
-use Rattle.component.specs.Step.{Position, existing, missing, Step, refusedBy, names, move, splice}
-use Rattle.layout.specs.Limits.{symlinkLimit, pathLimit}
+use Rattle.component.specs.Step.{Position, existing, missing, Step, refusedBy, names, goTo, splice}
 
 -- rules 56 and 57: one symlink too many, and then a joined path that is too long
 abbrev pub follow : Position → List ℕ → List ℕ → Step
@@ -33,7 +33,7 @@ miss last w name rest = cond (not (bare rest)) (refusedBy ENOENT w) (lack last w
 module _ (v : View) where
   -- a name ahead of others: a symlink is followed, anything else is gone into
   abbrev pub enter : Position → List ℕ → ℕ → Step
-  enter w rest i = cond (isSymlink v i) (follow w (v .text (v .field i)) rest) (move w rest i)
+  enter w rest i = cond (isSymlink v i) (follow w (v .text (v .field i)) rest) (goTo w rest i)
 
   -- rules 58 and 60: the final name exists; a slash behind it asks for a directory, and a symlink is not followed
   abbrev pub arrive : Position → List ℕ → ℕ → Step
@@ -53,7 +53,7 @@ module _ (v : View) where
   -- rule 53: a final dot or dot-dot is refused; else the one stays and the other goes up
   abbrev pub dots : Position → List ℕ → List ℕ → Step
   dots w name rest =
-      cond (bare rest) (refusedBy EINVAL w) (move w rest (cond (isDot name) (w .directory) (v .field (w .directory))))
+      cond (bare rest) (refusedBy EINVAL w) (goTo w rest (cond (isDot name) (w .directory) (v .field (w .directory))))
 
   -- rule 52: a component that is longer than any name
   abbrev pub read : Final → Position → List ℕ → List ℕ → Step

@@ -10,14 +10,14 @@ use lib.ListN.{length, length-append}
 use borrow.Author.Tests.{eq-eqb, ne-eqb, lt-ltb, le-ltb}
 use Rattle.seq.specs.Bytes.{part}
 use Rattle.seq.specs.BytesLaws.{part-length}
+use Rattle.layout.specs.Limits.{pathLimit}
 use Rattle.paths.specs.Path.{empty, bare, absolute}
 use Rattle.paths.specs.PathLaws.{bare-append}
 use Rattle.paths.specs.WorkingPath.{workingPath}
 use Rattle.paths.specs.WorkingPathLaws.{filled-length, filled-part}
-use Rattle.component.specs.declared.state.Walk.{Walk}
 use Rattle.component.specs.declared.state.Leave.the-variants.{Goes}
+use Rattle.component.specs.declared.state.Walk.{Walk}
 use Rattle.component.specs.Step.{splice}
-use Rattle.layout.specs.Limits.{pathLimit}
 use Rattle.component.specs.State.{restFrom, positionOf, Turned, ReadUpTo}
 
 -- how much is left to read from index e on

@@ -5,16 +5,16 @@ use mathlib.Core.List.{List}
 use Prim.Native.Nat.{ℕ, _-_, _≤_, _<_}
 use lib.ListN.{length}
 use Rattle.seq.specs.Bytes.{part}
-use Rattle.component.specs.declared.state.Walk.{Walk}
+use Rattle.layout.specs.Limits.{pathLimit, stepLimit, pathBytes}
+use Rattle.paths.specs.Path.{bare}
+use Rattle.paths.specs.WorkingPath.{workingPath}
 use Rattle.component.specs.declared.state.Found.{Found}
 use Rattle.component.specs.declared.state.Found.the-variants.{Existing, Missing, Nothing}
 use Rattle.component.specs.declared.state.Leave.{Leave}
 use Rattle.component.specs.declared.state.Leave.the-variants.{Goes, Refuses, Finds}
 use Rattle.component.specs.declared.state.Turn.{Turn}
-use Rattle.paths.specs.Path.{bare}
-use Rattle.paths.specs.WorkingPath.{workingPath}
+use Rattle.component.specs.declared.state.Walk.{Walk}
 use Rattle.component.specs.Step.{Position, Finding, existing, missing, nothing, Step, goes, ends}
-use Rattle.layout.specs.Limits.{pathLimit, stepLimit, pathBytes}
 
 -- the unread rest from index e on
 abbrev pub restFrom : Walk → ℕ → List ℕ

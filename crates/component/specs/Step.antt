@@ -5,15 +5,15 @@ use mathlib.Core.List.{List, [], _∷_, _++_}
 use Prim.Native.Nat.{ℕ, _+_}
 use lib.Dec.{ltb, leb}
 use lib.ListN.{length}
+use Rattle.layout.specs.Limits.{symlinkLimit, pathLimit}
 use Rattle.layout.specs.Errno.{EACCES, EINVAL, ELOOP, ENAMETOOLONG, ENOENT, ENOTDIR}
 use Rattle.layout.specs.View.{View, isDirectory, isSymlink}
 use Rattle.paths.specs.declared.request.Credentials.{Credentials}
-use Rattle.paths.specs.Permission.{searchBit, allows}
 use Rattle.paths.specs.Path.{component, behind, empty, bare, absolute, isDot, isDotDot}
+use Rattle.paths.specs.Permission.{searchBit, allows}
 use Rattle.paths.specs.Lookup.{lookup}
 use Rattle.component.specs.declared.state.Final.{Final}
 use Rattle.component.specs.declared.state.Final.the-variants.{MustExist, MayBeMissing}
-use Rattle.layout.specs.Limits.{symlinkLimit, pathLimit}
 
 -- Where a walk stands: the rest of the path that is still unread, the directory it is read from, the symlinks followed, the component
 -- checks begun, and whether the next component's search permission is waived (rule 51).
@@ -50,8 +50,8 @@ refusedBy n w = ends (record { number = n; steps = w .steps + 1; found = nothing
 abbrev pub names : Position → Finding → Step
 names w found = ends (record { number = 0; steps = w .steps + 1; found = found })
 
-abbrev pub move : Position → List ℕ → ℕ → Step
-move w rest d = goes (record { rest = rest; directory = d; links = w .links; steps = w .steps + 1; waived = false })
+abbrev pub goTo : Position → List ℕ → ℕ → Step
+goTo w rest d = goes (record { rest = rest; directory = d; links = w .links; steps = w .steps + 1; waived = false })
 
 -- rule 55: a symlink's text and the unread rest take the path's place, read from the directory that holds the symlink, or from the root
 abbrev pub splice : Position → List ℕ → List ℕ → Step
@@ -101,12 +101,12 @@ module _ (v : View) where
   abbrev pub innerSymlink : Position → Bool
   innerSymlink w = not (isFinal w) && isSymlink v (targetAt w)
 
-  abbrev pub symlinkText : Position → List ℕ
-  symlinkText w = v .text (v .field (targetAt w))
+  abbrev pub spliceText : Position → List ℕ
+  spliceText w = v .text (v .field (targetAt w))
 
   -- rule 57: its text and the unread rest are longer together than a path may be
   abbrev pub joinedOverlong : Position → Bool
-  joinedOverlong w = ltb pathLimit (length (symlinkText w) + length (unread w))
+  joinedOverlong w = ltb pathLimit (length (spliceText w) + length (unread w))
 
 -- rule 56: as many symlinks have been followed as a path may lead through
 abbrev pub symlinksSpent : Position → Bool
@@ -133,8 +133,8 @@ abbrev pub _otherwise_ : List Guarded → Step → Step
 (g ∷ gs) otherwise x = cond (g .test) (g .leaves) (gs otherwise x)
 
 module _ (v : View) (who : Credentials) (last : Final) where
-  unfoldable pub step : Position → Step
-  step w =
+  unfoldable pub walkStep : Position → Step
+  walkStep w =
       -- rule 50: what the component is to be read in is not a directory
       not (inDirectory v w) ⇒ refusedBy ENOTDIR w
       -- rule 51: search permission is denied
@@ -143,16 +143,16 @@ module _ (v : View) (who : Credentials) (last : Final) where
       ∷ overlong v w ⇒ refusedBy ENAMETOOLONG w
       -- rule 53: a final dot or dot-dot is refused; elsewhere the one stays and the other goes to the parent
       ∷ (isFinal w && (isDot (nameAt w) || isDotDot (nameAt w))) ⇒ refusedBy EINVAL w
-      ∷ isDot (nameAt w) ⇒ move w (unread w) (w .directory)
-      ∷ isDotDot (nameAt w) ⇒ move w (unread w) (v .field (w .directory))
+      ∷ isDot (nameAt w) ⇒ goTo w (unread w) (w .directory)
+      ∷ isDotDot (nameAt w) ⇒ goTo w (unread w) (v .field (w .directory))
       -- rule 54: a name that is missing and not final
       ∷ (isMissing v w && not (isFinal w)) ⇒ refusedBy ENOENT w
       -- rules 56, 57 and 55: a symlink that is not final is one too many, or joins to too long a path, or is replaced by its text
       ∷ (innerSymlink v w && symlinksSpent w) ⇒ refusedBy ELOOP w
       ∷ (innerSymlink v w && joinedOverlong v w) ⇒ refusedBy ENAMETOOLONG w
-      ∷ innerSymlink v w ⇒ splice w (symlinkText v w) (unread w)
+      ∷ innerSymlink v w ⇒ splice w (spliceText v w) (unread w)
       -- any other name that is not final is gone into: rule 50 asks of the next component whether it is a directory
-      ∷ not (isFinal w) ⇒ move w (unread w) (targetAt v w)
+      ∷ not (isFinal w) ⇒ goTo w (unread w) (targetAt v w)
       -- rule 59: a final name that is missing is refused where it must exist; else it is what the path names
       ∷ (isMissing v w && mustExist last) ⇒ refusedBy ENOENT w
       ∷ isMissing v w ⇒ names w (missing (w .directory) (nameAt w) (slashBehind w))

@@ -8,17 +8,17 @@ use lib.ListN.{length, take, drop}
 use borrow.Author.Tests.{lt-ltb, le-ltb, lt-leb, le-leb}
 use Rattle.seq.specs.Bytes.{part}
 use Rattle.seq.specs.BytesLaws.{part-take, part-drop}
+use Rattle.layout.specs.Limits.{symlinkLimit, pathLimit}
 use Rattle.layout.specs.Errno.{EACCES, EINVAL, ELOOP, ENAMETOOLONG, ENOENT, ENOTDIR}
 use Rattle.layout.specs.View.{View, isSymlink, isDirectory}
 use Rattle.paths.specs.declared.request.Credentials.{Credentials}
-use Rattle.paths.specs.Permission.{searchBit, allows}
 use Rattle.paths.specs.Path.{slashes, untilSlash, skip, component, behind, empty, bare, isDot, isDotDot}
+use Rattle.paths.specs.Permission.{searchBit, allows}
 use Rattle.paths.specs.Lookup.{lookup}
-use Rattle.component.specs.declared.state.Turn.{Turn}
 use Rattle.component.specs.declared.state.Final.{Final}
 use Rattle.component.specs.declared.state.Final.the-variants.{MustExist, MayBeMissing}
-use Rattle.component.specs.Step.{Position, existing, missing, refusedBy, names, move, splice, step}
-use Rattle.layout.specs.Limits.{symlinkLimit, pathLimit}
+use Rattle.component.specs.declared.state.Turn.{Turn}
+use Rattle.component.specs.Step.{Position, existing, missing, refusedBy, names, goTo, splice, walkStep}
 use Rattle.component.specs.Decisions.{follow, lack, miss, enter, arrive, hit, seek, dots, read, inside, decision}
 use Rattle.component.specs.DecisionLaws.{step-decides}
 use Rattle.component.specs.State.{Turned}
@@ -54,7 +54,7 @@ module _ (v : View) (r : Turn) (w : Position) (rest : List ℕ) where
   pub enters-link : (text : List ℕ) (i : ℕ) → isSymlink v i ≡ true → text ≡ v .text (v .field i) → Turned r (follow w text rest) → Turned r (enter v w rest i)
   enters-link text i k e turned = rw (k, ← e) turned
 
-  pub enters-other : (i : ℕ) → isSymlink v i ≡ false → Turned r (move w rest i) → Turned r (enter v w rest i)
+  pub enters-other : (i : ℕ) → isSymlink v i ≡ false → Turned r (goTo w rest i) → Turned r (enter v w rest i)
   enters-other i k turned = rw k turned
 
   pub arrives-plain : (j i : ℕ) → i ≡ v .target j → empty rest ≡ true → Turned r (names w (existing (w .directory) j i false)) → Turned r (arrive v w rest j)
@@ -77,10 +77,10 @@ module _ (v : View) (r : Turn) (w : Position) (name rest : List ℕ) where
   pub dots-last : bare rest ≡ true → Turned r (refusedBy EINVAL w) → Turned r (dots v w name rest)
   dots-last b turned = rw b turned
 
-  pub dots-stay : bare rest ≡ false → isDot name ≡ true → Turned r (move w rest (w .directory)) → Turned r (dots v w name rest)
+  pub dots-stay : bare rest ≡ false → isDot name ≡ true → Turned r (goTo w rest (w .directory)) → Turned r (dots v w name rest)
   dots-stay b d turned = rw (b, d) turned
 
-  pub dots-up : (up : ℕ) → bare rest ≡ false → isDot name ≡ false → up ≡ v .field (w .directory) → Turned r (move w rest up) → Turned r (dots v w name rest)
+  pub dots-up : (up : ℕ) → bare rest ≡ false → isDot name ≡ false → up ≡ v .field (w .directory) → Turned r (goTo w rest up) → Turned r (dots v w name rest)
   dots-up up b d e turned = rw (b, d, ← e) turned
 
 module _ (v : View) (r : Turn) (w : Position) (last : Final) (name rest : List ℕ) where
@@ -109,13 +109,13 @@ module _ (v : View) (who : Credentials) (last : Final) (r : Turn) (w : Position)
   inside-reads name rest a e f turned = rw (a, ← e, ← f) turned
 
   -- what answers the decisions answers the list of tests
-  decided : Turned r (decision v who last w) → Turned r (step v who last w)
+  decided : Turned r (decision v who last w) → Turned r (walkStep v who last w)
   decided turned = subst (Turned r) (sym (step-decides v who last w)) turned
 
-  pub steps-nowhere : isDirectory v (w .directory) ≡ false → Turned r (refusedBy ENOTDIR w) → Turned r (step v who last w)
+  pub steps-nowhere : isDirectory v (w .directory) ≡ false → Turned r (refusedBy ENOTDIR w) → Turned r (walkStep v who last w)
   steps-nowhere d turned = decided (rw d turned)
 
-  pub steps-inside : isDirectory v (w .directory) ≡ true → Turned r (inside v who last w) → Turned r (step v who last w)
+  pub steps-inside : isDirectory v (w .directory) ≡ true → Turned r (inside v who last w) → Turned r (walkStep v who last w)
   steps-inside d turned = decided (rw d turned)
 
 -- a component and what stands behind it, as ranges of a working path

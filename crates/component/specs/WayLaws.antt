@@ -7,16 +7,16 @@ use lib.Dec.{ltb, leb}
 use lib.ListN.{length}
 use borrow.Author.Tests.{ltb-true, ltb-false, leb-false, not-true, not-false}
 use Rattle.seq.specs.Truth.{by-test}
+use Rattle.layout.specs.Limits.{symlinkLimit, pathLimit}
 use Rattle.layout.specs.Errno.{EACCES, EINVAL, ELOOP, ENAMETOOLONG, ENOENT, ENOTDIR}
 use Rattle.layout.specs.View.{View, isDirectory, isSymlink}
 use Rattle.paths.specs.declared.request.Credentials.{Credentials}
-use Rattle.paths.specs.Permission.{searchBit, allows}
 use Rattle.paths.specs.Path.{component, behind, empty, bare, isDot, isDotDot}
+use Rattle.paths.specs.Permission.{searchBit, allows}
 use Rattle.paths.specs.Lookup.{lookup}
 use Rattle.component.specs.declared.state.Final.{Final}
 use Rattle.component.specs.declared.state.Final.the-variants.{MustExist, MayBeMissing}
-use Rattle.component.specs.Step.{Position, refusedBy, step}
-use Rattle.layout.specs.Limits.{symlinkLimit, pathLimit}
+use Rattle.component.specs.Step.{Position, refusedBy, walkStep}
 use Rattle.component.specs.Decisions.{follow, lack, enter, arrive, hit, seek, dots, read, decision}
 use Rattle.component.specs.DecisionLaws.{step-decides}
 use Rattle.component.specs.Ways.{componentNumber, Way, refuses, moves, follows, exists, lacks}
@@ -83,5 +83,5 @@ module _ (v : View) (who : Credentials) (last : Final) (w : Position) where
       by-test (Way v last w) (not (w .waived || allows v who (w .directory) searchBit)) _ _ (λ e. way-refuse EACCES refl) (λ e.
       way-read (not-false (isDirectory v (w .directory)) place)))
 
-  pub step-way : Way v last w (step v who last w)
+  pub step-way : Way v last w (walkStep v who last w)
   step-way = subst (Way v last w) (sym (step-decides v who last w)) way-decision

@@ -4,14 +4,14 @@ use mathlib.Core.Bool.{Bool, true, false, _||_}
 use Prim.Native.Nat.{ℕ, _+_, _≤_, _<_}
 use lib.Dec.{eqb}
 use lib.ListN.{length}
+use Rattle.layout.specs.Limits.{symlinkLimit, pathLimit}
 use Rattle.layout.specs.Errno.{EACCES, EINVAL, ELOOP, ENAMETOOLONG, ENOENT, ENOTDIR}
 use Rattle.layout.specs.View.{View, isDirectory, isSymlink}
 use Rattle.paths.specs.Path.{component, behind, bare, isDot, isDotDot}
 use Rattle.paths.specs.Lookup.{lookup}
 use Rattle.component.specs.declared.state.Final.{Final}
 use Rattle.component.specs.declared.state.Final.the-variants.{MayBeMissing}
-use Rattle.component.specs.Step.{Position, Step, existing, missing, refusedBy, names, move, splice}
-use Rattle.layout.specs.Limits.{symlinkLimit, pathLimit}
+use Rattle.component.specs.Step.{Position, Step, existing, missing, refusedBy, names, goTo, splice}
 
 -- the numbers that a component is refused by
 abbrev pub componentNumber : ℕ → Bool
@@ -20,7 +20,7 @@ componentNumber n = eqb n ENOENT || eqb n EACCES || eqb n ENOTDIR || eqb n EINVA
 -- How the component that stands first at w leaves the walk by x.
 pub data Way (v : View) (last : Final) (w : Position) (x : Step) : Type 0 where
   refuses : (n : ℕ) → componentNumber n ≡ true → x ≡ refusedBy n w → Way v last w x
-  moves : (d : ℕ) → bare (behind (w .rest)) ≡ false → x ≡ move w (behind (w .rest)) d → Way v last w x
+  moves : (d : ℕ) → bare (behind (w .rest)) ≡ false → x ≡ goTo w (behind (w .rest)) d → Way v last w x
   follows : (i : ℕ) → isSymlink v i ≡ true → bare (behind (w .rest)) ≡ false → w .links < symlinkLimit
       → length (v .text (v .field i)) + length (behind (w .rest)) ≤ pathLimit
       → x ≡ splice w (v .text (v .field i)) (behind (w .rest)) → Way v last w x

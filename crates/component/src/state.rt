@@ -5,7 +5,7 @@ ghost use mathlib.Core.Bool.{false};
 ghost use Prim.Native.Nat.{_+_, _≤_, _<_};
 ghost use lib.ListN.{length};
 ghost use Rattle.paths.specs.Path.{bare};
-ghost use Rattle.component.specs.Step.{existing, missing, refusedBy, names, move};
+ghost use Rattle.component.specs.Step.{existing, missing, refusedBy, names, goTo};
 ghost use Rattle.layout.specs.Limits.{stepLimit};
 ghost use Rattle.component.specs.State.{positionOf, nameIn, restFrom, ReadUpTo, Turned};
 
@@ -112,7 +112,7 @@ pub fn lacks(w: Walk, a: usize, e: usize, slash: bool) -> Turn
 // The walk goes on behind index e, in this directory.
 pub fn advance(w: Walk, e: usize, directory: usize) -> Turn
     requires { ⌜ ReadUpTo w e × (bare (restFrom w e) ≡ false) ⌝ }
-    ensures { λ r. ⌜ Turned r (move (positionOf w) (restFrom w e) directory) ⌝ }
+    ensures { λ r. ⌜ Turned r (goTo (positionOf w) (restFrom w e) directory) ⌝ }
 {
     let mut next = w;
     next.at = e;

@@ -8,16 +8,17 @@ use layout::Shape;
 use layout::errno;
 use layout::limits;
 use paths::path;
+use paths::permission;
 use paths::request::Credentials;
 ghost use mathlib.Core.Path.{_≡_};
 ghost use mathlib.Core.Bool.{false, true, _||_};
 ghost use Prim.Native.Nat.{_+_, _-_, _≤_, _<_};
 ghost use lib.ListN.{length};
 ghost use Rattle.layout.specs.View.{viewOf, entryUsed, isDirectory};
-ghost use Rattle.layout.specs.ViewLaws.{Readable};
+ghost use Rattle.layout.specs.Facts.{Readable};
 ghost use Rattle.paths.specs.Permission.{allows, searchBit};
 ghost use Rattle.paths.specs.Path.{bare};
-ghost use Rattle.component.specs.Step.{splice, step};
+ghost use Rattle.component.specs.Step.{splice, walkStep};
 ghost use Rattle.layout.specs.Limits.{symlinkLimit, pathLimit, stepLimit};
 ghost use Rattle.component.specs.Decisions.{follow, enter, arrive, hit, lack, miss, seek, dots, read, inside};
 ghost use Rattle.component.specs.State.{positionOf, nameIn, restFrom, ReadUpTo, Fit, Turned};
@@ -189,7 +190,7 @@ fn may_search(image: &[u8], h: Shape, who: Credentials, w: Walk) -> bool
     if w.waived {
         return true;
     }
-    paths::permission::allows(image, h, who, w.directory, 1)
+    permission::allows(image, h, who, w.directory, permission::SEARCH_BIT)
 }
 
 // The next component, in a directory.
@@ -211,7 +212,7 @@ fn inside(image: &[u8], h: Shape, who: Credentials, last: Final, w: Walk) -> Tur
 // The next component: it is read in a directory, or refused by any other type number.
 pub fn step(image: &[u8], h: Shape, who: Credentials, last: Final, w: Walk) -> Turn
     requires { ⌜ Readable h (now image) × Fit w × (w .steps < stepLimit) ⌝ }
-    ensures { λ r. ⌜ Turned r (step (viewOf h (now (image .entry))) who last (positionOf w)) ⌝ }
+    ensures { λ r. ⌜ Turned r (walkStep (viewOf h (now (image .entry))) who last (positionOf w)) ⌝ }
 {
     let kind = layout::lookup::kind(image, h, w.directory);
     match kind {

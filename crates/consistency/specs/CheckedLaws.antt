@@ -4,8 +4,8 @@ use mathlib.Core.Bool.{Bool, true, false, _&&_, and-false}
 use mathlib.Core.List.{List, [], _∷_}
 use Prim.Native.Nat.{ℕ, _<_}
 use borrow.Author.Tests.{not-true}
-use Rattle.seq.specs.Truth.{and-left, and-right}
 use Rattle.seq.specs.Search.{all, allPass}
+use Rattle.seq.specs.Truth.{and-left, and-right}
 use Rattle.seq.specs.SearchLaws.{any-not, any-false, all-at, all-of}
 use Rattle.layout.specs.declared.Shape.{Shape}
 use Rattle.layout.specs.Contents.{shapeOf, layoutGood}
@@ -13,12 +13,13 @@ use Rattle.layout.specs.View.{viewOf, isDirectory}
 use Rattle.names.specs.Name.{clash}
 use Rattle.names.specs.NameTests.{hasDuplicate}
 use Rattle.tree.specs.Inode.{inodeGood}
-use Rattle.tree.specs.InodeFacts.{inode-is, is-inode}
+use Rattle.tree.specs.InodeFactLaws.{inode-is, is-inode}
 use Rattle.consistency.specs.Entry.{entryGood}
 use Rattle.consistency.specs.Others.{textGood, handleGood}
 use Rattle.consistency.specs.Sound.{journalClear, bodiesGood, soundRules}
-use Rattle.consistency.specs.RecordFacts.{entry-is, is-entry, text-is, is-text, handle-is, is-handle, Bodies}
 use Rattle.consistency.specs.Consistent.{consistent}
+use Rattle.consistency.specs.RecordFacts.{Bodies}
+use Rattle.consistency.specs.RecordFactLaws.{entry-is, is-entry, text-is, is-text, handle-is, is-handle}
 use Rattle.consistency.specs.SoundFacts.{bodies-is, is-bodies}
 use Rattle.consistency.specs.Checked.{bodiesChecked}
 

@@ -5,12 +5,11 @@ use mathlib.Core.List.{List}
 use Prim.Native.Nat.{ℕ}
 use native.Mathlib.Omega.{arith}
 use Rattle.seq.specs.Truth.{and-left, and-right}
-use Rattle.layout.specs.Errno.{inconsistent, journalPending}
 use Rattle.layout.specs.declared.Shape.{Shape}
+use Rattle.layout.specs.Errno.{inconsistent, journalPending}
+use Rattle.layout.specs.Facts.{Read}
 use Rattle.layout.specs.Contents.{layoutGood, shapeOf}
-use Rattle.layout.specs.ContentsLaws.{Read}
-use Rattle.consistency.specs.Sound.{journalClear}
-unfoldable pub use Rattle.consistency.specs.Sound.{bodiesGood}
+use Rattle.consistency.specs.Sound.{journalClear, bodiesGood}
 use Rattle.consistency.specs.Consistent.{checkNumber, consistent, recordsNumber}
 
 -- the ways out of the job check

@@ -4,8 +4,8 @@ use mathlib.Core.List.{List}
 use Prim.Native.Nat.{ℕ, _+_, _-_}
 use lib.Dec.{eqb, leb}
 use Rattle.seq.specs.Bytes.{zeros}
-use Rattle.layout.specs.Limits.{nameOffset}
 use Rattle.layout.specs.declared.Shape.{Shape}
+use Rattle.layout.specs.Limits.{nameOffset}
 use Rattle.layout.specs.View.{View, viewOf, nameRoom, entryAt, isDirectory, isUsed}
 use Rattle.names.specs.NameTests.{nameGood}
 

@@ -2,16 +2,16 @@
 use mathlib.Core.Path.{_≡_, refl}
 use mathlib.Core.Bool.{Bool, true, false, _&&_, cond}
 use mathlib.Core.List.{List}
-use Prim.Native.Nat.{ℕ, _+_, _-_, _≤_}
+use Prim.Native.Nat.{ℕ, _+_, _≤_}
 use native.Mathlib.Omega.{arith}
-use borrow.Author.Tests.{leb-true, eqb-true}
 use lib.Dec.{eqb}
-use Rattle.seq.specs.Truth.{and-left, and-right}
+use borrow.Author.Tests.{leb-true, eqb-true}
 use Rattle.seq.specs.Search.{all}
-use Rattle.seq.specs.SearchLaws.{all-at}
 use Rattle.seq.specs.Bytes.{zeros}
+use Rattle.seq.specs.Truth.{and-left, and-right}
+use Rattle.seq.specs.SearchLaws.{all-at}
 use Rattle.layout.specs.declared.Shape.{Shape}
-use Rattle.layout.specs.ContentsLaws.{Laid}
+use Rattle.layout.specs.Facts.{Laid}
 use Rattle.layout.specs.View.{viewOf, nameRoom, entryAt}
 use Rattle.names.specs.NameTests.{nameGood, Named}
 use Rattle.consistency.specs.Entry.{entryFormed, entryGood, entryLinked}

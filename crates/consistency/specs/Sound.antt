@@ -6,8 +6,8 @@ use Prim.Native.Nat.{ℕ, _+_, _-_}
 use lib.Dec.{eqb, ltb, leb}
 use Rattle.seq.specs.Search.{implies, allPass, any, all}
 use Rattle.seq.specs.Bytes.{zeros, noZero}
-use Rattle.layout.specs.Limits.{journalSize, inodeSize, textSize, handleSize, nameOffset, modeLimit, linkLimit, textRoom}
 use Rattle.layout.specs.declared.Shape.{Shape}
+use Rattle.layout.specs.Limits.{journalSize, inodeSize, textSize, handleSize, nameOffset, modeLimit, linkLimit, textRoom}
 use Rattle.layout.specs.Contents.{shapeOf, layoutGood}
 use Rattle.layout.specs.View.{View, viewOf, inodeAt, entryAt, textAt, handleAt, journalAt, nameRoom, isKind, isDirectory, isUsed, entryUsed, textUsed}
 use Rattle.names.specs.Name.{plainName, isDots, clash}

@@ -4,18 +4,19 @@ use mathlib.Core.Logic.{_⊎_, inl, inr, ⊎-elim}
 use mathlib.Core.Bool.{Bool, true, false, _&&_, _||_, not, and-false}
 use mathlib.Core.List.{List}
 use Prim.Native.Nat.{ℕ, zero, suc, _+_, _-_, _≤_, _<_}
-use native.Mathlib.Nat.{zero-add}
 use native.Mathlib.Decide.{ℕ-discrete}
+use native.Mathlib.Nat.{zero-add}
 use native.Mathlib.Omega.{arith}
 use lib.Dec.{eqb, ltb, leb}
 use lib.ListN.{getD}
 use borrow.Author.Tests.{le-ltb, eqb-true, eqb-false, eq-eqb, ne-eqb, ltb-true, lt-ltb, leb-true, le-leb, not-true, not-false}
-use Rattle.seq.specs.AllPass.{no-more, _&_, is-every, every-at}
-use Rattle.seq.specs.Truth.{refuted, implies-at, implies-of, and-left, and-right, and-both, or-left, or-right, not-both}
 use Rattle.seq.specs.Search.{any, all}
-use Rattle.seq.specs.SearchLaws.{any-not, any-false, all-none, all-at, all-of}
 use Rattle.seq.specs.Bytes.{zeros, noZero, part}
+use Rattle.seq.specs.Truth.{refuted, implies-at, implies-of, and-left, and-right, and-both, or-left, or-right, not-both}
+use Rattle.seq.specs.AllPass.{no-more, _&_, is-every, every-at}
+use Rattle.seq.specs.SearchLaws.{any-not, any-false, all-none, all-at, all-of}
 use Rattle.layout.specs.declared.Shape.{Shape}
+use Rattle.layout.specs.Limits.{textRoom}
 use Rattle.layout.specs.View.{View, viewOf, entryAt, textAt, handleAt, nameRoom, isKind, isDirectory, isUsed, entryUsed, textUsed}
 use Rattle.layout.specs.ViewLaws.{isKind-below}
 use Rattle.names.specs.Name.{plainName, clash}
@@ -24,7 +25,6 @@ use Rattle.tree.specs.Tree.{reaches, textShared}
 use Rattle.tree.specs.TreeLaws.{reaches-goal}
 use Rattle.tree.specs.InodeFacts.{Leaf, File, Directory, Symlink, Inode}
 use Rattle.consistency.specs.Sound.{free, file, directory, symlink, leaf, known, opened, typeKnown, stateKnown, fileField, rootField, entryZeros, textShort, textZeros, handleZeros, inodeFree, entryFree, textFree, handleClosed, modeSmall, targetBelowRoot, parentDirectory, targetUsed, nameShort, nameRead, namePlain, nameNoDots, nameOnce, oneEntry, fieldParent, leadsToRoot, directoryCount, leafCount, leafLinked, linksWithin, systemShared, hasTextInUse, symlinkText, textOwn, textPlain, textHeld, handleNames, bodyRules, bodiesGood}
-use Rattle.layout.specs.Limits.{textRoom}
 use Rattle.consistency.specs.RecordFacts.{Used, Entry, Text, Open, Handle, Bodies}
 
 -- ---- lists of tests

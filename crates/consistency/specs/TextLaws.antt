@@ -7,12 +7,13 @@ use borrow.Author.Tests.{eq-eqb, ne-eqb, le-leb, lt-leb}
 use Rattle.seq.specs.Bytes.{zeros, noZero}
 use Rattle.seq.specs.Truth.{fails, holds}
 use Rattle.layout.specs.declared.Shape.{Shape}
-use Rattle.layout.specs.Fields.{textLength, textBytes}
 use Rattle.layout.specs.Limits.{textRoom}
-use Rattle.layout.specs.RecordLaws.{Reads, field-of}
+use Rattle.layout.specs.Facts.{Reads}
+use Rattle.layout.specs.RecordLaws.{field-of}
+use Rattle.layout.specs.Fields.{textLength, textBytes}
 use Rattle.layout.specs.View.{viewOf, textAt}
-use Rattle.consistency.specs.Sound.{textLinked}
 use Rattle.consistency.specs.Others.{textPadded, textBytesGood, textOwned, textGood}
+use Rattle.consistency.specs.Sound.{textLinked}
 
 -- r and n are text t and its length as they were read
 module _ (h : Shape) (s : List ℕ) (t : ℕ) {r : List ℕ} {m n : ℕ} (reads : Reads r (textAt h s t) m) (says : n ≡ textLength r) where

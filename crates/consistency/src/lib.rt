@@ -4,9 +4,9 @@ use layout::contents::Contents;
 use layout::errno;
 use layout::limits;
 ghost use mathlib.Core.Path.{_≡_};
-ghost use Rattle.layout.specs.ContentsLaws.{Laid};
-ghost use Rattle.consistency.specs.Sound.{journalClear};
-ghost use Rattle.consistency.specs.Consistent.{bodiesGood, recordsNumber, checkNumber};
+ghost use Rattle.layout.specs.Facts.{Laid};
+ghost use Rattle.consistency.specs.Sound.{journalClear, bodiesGood};
+ghost use Rattle.consistency.specs.Consistent.{recordsNumber, checkNumber};
 
 pub mod entries;
 pub mod handles;

@@ -15,7 +15,8 @@ use Rattle.crash_theorem.specs.Events.{EventOf, apply, stray, crash, Pha
 use Rattle.crash_theorem.specs.Obligations.{Obligations}
 use Rattle.crash_theorem.specs.InvariantLaws.{whole, ended-of, start-inv, step-inv}
 use Rattle.crash_theorem.specs.Finish.{OnlyApplies}
-use Rattle.crash_theorem.specs.Crash.{Safe, safe-of}
+use Rattle.crash_theorem.specs.Crash.{Safe}
+use Rattle.crash_theorem.specs.CrashProof.{safe-of}
 use Rattle.crash_theorem.specs.Queue.{Chain, end, call, Queue, one, calls, imageOf, stepped, over, onward, next, play}
 use Rattle.crash_theorem.specs.Chain.{NoCrash, ChainEnds, Queued, ChainEnded, Along, Last}
 

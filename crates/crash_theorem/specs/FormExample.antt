@@ -8,9 +8,9 @@ use lib.Dec.{T, eqb}
 use Rattle.crash_theorem.specs.Pick.{All}
 use Rattle.crash_theorem.specs.Change.{Change, plan}
 use Rattle.crash_theorem.specs.Obligations.{Obligations}
-use Rattle.crash_theorem.specs.Plan.{change}
 use Rattle.crash_theorem.specs.Form.{Form, storeOf, Do, inForm}
 use Rattle.crash_theorem.specs.FormLaws.{carries-of, owed-in}
+use Rattle.crash_theorem.specs.Plan.{change}
 use Rattle.crash_theorem.specs.Example.{Write, inside, written, refused, toy, first, recover, first-owed}
 
 abbrev pub mine : ℕ × Write → Bool

@@ -7,7 +7,8 @@ use mathlib.Core.Option.{Option, none, some}
 use Prim.Native.Nat.{_≤_, _<_}
 use native.Mathlib.Omega.{arith}
 use lib.Dec.{T, eqb→eq, eqb-refl}
-use Rattle.crash_theorem.specs.Pick.{All, Has, Empty, Pick, Picked, pick, Part, ahead, middle, behind}
+use Rattle.crash_theorem.specs.Pick.{All, Has, Empty, Pick, Picked, pick}
+use Rattle.crash_theorem.specs.Parted.{Part, ahead, middle, behind}
 use Rattle.crash_theorem.specs.PickLaws.{part-pick, all-pick, all-map, all-has, all-join}
 use Rattle.crash_theorem.specs.Turn.{lowest, Low}
 use Rattle.crash_theorem.specs.TurnLaws.{lowest-low}
@@ -16,8 +17,9 @@ use Rattle.crash_theorem.specs.Change.{Change, goal}
 use Rattle.crash_theorem.specs.Events.{EventOf, apply, stray, crash, Phase, own, recovering, stopped, logged, recoveryDone, through, St, deciding, decides, decided, start, took, turned, turn, tried, answered, step, run}
 use Rattle.crash_theorem.specs.Obligations.{OnTheWay, Settles, Ahead, Behind, Orderly, Obligations}
 use Rattle.crash_theorem.specs.Settle.{Settling}
-use Rattle.crash_theorem.specs.SettleLaws.{settle-apply, goal-on, nothing-left, ends}
-use Rattle.crash_theorem.specs.Opening.{Opening, ahead-apply, decide-apply}
+use Rattle.crash_theorem.specs.SettleLaws.{settle-apply, goal-on, nothing-left, recovery-ends}
+use Rattle.crash_theorem.specs.Opening.{Opening}
+use Rattle.crash_theorem.specs.OpeningLaws.{ahead-apply, decide-apply}
 use Rattle.crash_theorem.specs.Invariant.{Fresh, Logged, Holds, Inv, opening, settling}
 
 module _ {𝓢 : Store} (𝓒 : Change 𝓢) where
@@ -188,7 +190,7 @@ module _ {𝓢 : Store} (𝓒 : Change 𝓢) where
           inside = i;
           kept = w .cover;
           rows = w .settle;
-          ended = ends 𝓒 (goal-ok (𝓞 .orderly)) recovering (decided 𝓒 s) (s .done) (w .rows) (i .ok) (w .cover) (ended-of s h);
+          ended = recovery-ends 𝓒 (goal-ok (𝓞 .orderly)) recovering (decided 𝓒 s) (s .done) (w .rows) (i .ok) (w .cover) (ended-of s h);
         }))
 
     pub step-inv : (s : St 𝓒) (e : EventOf 𝓢) → Inv 𝓒 s → Inv 𝓒 (step 𝓒 s e)

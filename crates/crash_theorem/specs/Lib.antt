@@ -1,5 +1,6 @@
 -- The laws, each file below those that it uses.
 pub mod Pick
+pub mod Parted
 pub mod PickLaws
 pub mod Turn
 pub mod TurnLaws
@@ -11,11 +12,13 @@ pub mod Obligations
 pub mod Settle
 pub mod SettleLaws
 pub mod Opening
+pub mod OpeningLaws
 pub mod Invariant
 pub mod InvariantLaws
 pub mod Finish
 pub mod FinishLaws
 pub mod Crash
+pub mod CrashProof
 pub mod Order
 pub mod OrderLaws
 pub mod Form

@@ -3,8 +3,8 @@ use mathlib.Core.Path.{_≡_}
 use mathlib.Core.Logic.{_⊎_, _≢_}
 use mathlib.Core.Bool.{Bool, true, false, not}
 use mathlib.Core.Option.{none, some}
-use lib.Dec.{T}
 use Prim.Native.Nat.{_≤_, _<_}
+use lib.Dec.{T}
 use Rattle.crash_theorem.specs.Pick.{All}
 use Rattle.crash_theorem.specs.Store.{Store, Rows, Covers}
 use Rattle.crash_theorem.specs.Change.{Change, plan, goal}

@@ -2,7 +2,7 @@
 use mathlib.Core.Path.{_≡_}
 use mathlib.Core.Logic.{_⊎_}
 use mathlib.Core.Bool.{Bool, true, false}
-use mathlib.Core.List.{List, [], _∷_, _++_}
+use mathlib.Core.List.{List, [], _∷_}
 use mathlib.Core.Option.{Option, none, some}
 use Prim.Native.Nat.{ℕ, zero, suc}
 
@@ -49,9 +49,3 @@ module _ {A : Type 0} where
   -- the list has the element
   abbrev pub Has : List A → A → Type 0
   Has xs r = Any (λ x. x ≡ r) xs
-
-  -- one picked from xs ++ d ∷ ys: it is of xs, or d itself, or of ys
-  pub data Part (r d : A) (xs ys zs : List A) : Type 0 where
-    ahead : {us : List A} → Pick r xs us → zs ≡ us ++ d ∷ ys → Part r d xs ys zs
-    middle : r ≡ d → zs ≡ xs ++ ys → Part r d xs ys zs
-    behind : {us : List A} → Pick r ys us → Has zs d → Part r d xs ys zs

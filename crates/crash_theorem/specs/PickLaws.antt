@@ -3,7 +3,8 @@ use mathlib.Core.Path.{_≡_, refl, ap, subst}
 use mathlib.Core.Logic.{_⊎_, inl, inr, ⊎-elim}
 use mathlib.Core.List.{List, [], _∷_, _++_}
 use lib.Dec.{T}
-use Rattle.crash_theorem.specs.Pick.{All, Any, Empty, Has, Part, Pick, ahead, behind, here, middle, null, there}
+use Rattle.crash_theorem.specs.Pick.{All, Any, Empty, Has, Pick, here, null, there}
+use Rattle.crash_theorem.specs.Parted.{Part, ahead, behind, middle}
 
 module _ {A : Type 0} where
   pub empty-null : (xs : List A) → Empty xs → T (null xs)

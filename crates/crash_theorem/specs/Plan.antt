@@ -77,6 +77,20 @@ module _ (𝓢 : Store) where
   pendingOf p false k = Covers 𝓢 (createdOf (p .decider)) k
   pendingOf p true k = Covers 𝓢 (p .rest) k
 
+  -- the rows on one side of the decision: the records pending there, and the journal's, are among those that they write
+  abbrev pub sideOf : Plan → Bool → Rows 𝓢
+  sideOf p false = aheadOf (p .set) (p .decider)
+  sideOf p true = behindOf p
+
+  -- on that side the journal record may be set
+  abbrev pub OpenSide : Plan → Bool → Type 0
+  OpenSide p false = ByRow (p .decider)
+  OpenSide p true = Unit {0}
+
+  -- the rows write all that the rows on that side write
+  abbrev pub CoverSide : Plan → Bool → Rows 𝓢 → Type 0
+  CoverSide p d us = (k : 𝓢 .Key) → Covers 𝓢 (sideOf p d) k → Covers 𝓢 us k
+
   -- an answer, where the buffers are long enough for one
   abbrev pub ifEnough : Bool → Option (Rows 𝓢) → Option (Rows 𝓢)
   ifEnough true answer = answer

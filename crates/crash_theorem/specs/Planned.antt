@@ -10,12 +10,12 @@ use lib.Dec.{T}
 use Rattle.crash_theorem.specs.Pick.{All, Any, Has}
 use Rattle.crash_theorem.specs.PickLaws.{all-map, any-map, all-zip, all-has, has-all, all-right, all-join, any-left, any-right, any-split}
 use Rattle.crash_theorem.specs.Store.{Store, Rows, Covers, Spares, Distinct, putAll}
-use Rattle.crash_theorem.specs.StoreLaws.{covers?, spares-not, all-ok, all-other, all-same}
+use Rattle.crash_theorem.specs.StoreLaws.{covers?, spares-not, all-ok, all-other, rows-same}
 use Rattle.crash_theorem.specs.Change.{Change, goal}
 use Rattle.crash_theorem.specs.Obligations.{OnTheWay, MayMark, Opens, Settles, Cover, Ahead, Behind, Recovery, Orderly, Obligations}
 use Rattle.crash_theorem.specs.SettleLaws.{settled}
 use Rattle.crash_theorem.specs.InvariantLaws.{goal-ok}
-use Rattle.crash_theorem.specs.Plan.{Decider, by-row, by-journal, createdOf, aheadOf, decideOf, writesOf, ByRow, Plan, writes, decideRow, afterOf, behindOf, pendingOf, ifEnough, lending, change, WellFormed, Recovers}
+use Rattle.crash_theorem.specs.Plan.{Decider, by-row, by-journal, createdOf, aheadOf, decideOf, writesOf, ByRow, Plan, writes, decideRow, afterOf, behindOf, pendingOf, sideOf, OpenSide, CoverSide, ifEnough, lending, change, WellFormed, Recovers}
 
 module _ {R : Type 0} where
   ahead-of : (P : R → Type 0) (set : R) (D : Decider R) → (ByRow D → P set) → (ByRow D → All P (createdOf D)) → All P (aheadOf set D)
@@ -53,7 +53,7 @@ module _ {𝓢 : Store} (p : Plan 𝓢) (recover : 𝓢 .Img → Option (Rows �
   has-covers rs r a = any-map (λ q. q ≡ r) (λ q. 𝓢 .key q ≡ 𝓢 .key r) (λ q e. ap (𝓢 .key) e) rs a
 
   written : (r : 𝓢 .Row) → Has (writes 𝓢 p) r → 𝓢 .body r ≡ 𝓢 .get (afterOf 𝓢 p) (𝓢 .key r)
-  written r a = sym (all-same 𝓢 (writes 𝓢 p) (𝓦 .ok) (𝓦 .fits) (𝓦 .distinct) r a)
+  written r a = sym (rows-same 𝓢 (writes 𝓢 p) (𝓦 .ok) (𝓦 .fits) (𝓦 .distinct) r a)
 
   elsewhere-of : (r : 𝓢 .Row) → Has (writes 𝓢 p) r → 𝓢 .key r ≢ 𝓢 .key (p .set)
   elsewhere-of r a = all-has (λ q. 𝓢 .key q ≢ 𝓢 .key (p .set)) (writes 𝓢 p) (𝓦 .apart) r a
@@ -171,16 +171,7 @@ module _ {𝓢 : Store} (p : Plan 𝓢) (recover : 𝓢 .Img → Option (Rows �
   behind-all = all-map (Behind 𝓒) (Settles 𝓒 true) (λ r h. h .settles) (behindOf 𝓢 p) behind-settle
 
   -- the records pending on either side, and the journal's, are among those that the rows on that side write
-  abbrev pub side : Bool → Rows 𝓢
-  side false = aheadOf (p .set) (p .decider)
-  side true = behindOf 𝓢 p
-
-  -- on that side the journal record may be set
-  abbrev pub Open : Bool → Type 0
-  Open false = ByRow (p .decider)
-  Open true = Unit {0}
-
-  side-pending : (d : Bool) (k : 𝓢 .Key) → pendingOf 𝓢 p d k → Covers 𝓢 (side d) k
+  side-pending : (d : Bool) (k : 𝓢 .Key) → pendingOf 𝓢 p d k → Covers 𝓢 (sideOf 𝓢 p d) k
   side-pending false k c = go (p .decider) c
     where
       go : (D : Decider (𝓢 .Row)) → Covers 𝓢 (createdOf D) k → Covers 𝓢 (aheadOf (p .set) D) k
@@ -188,7 +179,7 @@ module _ {𝓢 : Store} (p : Plan 𝓢) (recover : 𝓢 .Img → Option (Rows �
       go by-journal c = absurd c
   side-pending true k c = any-left (λ r. 𝓢 .key r ≡ k) (p .rest) (p .clear ∷ []) c
 
-  side-journal : (d : Bool) → Open d → Covers 𝓢 (side d) (𝓢 .key (p .set))
+  side-journal : (d : Bool) → OpenSide 𝓢 p d → Covers 𝓢 (sideOf 𝓢 p d) (𝓢 .key (p .set))
   side-journal false b = go (p .decider) b
     where
       go : (D : Decider (𝓢 .Row)) → ByRow D → Covers 𝓢 (aheadOf (p .set) D) (𝓢 .key (p .set))
@@ -196,11 +187,7 @@ module _ {𝓢 : Store} (p : Plan 𝓢) (recover : 𝓢 .Img → Option (Rows �
       go by-journal b = absurd b
   side-journal true b = clears-end
 
-  -- the rows write all that the rows on that side write
-  abbrev pub CoverSide : Bool → Rows 𝓢 → Type 0
-  CoverSide d us = (k : 𝓢 .Key) → Covers 𝓢 (side d) k → Covers 𝓢 us k
-
-  module _ (d : Bool) (us : Rows 𝓢) (us-all : CoverSide d us) {X : 𝓢 .Img} (b : Open d) (i : OnTheWay 𝓒 d X) where
+  module _ (d : Bool) (us : Rows 𝓢) (us-all : CoverSide 𝓢 p d us) {X : 𝓢 .Img} (b : OpenSide 𝓢 p d) (i : OnTheWay 𝓒 d X) where
     side-cover : Cover 𝓒 d X us
     side-cover = cover-of d us i (λ k c. us-all k (side-pending d k c)) (us-all (𝓢 .key (p .set)) (side-journal d b))
 

@@ -44,8 +44,8 @@ module _ (𝓢 : Store) where
   comes none = false
   comes (some p) = lowest (𝓢 .group) (𝓢 .group (p .0)) (p .1)
 
-  abbrev pub counts : ℕ → Rows 𝓢 → Bool
-  counts i W = comes (pick i W)
+  abbrev pub eventCounts : ℕ → Rows 𝓢 → Bool
+  eventCounts i W = comes (pick i W)
 
 module _ {𝓢 : Store} {recover : RecoverOf 𝓢} where
   -- the rows of calls not yet in hand
@@ -66,7 +66,7 @@ module _ {𝓢 : Store} {recover : RecoverOf 𝓢} where
   -- the rule and the event agree
   pub record PlacesAgree (q : Queue 𝓢 recover) (i : ℕ) : Type 0 where
     -- on whether the row at the place is applied
-    pub agrees : permitted 𝓢 i (queued q) ≡ counts 𝓢 i (q .state .waiting)
+    pub agrees : permitted 𝓢 i (queued q) ≡ eventCounts 𝓢 i (q .state .waiting)
     -- and on which row that is: one of the call in hand
     pub same-row : (p : Picked (q .state .waiting)) → pick i (q .state .waiting) ≡ some p
         → (e : Picked (queued q)) × (pick i (queued q) ≡ some e) × (e .0 ≡ (0, p .0))

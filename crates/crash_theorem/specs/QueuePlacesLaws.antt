@@ -17,7 +17,7 @@ use Rattle.crash_theorem.specs.Obligations.{Obligations}
 use Rattle.crash_theorem.specs.Queue.{Chain, end, call, Queue, play}
 use Rattle.crash_theorem.specs.Chain.{Last, ChainEnded}
 use Rattle.crash_theorem.specs.ChainLaws.{queue, chain-along}
-use Rattle.crash_theorem.specs.QueuePlaces.{Item, numbered, precedes, unblocked, permits, permitted, comes, counts, laterRows, stillQueued, PlacesAgree}
+use Rattle.crash_theorem.specs.QueuePlaces.{Item, numbered, precedes, unblocked, permits, permitted, comes, eventCounts, laterRows, stillQueued, PlacesAgree}
 
 -- ---- the rule
 
@@ -109,7 +109,7 @@ module _ (𝓢 : Store) where
   blocked (w ∷ W) L M h n t a = ap (λ (b : Bool). b && unblocked 𝓢 t (numbered 𝓢 0 W ++ M)) (first-blocks w t (all-has Later L h t a))
 
   agree : (i : ℕ) (W : Rows 𝓢) (L : List (Item 𝓢)) → All Later L → (Empty W → Empty L) → Points i W L
-      → permitted 𝓢 i (numbered 𝓢 0 W ++ L) ≡ counts 𝓢 i W
+      → permitted 𝓢 i (numbered 𝓢 0 W ++ L) ≡ eventCounts 𝓢 i W
   agree i W L h n (hand p e a b c d) = ap (permits 𝓢) b ∙ (rw (c, d) (first-turn (p .0) (p .1) L h)) ∙ sym (ap (comes 𝓢) a)
   agree i W L h n (other e M a b c d) = ap (permits 𝓢) b ∙ (rw d (blocked W L M h n (e .0) c)) ∙ sym (ap (comes 𝓢) a)
   agree i W L h n (past a b) = ap (permits 𝓢) b ∙ sym (ap (comes 𝓢) a)

@@ -92,13 +92,13 @@ module _ {𝓢 : Store} (𝓒 : Change 𝓢) where
               (λ e. inr (on-goal d (i .ok) s e)) (i .journal);
         }
 
-    pub ends : (ph : Phase) (d done : Bool) {X : 𝓢 .Img} (W : Rows 𝓢) → 𝓢 .Ok X → Cover 𝓒 d X W → (T done → X ≡ goal 𝓒 d)
+    pub recovery-ends : (ph : Phase) (d done : Bool) {X : 𝓢 .Img} (W : Rows 𝓢) → 𝓢 .Ok X → Cover 𝓒 d X W → (T done → X ≡ goal 𝓒 d)
         → T (recoveryDone ph done W) → X ≡ goal 𝓒 d
-    ends own d done W o c f t = f t
-    ends stopped d done W o c f t = f t
-    ends recovering d true W o c f t = f tt
-    ends recovering d false [] o c f t = nothing-left d o c
-    ends recovering d false (r ∷ W) o c f t = absurd t
+    recovery-ends own d done W o c f t = f t
+    recovery-ends stopped d done W o c f t = f t
+    recovery-ends recovering d true W o c f t = f tt
+    recovery-ends recovering d false [] o c f t = nothing-left d o c
+    recovery-ends recovering d false (r ∷ W) o c f t = absurd t
 
     pub settle-apply : (ph : Phase) (d done : Bool) {r : 𝓢 .Row} {X : 𝓢 .Img} {W W′ : Rows 𝓢} → Settling 𝓒 ph d done X W → Pick r W W′
         → Low (𝓢 .group) r W′ → Settling 𝓒 ph d (recoveryDone ph done W′) (𝓢 .put X r) W′
@@ -110,5 +110,5 @@ module _ {𝓢 : Store} (𝓒 : Change 𝓢) where
           inside = stays d W′ (s .inside) (rs .0) (rs .1) low c;
           rows = rs .1;
           kept = keeps ph (𝓢 .put X r) s p c;
-          ended = ends ph d done W′ (𝓢 .put-ok o (rs .0 .fits)) c (λ t. on-goal d o (rs .0) (s .ended t));
+          ended = recovery-ends ph d done W′ (𝓢 .put-ok o (rs .0 .fits)) c (λ t. on-goal d o (rs .0) (s .ended t));
         }

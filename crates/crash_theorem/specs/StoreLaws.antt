@@ -23,13 +23,13 @@ module _ (𝓢 : Store) where
   all-other [] o f k n = refl
   all-other (r ∷ rs) o f k n = all-other rs (𝓢 .put-ok o (f .0)) (f .1) k (n .1) ∙ 𝓢 .get-other o (f .0) k (λ e. n .0 (sym e))
 
-  pub all-same : (rs : Rows 𝓢) {X : 𝓢 .Img} → 𝓢 .Ok X → All (𝓢 .Fits) rs → Distinct 𝓢 rs → (r : 𝓢 .Row) → Has rs r
+  pub rows-same : (rs : Rows 𝓢) {X : 𝓢 .Img} → 𝓢 .Ok X → All (𝓢 .Fits) rs → Distinct 𝓢 rs → (r : 𝓢 .Row) → Has rs r
       → 𝓢 .get (putAll 𝓢 X rs) (𝓢 .key r) ≡ 𝓢 .body r
-  all-same [] o f d r a = absurd a
-  all-same (q ∷ rs) {X} o f d r (inl e) =
+  rows-same [] o f d r a = absurd a
+  rows-same (q ∷ rs) {X} o f d r (inl e) =
       subst (λ (x : 𝓢 .Row). 𝓢 .get (putAll 𝓢 X (q ∷ rs)) (𝓢 .key x) ≡ 𝓢 .body x) e
       (all-other rs (𝓢 .put-ok o (f .0)) (f .1) (𝓢 .key q) (d .0) ∙ 𝓢 .get-same o (f .0))
-  all-same (q ∷ rs) o f d r (inr a) = all-same rs (𝓢 .put-ok o (f .0)) (f .1) (d .1) r a
+  rows-same (q ∷ rs) o f d r (inr a) = rows-same rs (𝓢 .put-ok o (f .0)) (f .1) (d .1) r a
 
   pub covers? : (rs : Rows 𝓢) (k : 𝓢 .Key) → Covers 𝓢 rs k ⊎ Spares 𝓢 rs k
   covers? [] k = inr tt

@@ -3,14 +3,12 @@ use mathlib.Core.Path.{_≡_}
 use mathlib.Core.Bool.{cond}
 use mathlib.Core.List.{List}
 use Prim.Native.Nat.{ℕ}
-use Rattle.layout.specs.View.{View, entryUsed}
 use Rattle.layout.specs.Limits.{absent}
-use Rattle.component.specs.Step.{missing}
-use Rattle.walk.specs.Ends.{Missing}
+use Rattle.layout.specs.View.{View, entryUsed}
 use Rattle.edits.specs.Moved.{Allowed}
+use Rattle.walk.specs.Ends.{Missing}
 use Rattle.refusals.specs.declared.case.Case.{Case}
 use Rattle.refusals.specs.Case.{exists}
-use Rattle.rename.specs.Known.{name}
 
 -- the name of the new entry: the one that its slot has, or the one that was missing
 abbrev pub newName : View → Case → List ℕ → List ℕ

@@ -6,29 +6,29 @@ use Prim.Native.Nat.{ℕ, _≤_, _<_}
 use native.Mathlib.Omega.{arith}
 use lib.Dec.{eqb}
 use borrow.Author.Tests.{eqb-true, eqb-false, eq-eqb, ne-eqb, not-true, not-false, leb-false}
-use Rattle.seq.specs.Truth.{not-both, refuted}
 use Rattle.seq.specs.Search.{first}
+use Rattle.seq.specs.Truth.{not-both, refuted}
 use Rattle.seq.specs.SearchLaws.{first-passes}
+use Rattle.layout.specs.Limits.{absent, inodeLimit}
 use Rattle.layout.specs.View.{View, isDirectory, entryUsed}
 use Rattle.tree.specs.Tree.{entriesOf}
-use Rattle.layout.specs.Limits.{absent}
+use Rattle.edits.specs.Kinds.{EntryUsed}
+use Rattle.edits.specs.Tests.{kind-is, kind-test}
+use Rattle.edits.specs.ConsistentView.{ConsistentView}
+use Rattle.edits.specs.Moved.{Allowed}
+use Rattle.edits.specs.Refusals.{missing-of, not-above-of, empty-of, unopened-of}
 use Rattle.paths.specs.declared.request.Request.{Request}
 use Rattle.paths.specs.Lookup.{isNamed}
 use Rattle.paths.specs.LookupLaws.{lookup-misses}
 use Rattle.component.specs.declared.state.Final.the-variants.{MustExist, MayBeMissing}
-use Rattle.component.specs.Step.{missing}
 use Rattle.walk.specs.Ends.{Existing, Missing, Facts}
 use Rattle.walk.specs.Both.{Ends}
-use Rattle.edits.specs.Kinds.{EntryUsed}
-use Rattle.edits.specs.Tests.{kind-is, is-kind}
-use Rattle.edits.specs.ConsistentView.{ConsistentView}
-use Rattle.edits.specs.Moved.{Allowed}
-use Rattle.edits.specs.Refusals.{missing-of, not-above-of, empty-of, unopened-of}
 use Rattle.refusals.specs.declared.case.Case.{Case}
 use Rattle.refusals.specs.Case.{exists, hasEntries, isOpened}
 use Rattle.refusals.specs.Passed.{Passed}
 use Rattle.rename.specs.Order.{freeSlot, directoryOf, slotOf, inodeOf, slashOf, nameOf, caseOf}
-use Rattle.rename.specs.Known.{NewFound, entry, name, old-found, new-found}
+use Rattle.rename.specs.Answers.{NewFound, by-entry, by-name}
+use Rattle.rename.specs.Known.{old-found, new-found}
 use Rattle.demands.specs.Allowed.{newName, Granted}
 
 -- an entry in use, from its test and back
@@ -50,7 +50,7 @@ either-false : (a b : Bool) → (a || b) ≡ false → b ≡ false
 either-false true b e = absurd (not-both true refl e)
 either-false false b e = e
 
-module _ (v : View) (good : ConsistentView v) (few : v .inodes ≤ 512) (c : Case) (called : List ℕ) (p : Passed v c)
+module _ (v : View) (good : ConsistentView v) (few : v .inodes ≤ inodeLimit) (c : Case) (called : List ℕ) (p : Passed v c)
     (slash₁ : Bool) (old : Existing v (c .from) (c .old) (c .moved) slash₁) where
   old-entry : EntryUsed v (c .old)
   old-entry = used-entry v (c .old) (old .below) (old .used)
@@ -85,8 +85,8 @@ module _ (v : View) (good : ConsistentView v) (few : v .inodes ≤ 512) (c : Cas
       other = λ u e. eqb-false _ _ (p .other) (sym e ∙ new .target);
       systems = systems-agree;
       not-above = not-above-of v good (c .moved) (c .into) (kind-is v (c .into) 2 (new .directory)) (p .outside);
-      alike = λ u d. rw (new .target) (kind-is v (c .replaced) 2 (not-false _ (both-false (isDirectory v (c .moved) && exists c) _ (p .types .other) (rw (is-kind v (c .moved) 2 d, named-exists)))));
-      empty = λ u d. rw (new .target) (empty-of v (c .replaced) (both-false (isDirectory v (c .replaced)) _ (p .empty) (is-kind v (c .replaced) 2 (rw (new .target) at d))));
+      alike = λ u d. rw (new .target) (kind-is v (c .replaced) 2 (not-false _ (both-false (isDirectory v (c .moved) && exists c) _ (p .types .other) (rw (kind-test v (c .moved) 2 d, named-exists)))));
+      empty = λ u d. rw (new .target) (empty-of v (c .replaced) (both-false (isDirectory v (c .replaced)) _ (p .empty) (kind-test v (c .replaced) 2 (rw (new .target) at d))));
       unopened = λ u one. rw (new .target) (unopened-of v (c .replaced) (either-false (eqb (c .replaced) (c .current)) _
           (both-false (exists c && eqb (entriesOf v (c .replaced)) 1) _ (p .idle) (rw (named-exists, eq-eqb (entriesOf v (c .replaced)) 1 (rw (new .target) at one))))));
       room = λ d n none. absurd (none new-entry);
@@ -131,7 +131,7 @@ module _ (v : View) (good : ConsistentView v) (few : v .inodes ≤ 512) (c : Cas
       empty = λ u. absurd (unused u);
       unopened = λ u. absurd (unused u);
       room = λ d n _. eqb-false _ _ (both-false (isDirectory v (c .moved) && not (eqb (c .from) (c .into)) && not (exists c)) _ (p .countable)
-          (rw (is-kind v (c .moved) 2 d, ne-eqb (c .from) (c .into) n, named-missing)));
+          (rw (kind-test v (c .moved) 2 d, ne-eqb (c .from) (c .into) n, named-missing)));
       new-below = slot-below;
     }
 
@@ -142,7 +142,7 @@ module _ (v : View) (good : ConsistentView v) (few : v .inodes ≤ 512) (c : Cas
     missing-granted = record { allowed = missing-allowed; replaced = none ∙ rw free-entry; missing = λ _. (sym made-name, new) }
 
 -- Both walks whole, and no step that holds.
-pub granted : (v : View) → ConsistentView v → v .inodes ≤ 512 → (q : Request) (e : Ends) → Facts v MustExist (e .old) → Facts v MayBeMissing (e .new)
+pub granted : (v : View) → ConsistentView v → v .inodes ≤ inodeLimit → (q : Request) (e : Ends) → Facts v MustExist (e .old) → Facts v MayBeMissing (e .new)
     → e .old .number ≡ 0 → e .new .number ≡ 0 → Passed v (caseOf v q e) → Granted v (caseOf v q e) (nameOf (e .new .found))
 granted v good few q e old new walked also p = go (new-found v (e .new .found) (e .new .number) (new .known) (new .numbered) also)
   where
@@ -150,5 +150,5 @@ granted v good few q e old new walked also p = go (new-found v (e .new .found) (
     first = old-found v (e .old .found) (e .old .number) (old .known) (old .numbered) walked
 
     go : NewFound v (e .new .found) → Granted v (caseOf v q e) (nameOf (e .new .found))
-    go (entry x _) = existing-granted v good few (caseOf v q e) (nameOf (e .new .found)) p _ first _ x
-    go (name none free x) = missing-granted v good few (caseOf v q e) (nameOf (e .new .found)) p _ first none free x
+    go (by-entry x _) = existing-granted v good few (caseOf v q e) (nameOf (e .new .found)) p _ first _ x
+    go (by-name none free x) = missing-granted v good few (caseOf v q e) (nameOf (e .new .found)) p _ first none free x

@@ -8,12 +8,15 @@ use lib.ListN.{length}
 use borrow.Author.Tests.{ltb-false, not-false, eq-eqb, ne-eqb}
 use Rattle.seq.specs.Bytes.{noZero}
 use Rattle.layout.specs.declared.Shape.{Shape}
+use Rattle.layout.specs.Facts.{Read}
 use Rattle.layout.specs.Contents.{layoutGood, shapeOf}
-use Rattle.layout.specs.ContentsLaws.{Read, good-laid}
+use Rattle.layout.specs.ContentsLaws.{good-laid}
 use Rattle.layout.specs.View.{View, viewOf, isSymlink}
 use Rattle.layout.specs.ViewLaws.{readable-text}
 use Rattle.consistency.specs.Sound.{journalClear}
-use Rattle.consistency.specs.Facts.{Bodies, bodies-is, bodies-readable}
+use Rattle.consistency.specs.RecordFacts.{Bodies}
+use Rattle.consistency.specs.SoundFacts.{bodies-is}
+use Rattle.consistency.specs.FactLaws.{bodies-readable}
 use Rattle.paths.specs.declared.request.Request.{Request}
 use Rattle.paths.specs.Request.{requestGood}
 use Rattle.paths.specs.RequestLaws.{good-old, good-new}
@@ -22,11 +25,11 @@ use Rattle.walk.specs.Walk.{halt}
 use Rattle.walk.specs.Ends.{Facts}
 use Rattle.walk.specs.EndLaws.{walk-facts}
 use Rattle.walk.specs.Both.{walksOf, oldWalk, newWalk, newAfter}
-use Rattle.plan.specs.Form.{planBytes}
 use Rattle.refusals.specs.declared.case.Answer.the-variants.{Planned}
 use Rattle.refusals.specs.Steps.{decide}
 use Rattle.refusals.specs.Passed.{Passes}
 use Rattle.refusals.specs.PassedLaws.{passes}
+use Rattle.plan.specs.Form.{planBytes}
 use Rattle.rename.specs.Order.{walks, early}
 
 module _ (s plan : List ℕ) (q : Request) (old new : List ℕ) (begun : decide (early s plan q old new) ≡ Planned) where
@@ -42,8 +45,8 @@ module _ (s plan : List ℕ) (q : Request) (old new : List ℕ) (begun : decide 
   pub long : planBytes ≤ length plan
   long = ltb-false _ _ (passed .0)
 
-  pub read : Read s h
-  read = let g = not-false (layoutGood s) (passed .1 .0) in record { good = g; shape = refl; laid = good-laid s g }
+  pub begun-read : Read s h
+  begun-read = let g = not-false (layoutGood s) (passed .1 .0) in record { good = g; shape = refl; laid = good-laid s g }
 
   pub clear : journalClear h s ≡ true
   clear = not-false _ (passed .1 .1 .0)
@@ -55,7 +58,7 @@ module _ (s plan : List ℕ) (q : Request) (old new : List ℕ) (begun : decide 
   request = not-false _ (passed .1 .1 .1 .1 .0)
 
   texts : (i : ℕ) → isSymlink v i ≡ true → noZero (v .text (v .field i)) ≡ true
-  texts = readable-text h s (bodies-readable h s (read .laid) bodies)
+  texts = readable-text h s (bodies-readable h s (begun-read .laid) bodies)
 
   -- the facts of both walks
   first-facts : Facts v MustExist (oldWalk v q old)

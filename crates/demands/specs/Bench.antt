@@ -7,26 +7,26 @@ use Rattle.seq.specs.Number.{numberAt, bytesOf}
 use Rattle.layout.specs.Contents.{nameIs, shapeOf, layoutGood}
 use Rattle.layout.specs.Record.{recordAt}
 use Rattle.layout.specs.View.{viewOf}
-use Rattle.layout.specs.Bench.{bench}
+use Rattle.layout.specs.BenchTree.{bench}
+use Rattle.encode.specs.Entry.{entryBytes}
+use Rattle.encode.specs.Journal.{journalHead, journalBytes}
 use Rattle.names.specs.Name.{plainName, isDots, clash}
 use Rattle.names.specs.NameTests.{nameGood}
 use Rattle.tree.specs.Tree.{entriesOf, childDirectories, reaches, textShared}
-use Rattle.consistency.specs.Sound.{textLinked, journalClear}
-use Rattle.consistency.specs.Consistent.{bodiesGood, recordsNumber, checkNumber}
-use Rattle.encode.specs.Entry.{entryBytes}
-use Rattle.encode.specs.Journal.{journalHead, journalBytes}
-use Rattle.paths.specs.Permission.{allows}
-use Rattle.paths.specs.Path as path
-use Rattle.paths.specs.Lookup.{isNamed, lookup}
+use Rattle.consistency.specs.Sound.{textLinked, journalClear, bodiesGood}
+use Rattle.consistency.specs.Consistent.{recordsNumber, checkNumber}
 use Rattle.paths.specs.Request.{requestGood}
-use Rattle.component.specs.Step.{step}
+use Rattle.paths.specs.Permission.{allows}
+use Rattle.paths.specs.Lookup.{isNamed, lookup}
+use Rattle.paths.specs.Path as path
+use Rattle.component.specs.Step.{walkStep}
 use Rattle.walk.specs.Walk.{walkFrom, walk}
 use Rattle.walk.specs.Both.{walksOf}
+use Rattle.refusals.specs.Case.{stickyDenied, hasEntries, isOpened}
 use Rattle.plan.specs.Form.{rowAt, headerOf, rowPut, rowsPut, cleared}
 use Rattle.plan.specs.Fit.{coversSection, covers, rowFits, applicable}
 use Rattle.apply.specs.Apply.{applyNumber, appliedImage}
 use Rattle.results.specs.Results.{entriesAfter, childrenAfter, linksAfter, movedBytes, holderBytes, replacedBytes, results}
-use Rattle.refusals.specs.Case.{stickyDenied, hasEntries, isOpened}
 use Rattle.moves.specs.Plan.{moveOf, renameRows, planned}
 use Rattle.rename.specs.Order.{freeSlot, order}
 use Rattle.rename.specs.Job.{renamed, planAfter}
@@ -34,5 +34,5 @@ use Rattle.demands.specs.Line.{below, applyRows, outcome}
 use Rattle.demands.specs.Table.{table}
 
 pub bench-table : map (λ l. outcome (l .asked)) table ≡ map (λ l. l .expected) table
-unfolding bench any all first count part put zeros noZero sameBytes numberAt bytesOf nameIs shapeOf layoutGood recordAt viewOf plainName isDots nameGood clash entriesOf childDirectories reaches textShared textLinked journalClear bodiesGood recordsNumber checkNumber allows path.slashes path.untilSlash isNamed lookup requestGood step walkFrom walk walksOf entryBytes journalHead journalBytes rowAt headerOf rowPut rowsPut cleared coversSection covers rowFits applicable applyNumber appliedImage movedBytes holderBytes replacedBytes entriesAfter childrenAfter linksAfter results stickyDenied hasEntries isOpened moveOf renameRows planned freeSlot order renamed planAfter below applyRows outcome table
+unfolding bench any all first count part put zeros noZero sameBytes numberAt bytesOf nameIs shapeOf layoutGood recordAt viewOf plainName isDots nameGood clash entriesOf childDirectories reaches textShared textLinked journalClear bodiesGood recordsNumber checkNumber allows path.slashes path.untilSlash isNamed lookup requestGood walkStep walkFrom walk walksOf entryBytes journalHead journalBytes rowAt headerOf rowPut rowsPut cleared coversSection covers rowFits applicable applyNumber appliedImage movedBytes holderBytes replacedBytes entriesAfter childrenAfter linksAfter results stickyDenied hasEntries isOpened moveOf renameRows planned freeSlot order renamed planAfter below applyRows outcome table
 bench-table = refl

@@ -3,7 +3,7 @@ use mathlib.Core.Path.{_≡_, refl, sym, ap, _∙_, subst}
 use mathlib.Core.Logic.{_≢_}
 use mathlib.Core.Bool.{Bool, true, not, cond}
 use mathlib.Core.List.{List, [], _∷_, _++_}
-use Prim.Native.Nat.{ℕ, _-_, _≤_, _<_}
+use Prim.Native.Nat.{ℕ, _≤_, _<_}
 use native.Mathlib.Decide.{ℕ-discrete}
 use native.Mathlib.Omega.{arith}
 use lib.Dec.{eqb}
@@ -12,21 +12,21 @@ use borrow.Author.Tests.{eqb-true, not-false, eq-eqb, ne-eqb}
 use Rattle.seq.specs.Number.{span}
 use Rattle.seq.specs.BytesLaws.{part-length}
 use Rattle.layout.specs.declared.Shape.{Shape}
+use Rattle.layout.specs.Limits.{absent}
+use Rattle.layout.specs.Facts.{Read}
 use Rattle.layout.specs.Contents.{shapeOf}
-use Rattle.layout.specs.ContentsLaws.{Read}
 use Rattle.layout.specs.RecordLaws.{record-length}
 use Rattle.layout.specs.View.{View, viewOf, entryAt, nameRoom}
 use Rattle.names.specs.NameTests.{nameGood}
-use Rattle.consistency.specs.Facts.{Bodies}
-use Rattle.layout.specs.Limits.{absent}
+use Rattle.consistency.specs.RecordFacts.{Bodies}
+use Rattle.edits.specs.Kinds.{EntryUsed}
+use Rattle.edits.specs.Bodies.{bodies-consistent, bodies-formed}
 use Rattle.paths.specs.declared.request.Request.{Request}
 use Rattle.component.specs.declared.state.Final.the-variants.{MayBeMissing}
 use Rattle.component.specs.Step.{existing}
 use Rattle.walk.specs.Ends.{Existing, Known}
-use Rattle.edits.specs.Kinds.{EntryUsed}
-use Rattle.edits.specs.Bodies.{bodies-consistent, bodies-formed}
-use Rattle.refusals.specs.declared.case.Case.{Case}
 use Rattle.refusals.specs.declared.case.Answer.the-variants.{Planned}
+use Rattle.refusals.specs.declared.case.Case.{Case}
 use Rattle.refusals.specs.Case.{exists}
 use Rattle.refusals.specs.Steps.{Rule, refuse, decide, steps}
 use Rattle.refusals.specs.Passed.{Passes, Passed}
@@ -37,9 +37,9 @@ use Rattle.rename.specs.Order.{walks, caseOf, early, late, order}
 use Rattle.rename.specs.Job.{answer, move, called}
 use Rattle.outcome.specs.Called.{Called}
 use Rattle.outcome.specs.CalledLaws.{move-text}
-use Rattle.demands.specs.Begun.{long, read, clear, bodies, old-facts, new-facts}
 use Rattle.demands.specs.Allowed.{newName, Granted}
 use Rattle.demands.specs.AllowedLaws.{granted}
+use Rattle.demands.specs.Begun.{long, begun-read, clear, bodies, old-facts, new-facts}
 
 -- where no test of a list holds, the part behind decides
 skipped : (xs ys : List Rule) → Passes (xs ++ ys) → decide (xs ++ ys) ≡ decide ys
@@ -90,7 +90,7 @@ module _ (s plan : List ℕ) (q : Request) (old new : List ℕ) (planned : answe
   image = bodies s plan q old new begun
 
   abbrev layout : Read s h
-  layout = read s plan q old new begun
+  layout = begun-read s plan q old new begun
 
   pub grant : Granted v c (called s plan q old new)
   unfolding viewOf

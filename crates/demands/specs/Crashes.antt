@@ -6,10 +6,10 @@ use mathlib.Core.Option.{Option, none, some}
 use Prim.Native.Nat.{ℕ, zero, suc}
 use lib.Dec.{eqb}
 use Rattle.plan.specs.Form.{rowGroup, entryGroup}
+use Rattle.plan.specs.Jobs.{Job, jobsIn}
 use Rattle.apply.specs.Apply.{applyNumber, appliedImage}
 use Rattle.crash_theorem.specs.Pick.{Picked, pick, null}
 use Rattle.crash_theorem.specs.Turn.{lowest}
-use Rattle.plan.specs.Jobs.{Job, jobsIn}
 use Rattle.recover.specs.Job.{recovered}
 
 -- What can happen.
@@ -93,8 +93,8 @@ run x [] = x
 run x (e ∷ es) = run (step x e) es
 
 -- rule 112: at first the rows of the rename's plan wait, on the image that it was planned on
-abbrev pub begun : List ℕ → List ℕ → State
-begun s plan = record { image = s; waiting = jobsIn plan; whose = rename; applied = []; done = false }
+abbrev pub atFirst : List ℕ → List ℕ → State
+atFirst s plan = record { image = s; waiting = jobsIn plan; whose = rename; applied = []; done = false }
 
 abbrev pub hasEntry : List Job → Bool
 hasEntry [] = false

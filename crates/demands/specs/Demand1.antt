@@ -1,12 +1,12 @@
 -- Demand 1: every job, given any bytes, answers with a number of the table, and with one that the table has for it. A reader has to believe this file. Assumes nothing.
+use mathlib.Core.Path.{_≡_}
 use mathlib.Core.Bool.{Bool, true, false, _||_}
 use mathlib.Core.List.{List, [], _∷_}
 use Prim.Native.Nat.{ℕ}
 use lib.Dec.{eqb}
-use mathlib.Core.Path.{_≡_}
-use Rattle.paths.specs.declared.request.Request.{Request}
 use Rattle.layout.specs.Errno.{EPERM, ENOENT, EBADF, EACCES, EBUSY, EXDEV, ENOTDIR, EISDIR, EINVAL, ENOSPC, EROFS, EMLINK, ENAMETOOLONG, ENOTEMPTY, ELOOP, inconsistent, wrongRequest, journalPending, notRecoverable, shortBuffer, badRow}
 use Rattle.consistency.specs.Consistent.{checkNumber}
+use Rattle.paths.specs.declared.request.Request.{Request}
 use Rattle.apply.specs.Apply.{applyNumber}
 use Rattle.rename.specs.Job.{renamed}
 use Rattle.recover.specs.Job.{recovered}

@@ -8,27 +8,27 @@ use native.Mathlib.Decide.{ℕ-discrete}
 use lib.Dec.{eqb, ltb}
 use lib.ListN.{length}
 use borrow.Author.Tests.{eqb-true}
+use Rattle.layout.specs.Errno.{inconsistent, journalPending, shortBuffer, badRow}
 use Rattle.layout.specs.Contents.{layoutGood, shapeOf}
+use Rattle.consistency.specs.Sound.{journalClear, bodiesGood}
+use Rattle.consistency.specs.Consistent.{consistent, recordsNumber, checkNumber}
 use Rattle.paths.specs.declared.request.Request.{Request}
 use Rattle.component.specs.Ways.{componentNumber}
 use Rattle.walk.specs.Walk.{haltNumber}
 use Rattle.walk.specs.Ends.{walkNumber}
-use Rattle.consistency.specs.Sound.{journalClear}
-use Rattle.consistency.specs.Consistent.{bodiesGood, consistent, recordsNumber, checkNumber}
-use Rattle.layout.specs.Errno.{inconsistent, journalPending, shortBuffer, badRow}
+use Rattle.refusals.specs.declared.case.Answer.the-variants.{Planned}
+use Rattle.refusals.specs.Steps.{numberOf, decide}
+use Rattle.refusals.specs.DecideLaws.{decide-number, decide-refused, decide-passed}
 use Rattle.plan.specs.Form.{planBytes}
 use Rattle.plan.specs.Fit.{applicable}
 use Rattle.plan.specs.Write.{Write}
 use Rattle.apply.specs.Apply.{applyNumber}
-use Rattle.refusals.specs.declared.case.Answer.the-variants.{Planned}
-use Rattle.refusals.specs.Steps.{numberOf, decide}
-use Rattle.refusals.specs.DecideLaws.{decide-number, decide-refused, decide-passed}
 use Rattle.rename.specs.Order.{early, late, order}
 use Rattle.rename.specs.Job.{renamed}
 use Rattle.recover.specs.Recover.{pendingRows}
 use Rattle.recover.specs.Job.{refused, done, byRows, recovered}
-use Rattle.demands.specs.Begun.{old-facts, new-facts}
 use Rattle.demands.specs.Demand1.{Demand1, among, checkNumbers, landNumbers, renameNumbers, repairNumbers}
+use Rattle.demands.specs.Begun.{old-facts, new-facts}
 
 pub check-listed : (s : List ℕ) → among checkNumbers (checkNumber s) ≡ true
 unfolding checkNumber recordsNumber

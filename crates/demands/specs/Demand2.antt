@@ -11,15 +11,15 @@ use Rattle.layout.specs.View.{viewOf}
 use Rattle.consistency.specs.Consistent.{checkNumber}
 use Rattle.paths.specs.declared.request.Request.{Request}
 use Rattle.paths.specs.Request.{requestGood}
-use Rattle.crash_theorem.specs.Pick.{Empty}
-use Rattle.plan.specs.Jobs.{jobsIn}
-use Rattle.plan.specs.Form.{planBytes, cleared}
 use Rattle.refusals.specs.declared.case.Answer.the-variants.{Refused, Planned}
 use Rattle.refusals.specs.Steps.{Rule, refuse, numberOf, decide}
+use Rattle.plan.specs.Form.{planBytes, cleared}
+use Rattle.plan.specs.Jobs.{jobsIn}
+use Rattle.crash_theorem.specs.Pick.{Empty}
 use Rattle.rename.specs.Order.{walks, inodeOf, late}
 use Rattle.rename.specs.Job.{answer, move, called, renamed, planAfter}
 use Rattle.outcome.specs.Outcome.{finished}
-use Rattle.demands.specs.Crashes.{Event, State, rename, run, begun, appliedAll}
+use Rattle.demands.specs.Crashes.{Event, State, rename, run, atFirst, appliedAll}
 
 -- What is given: a consistent image (check answers 0 on it), a plan buffer that is long enough, and a time that fits its eight bytes.
 pub record Given (s plan : List ℕ) (q : Request) : Type 0 where
@@ -41,7 +41,7 @@ module _ (s plan : List ℕ) (q : Request) (old new : List ℕ) where
   thePlan = planAfter s plan q old new
 
   abbrev pub after : List Event → State
-  after es = run (begun s thePlan) es
+  after es = run (atFirst s thePlan) es
 
   pub record Demand2 : Type 0 where
     -- the answer is the first refusal that applies, in the order of the rules, or success if none does

@@ -3,33 +3,35 @@ use mathlib.Core.Path.{_≡_, ap, _∙_, subst, refl}
 use mathlib.Core.Bool.{true}
 use mathlib.Core.List.{List, [], _∷_, map}
 use Prim.Native.Nat.{ℕ}
+use lib.Dec.{T}
 use borrow.Author.Tests.{le-ltb, eq-eqb}
+use Rattle.layout.specs.declared.Shape.{Shape}
 use Rattle.layout.specs.Contents.{shapeOf}
 use Rattle.layout.specs.View.{viewOf}
 use Rattle.consistency.specs.ConsistentLaws.{checked-consistent}
-use Rattle.consistency.specs.Facts.{Consistent, consistent-is, is-bodies}
+use Rattle.consistency.specs.SoundFacts.{is-bodies}
+use Rattle.consistency.specs.Facts.{Consistent}
+use Rattle.consistency.specs.FactLaws.{consistent-is}
 use Rattle.paths.specs.declared.request.Request.{Request}
 use Rattle.paths.specs.Request.{requestGood}
-use Rattle.crash_theorem.specs.Store.{putAll}
-use Rattle.image_store.specs.JobLaws.{jobs}
-use Rattle.plan.specs.Jobs.{jobsIn, Job}
 use Rattle.refusals.specs.declared.case.Answer.{Answer}
 use Rattle.refusals.specs.declared.case.Answer.the-variants.{Same, Planned}
 use Rattle.refusals.specs.Steps.{numberOf, decide}
 use Rattle.refusals.specs.DecideLaws.{steps-same}
-use Rattle.rename.specs.Order.{walks, inodeOf, caseOf, order}
-use Rattle.rename.specs.Job.{answer, rowsBy, planBy, renamed, planAfter}
-use Rattle.outcome.specs.Applied.{applied-in-order}
-use Rattle.outcome.specs.Consistent.{finished-checked}
-use Rattle.demands.specs.Demand2.{Demand2, Given, refusals, finishedImage, thePlan, after}
-use lib.Dec.{T}
-use Rattle.layout.specs.declared.Shape.{Shape}
+use Rattle.plan.specs.Jobs.{jobsIn, Job}
 use Rattle.apply.specs.Apply.{appliedImage}
 use Rattle.crash_theorem.specs.Pick.{Empty}
 use Rattle.crash_theorem.specs.PickLaws.{empty-null}
+use Rattle.crash_theorem.specs.Store.{putAll}
 use Rattle.crash_theorem.specs.Events as theory
+use Rattle.rename.specs.Order.{walks, inodeOf, caseOf, order}
+use Rattle.rename.specs.Job.{answer, rowsBy, planBy, renamed, planAfter}
+use Rattle.image_store.specs.JobLaws.{jobs}
+use Rattle.outcome.specs.Applied.{applied-in-order}
+use Rattle.outcome.specs.Consistent.{finished-checked}
 use Rattle.rename_survives.specs.Safe.{rename-safe, rename-goal}
 use Rattle.demands.specs.Crashes.{Event, rename, appliedAll}
+use Rattle.demands.specs.Demand2.{Demand2, Given, refusals, finishedImage, thePlan, after}
 use Rattle.demands.specs.Retold.{phase, eventOf}
 use Rattle.demands.specs.Planned.{planned-move, planned-bytes, planned-state}
 

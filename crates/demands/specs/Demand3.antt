@@ -18,11 +18,11 @@ use Rattle.crash_theorem.specs.Turn.{Turn}
 use Rattle.rename.specs.Order.{walks, inodeOf}
 use Rattle.rename.specs.Job.{renamed}
 use Rattle.recover.specs.Job.{recovered}
-use Rattle.demands.specs.Demand2.{finishedImage, thePlan, after}
 use Rattle.demands.specs.Crashes.{Event, apply, crash, groupOf, step, run, entryApplied}
+use Rattle.demands.specs.Demand2.{finishedImage, thePlan, after}
 
 -- What is given: a consistent image (check answers 0 on it), and a rename on it that answered 0 with rows. A time fits its eight bytes.
-pub record Renamed (s plan : List ℕ) (q : Request) (old new : List ℕ) : Type 0 where
+pub record GivenRename (s plan : List ℕ) (q : Request) (old new : List ℕ) : Type 0 where
   pub sound : checkNumber s ≡ 0
   pub answered : renamed s plan q old new .number ≡ 0
   pub rows : 1 ≤ renamed s plan q old new .rows

@@ -13,40 +13,40 @@ use Rattle.layout.specs.declared.Shape.{Shape}
 use Rattle.layout.specs.Contents.{shapeOf}
 use Rattle.layout.specs.View.{entryUsed}
 use Rattle.consistency.specs.Consistent.{checkNumber}
+use Rattle.edits.specs.Kinds.{EntryUsed}
 use Rattle.paths.specs.declared.request.Request.{Request}
 use Rattle.component.specs.Step.{existing}
 use Rattle.walk.specs.Ends.{Existing}
+use Rattle.refusals.specs.declared.case.Answer.{Answer}
+use Rattle.refusals.specs.declared.case.Answer.the-variants.{Refused, Same, Planned}
 use Rattle.plan.specs.Form.{planBytes, rowAt}
+use Rattle.plan.specs.Jobs.{Job}
 use Rattle.apply.specs.Apply.{applyNumber}
+use Rattle.results.specs.declared.Move.{Move}
 use Rattle.crash_theorem.specs.Pick.{All, Empty, Has}
 use Rattle.crash_theorem.specs.Turn.{Turn}
 use Rattle.crash_theorem.specs.Change.{Change}
 use Rattle.crash_theorem.specs.Events as theory
-use Rattle.image_store.specs.JobLaws.{jobs}
-use Rattle.plan.specs.Jobs.{Job}
-use Rattle.image_store.specs.Buffers.{Buffers, enough}
-use Rattle.image_store.specs.BuffersLaws.{is-enough}
-use Rattle.edits.specs.Kinds.{EntryUsed}
-use Rattle.results.specs.declared.Move.{Move}
-use Rattle.refusals.specs.declared.case.Answer.{Answer}
-use Rattle.refusals.specs.declared.case.Answer.the-variants.{Refused, Same, Planned}
-use Rattle.rename.specs.Order.{walks, slotOf}
 use Rattle.moves.specs.Plan.{moveOf}
+use Rattle.rename.specs.Order.{walks, slotOf}
 use Rattle.rename.specs.Job.{answer, move, called, rowsBy, renamed}
 use Rattle.recover.specs.Job.{recovered}
+use Rattle.image_store.specs.Buffers.{Buffers, enough}
+use Rattle.image_store.specs.BuffersLaws.{is-enough}
+use Rattle.image_store.specs.JobLaws.{jobs}
 use Rattle.outcome.specs.RenamePlanLaws.{rename-planned}
 use Rattle.outcome.specs.Called.{Called}
-use Rattle.rename_survives.specs.Safe.{rename-group}
 use Rattle.rename_survives.specs.Run.{NamesKept}
+use Rattle.rename_survives.specs.Safe.{rename-group}
 use Rattle.rename_survives.specs.Survives.{state, Survives}
 use Rattle.rename_survives.specs.SurvivesProof.{rename-survives}
-use Rattle.demands.specs.Called.{planned-new}
 use Rattle.demands.specs.Crashes.{Event, apply, crash, State, groupOf, step, run, entryApplied}
+use Rattle.demands.specs.Demand2.{thePlan, after}
+use Rattle.demands.specs.Demand3.{Demand3, GivenRename, before, moved, now}
+use Rattle.demands.specs.Called.{planned-new}
 use Rattle.demands.specs.Retold.{stateOf, eventOf}
 use Rattle.demands.specs.RetoldLaws.{same-step, same-run, same-decision, places}
-use Rattle.demands.specs.Demand2.{thePlan, after}
-use Rattle.demands.specs.Planned.{planned-move, planned-room, change, planned-bytes, planned-state}
-use Rattle.demands.specs.Demand3.{Demand3, Renamed, before, moved, now}
+use Rattle.demands.specs.Planned.{planned-move, planned-room, planned-change, planned-bytes, planned-state}
 
 -- rows are planned only where the answer is so
 planned-answer : (s plan : List ℕ) (q : Request) (old new : List ℕ) → 1 ≤ renamed s plan q old new .rows → answer s plan q old new ≡ Planned
@@ -58,7 +58,7 @@ planned-answer s plan q old new rows = go (answer s plan q old new) refl rows
     go Same e l = absurd (omega arith)
     go Planned e l = e
 
-module _ {s plan : List ℕ} {q : Request} {old new : List ℕ} (given : Renamed s plan q old new) where
+module _ {s plan : List ℕ} {q : Request} {old new : List ℕ} (given : GivenRename s plan q old new) where
   abbrev h : Shape
   h = shapeOf s
 
@@ -78,7 +78,7 @@ module _ {s plan : List ℕ} {q : Request} {old new : List ℕ} (given : Renamed
   long = planned-room s plan q old new is-planned (given .time)
 
   abbrev 𝓒 : Change (jobs h s)
-  𝓒 = change s plan q old new is-planned (given .time)
+  𝓒 = planned-change s plan q old new is-planned (given .time)
 
   module _ (es : List Event) where
     abbrev x : State

@@ -1,4 +1,5 @@
--- A line of a table of renames: what is asked, and what the definitions of the jobs rename, land and check make of it. Assumes nothing.
+-- A line of a table of renames: what is asked, and what the definitions of the jobs rename, land and check make of it. A reader has to believe this file.
+-- Assumes nothing.
 use mathlib.Core.Bool.{Bool, true, _&&_, cond}
 use mathlib.Core.List.{List, [], _∷_, _++_, map}
 use Prim.Native.Nat.{ℕ, zero, suc}
@@ -6,9 +7,9 @@ use lib.Dec.{eqb}
 use lib.ListN.{replicate, drop}
 use Rattle.seq.specs.Search.{first}
 use Rattle.seq.specs.Bytes.{part, zeros}
+use Rattle.layout.specs.Place.{recordBytes}
 use Rattle.layout.specs.Contents.{shapeOf}
 use Rattle.layout.specs.Fields.{journalNewSlot}
-use Rattle.layout.specs.Place.{recordBytes}
 use Rattle.layout.specs.View.{View, viewOf, inodeAt}
 use Rattle.consistency.specs.Consistent.{checkNumber}
 use Rattle.paths.specs.declared.request.Request.{Request}

@@ -2,8 +2,8 @@
 use mathlib.Core.List.{List}
 use Prim.Native.Nat.{ℕ}
 use Rattle.plan.specs.Jobs.{Job}
-use Rattle.image_store.specs.Buffers.{Buffers}
 use Rattle.crash_theorem.specs.Events as theory
+use Rattle.image_store.specs.Buffers.{Buffers}
 use Rattle.demands.specs.Crashes.{Event, apply, refused, crash, Whose, rename, recovery, nobody, State}
 
 -- what waits, by whose it is

@@ -7,18 +7,18 @@ use Prim.Native.Nat.{ℕ, zero, suc}
 use lib.Dec.{eqb}
 use Rattle.layout.specs.declared.Shape.{Shape}
 use Rattle.plan.specs.Form.{rowAt, entryGroup}
+use Rattle.plan.specs.Jobs.{Job}
 use Rattle.apply.specs.Apply.{applyNumber}
+use Rattle.results.specs.declared.Move.{Move}
 use Rattle.crash_theorem.specs.Pick.{All, Picked, pick}
 use Rattle.crash_theorem.specs.Turn.{lowest}
 use Rattle.crash_theorem.specs.Change.{Change}
 use Rattle.crash_theorem.specs.Finish.{OnlyApplies}
-use Rattle.image_store.specs.JobLaws.{jobs}
-use Rattle.plan.specs.Jobs.{Job}
-use Rattle.image_store.specs.Recovery.{answer}
-use Rattle.recover.specs.Job.{recovered}
-use Rattle.results.specs.declared.Move.{Move}
-use Rattle.rename_survives.specs.Run.{renameJobs}
 use Rattle.crash_theorem.specs.Events as theory
+use Rattle.recover.specs.Job.{recovered}
+use Rattle.image_store.specs.JobLaws.{jobs}
+use Rattle.image_store.specs.Recovery.{waitingAt}
+use Rattle.rename_survives.specs.Run.{renameJobs}
 use Rattle.demands.specs.Crashes.{Event, apply, refused, crash, Whose, rename, recovery, nobody, State, groupOf, taken, atPlace, tried, answered, step, run, hasEntry}
 use Rattle.demands.specs.Retold.{stateOf, eventOf}
 
@@ -46,7 +46,7 @@ module _ (h : Shape) (s : List ℕ) (m : Move) (called buffer : List ℕ) where
   same-tried true x plan n = refl
   same-tried false x plan n = refl
 
-  same-answered : (x : State) (n : ℕ) (plan : List ℕ) → stateOf (answered x n plan) ≡ theory.answered 𝓒 (stateOf x) (answer n plan)
+  same-answered : (x : State) (n : ℕ) (plan : List ℕ) → stateOf (answered x n plan) ≡ theory.answered 𝓒 (stateOf x) (waitingAt n plan)
   same-answered x zero plan = refl
   same-answered x (suc n) plan = refl
 

@@ -1,13 +1,14 @@
--- The table of renames on the bench tree: the lines that the build description stars, in its order, with what each is expected to give. Assumes nothing.
+-- The table of renames on the bench tree: the lines that the build description stars, in its order, with what each is expected to give. A reader has to believe this
+-- file. Assumes nothing.
 use mathlib.Core.Bool.{true}
 use mathlib.Core.List.{List, [], _∷_, _++_}
 use Prim.Native.Nat.{ℕ, _-_}
 use lib.ListN.{length, replicate}
 use Rattle.seq.specs.Bytes.{put}
 use Rattle.seq.specs.Number.{bytesOf}
-use Rattle.layout.specs.Bench.{bench}
-use Rattle.paths.specs.declared.request.Request.{Request}
 use Rattle.layout.specs.Limits.{noHandle}
+use Rattle.layout.specs.BenchTree.{bench}
+use Rattle.paths.specs.declared.request.Request.{Request}
 use Rattle.plan.specs.Form.{planBytes}
 use Rattle.rename.specs.declared.Renamed.{Renamed}
 use Rattle.demands.specs.Line.{EntrySeen, Outcome, bytes, planned, Line, past, dirty}
@@ -82,8 +83,8 @@ abbrev pub answers : ℕ → ℕ → ℕ → ℕ → Renamed
 answers number rows old new = record { number = number; rows = rows; old = old; new = new }
 
 -- a number that is not 0: the plan buffer is as it was
-abbrev pub refused : ℕ → ℕ → ℕ → Outcome
-refused number old new = record { answer = answers number 0 old new; after = bytes dirty }
+abbrev pub refusedLine : ℕ → ℕ → ℕ → Outcome
+refusedLine number old new = record { answer = answers number 0 old new; after = bytes dirty }
 
 -- two names of one file: a plan of no rows
 abbrev pub same : ℕ → ℕ → Outcome
@@ -142,14 +143,14 @@ table =
     ∷ on bench owner /a/f /b/h (same 2 2)
     ∷ on bench owner /a/f /b/g (moves 8 2 2 (entry 5 2 3 g) (4 ∷ 3 ∷ 2 ∷ 2 ∷ 0 ∷ 2 ∷ 1 ∷ []) 4 thirdPlan)
     ∷ on bench owner /a/d /b/e/ (moves 7 2 2 (entry 7 2 5 e) (4 ∷ 2 ∷ 3 ∷ 2 ∷ 1 ∷ 2 ∷ 1 ∷ []) 7 directoryPlan)
-    ∷ on bench owner /a /a/d/x (refused 22 1 3)
-    ∷ on bench owner /a/f /a/d (refused 21 2 2)
-    ∷ on bench owner /b /a (refused 39 1 1)
+    ∷ on bench owner /a /a/d/x (refusedLine 22 1 3)
+    ∷ on bench owner /a/f /a/d (refusedLine 21 2 2)
+    ∷ on bench owner /b /a (refusedLine 39 1 1)
     ∷ on bench owner /s/f /k (moves 7 3 1 (entry 7 0 3 k) (4 ∷ 3 ∷ 2 ∷ 2 ∷ 1 ∷ 2 ∷ 1 ∷ []) 7 symlinkPlan)
-    ∷ on bench owner /a/f /k/ (refused 20 2 1)
+    ∷ on bench owner /a/f /k/ (refusedLine 20 2 1)
     ∷ on bench (caller 100 0) g /g (moves 7 1 1 (entry 7 0 4 g) (4 ∷ 3 ∷ 2 ∷ 2 ∷ 1 ∷ 2 ∷ 1 ∷ []) 7 handlePlan)
-    ∷ on bench (caller 100 9) g /g (refused 9 0 0)
-    ∷ on bench (caller 200 noHandle) /a/f /a/k (refused 13 2 2)
-    ∷ on full owner /a/f /a/k (refused 28 2 2)
+    ∷ on bench (caller 100 9) g /g (refusedLine 9 0 0)
+    ∷ on bench (caller 200 noHandle) /a/f /a/k (refusedLine 13 2 2)
+    ∷ on full owner /a/f /a/k (refusedLine 28 2 2)
     ∷ on full owner /a/f /b/g (moves 8 2 2 (entry 5 2 3 g) (4 ∷ 3 ∷ 2 ∷ 2 ∷ 1 ∷ 2 ∷ 1 ∷ []) 7 thirdPlan)
     ∷ []

@@ -1,9 +1,9 @@
 -- A pending rename that fits and the draft of a recovery: the tests' last ways out, the numbers' ranges, one law for each way out of the draft, and
 -- that its rows are such as an operation may write (rules 104 to 108). Assumes nothing.
 use mathlib.Core.Path.{_≡_, refl, _∙_, subst}
+use mathlib.Core.Logic.{_≢_}
 use mathlib.Core.Bool.{Bool, true, false, _&&_, not}
 use mathlib.Core.List.{List, [], _∷_}
-use mathlib.Core.Logic.{_≢_}
 use mathlib.Core.Option.{Option, none, some}
 use Prim.Native.Nat.{ℕ, zero, suc, _+_, _<_}
 use native.Mathlib.Omega.{arith}
@@ -11,16 +11,16 @@ use lib.Dec.{eqb, ltb}
 use borrow.Author.Tests.{ltb-true, lt-ltb, ne-eqb}
 use Rattle.seq.specs.Truth.{and-left, and-right, implies-at, by-test}
 use Rattle.layout.specs.declared.Shape.{Shape}
-use Rattle.layout.specs.ContentsLaws.{Laid}
+use Rattle.layout.specs.Limits.{absent}
+use Rattle.layout.specs.Facts.{Laid}
 use Rattle.layout.specs.View.{viewOf, journalAt, isDirectory}
 use Rattle.layout.specs.ViewLaws.{isKind-below}
 use Rattle.encode.specs.declared.journal.Journal.{Journal}
 use Rattle.encode.specs.Journal.{journalOf, journalFormed}
-use Rattle.layout.specs.Limits.{absent}
 use Rattle.plan.specs.Form.{planRows, rowPut}
 use Rattle.plan.specs.Write.{Write, rowFrom}
-use Rattle.plan.specs.WriteLaws.{writes-join, filled-one, filled-join}
 use Rattle.plan.specs.Filled.{AllWrites, Filled}
+use Rattle.plan.specs.WriteLaws.{writes-join, filled-one, filled-join}
 use Rattle.results.specs.declared.Move.{Move}
 use Rattle.results.specs.Results.{present, results, clearRow}
 use Rattle.results.specs.InImage.{InImage}

@@ -2,7 +2,7 @@
 use layout::Shape;
 ghost use Prim.Native.Nat.{_≤_};
 ghost use lib.ListN.{length};
-ghost use Rattle.layout.specs.ContentsLaws.{Laid};
+ghost use Rattle.layout.specs.Facts.{Laid};
 ghost use Rattle.plan.specs.Form.{planBytes};
 ghost use Rattle.drafts.specs.Draft.{draft};
 ghost use Rattle.drafts.specs.Drafted.{Drafted};

@@ -10,16 +10,16 @@ use Rattle.seq.specs.Number.{numberAt, bytesOf}
 use Rattle.layout.specs.Contents.{shapeOf}
 use Rattle.layout.specs.Record.{recordAt}
 use Rattle.layout.specs.View.{View, viewOf}
-use Rattle.layout.specs.Bench.{bench}
+use Rattle.layout.specs.BenchTree.{bench}
 use Rattle.tree.specs.Tree.{entriesOf, reaches}
-use Rattle.consistency.specs.Facts.{consistent-is}
 use Rattle.consistency.specs.Bench.{bench-consistent}
+use Rattle.consistency.specs.FactLaws.{consistent-is}
 use Rattle.edits.specs.ConsistentView.{ConsistentView}
 use Rattle.edits.specs.Moved.{Allowed}
 use Rattle.edits.specs.Renamed.{movedView}
 use Rattle.edits.specs.RenamedLaws.{renamed-consistent}
-use Rattle.edits.specs.Refusals.{missing-of, unopened-of, not-above-of}
 use Rattle.edits.specs.Bodies.{bodies-consistent}
+use Rattle.edits.specs.Refusals.{missing-of, unopened-of, not-above-of}
 
 abbrev pub v : View
 v = viewOf (shapeOf bench) bench

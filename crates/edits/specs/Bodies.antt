@@ -12,18 +12,18 @@ use Rattle.seq.specs.Truth.{not-both, refuted, and-left, and-right, and-both}
 use Rattle.seq.specs.SearchLaws.{any-not, any-false, any-hit, any-at}
 use Rattle.seq.specs.Climb.{up}
 use Rattle.layout.specs.declared.Shape.{Shape}
-use Rattle.layout.specs.View.{View, viewOf, isSymlink}
-use Rattle.tree.specs.TreeLaws.{reaches-goal}
-use Rattle.tree.specs.Tree.{hasText, textShared}
 use Rattle.layout.specs.Limits.{linkLimit}
+use Rattle.layout.specs.View.{View, viewOf, isSymlink}
+use Rattle.tree.specs.Tree.{hasText, textShared}
+use Rattle.tree.specs.TreeLaws.{reaches-goal}
 use Rattle.tree.specs.InodeFacts.{Leaf, File, Directory, Symlink, Inode}
 use Rattle.consistency.specs.Sound.{textLinked}
-use Rattle.consistency.specs.RecordFacts.{Linked, Entry, Text, Handle}
-use Rattle.consistency.specs.Facts.{Bodies}
+use Rattle.consistency.specs.RecordFacts.{Linked, Entry, Text, Handle, Bodies}
 use Rattle.edits.specs.Kinds.{IsDirectory, IsSymlink, IsUsed, IsLeaf, EntryUsed, TextUsed, HandleOpen}
-use Rattle.edits.specs.Tests.{kind-is, is-kind, no-kind, not-kind, used-is, is-used, clash-is, is-clash}
+use Rattle.edits.specs.Tests.{kind-is, kind-test, no-kind, not-kind, used-is, is-used, clash-is, is-clash}
 use Rattle.edits.specs.WayUp.{leads-way, way-leads}
-use Rattle.edits.specs.ConsistentView.{EntryLinked, Placed, Counted, Texts, ConsistentView, parent-directory}
+use Rattle.edits.specs.ConsistentView.{EntryLinked, Placed, Counted, Texts, ConsistentView}
+use Rattle.edits.specs.ConsistentViewLaws.{parent-directory}
 use Rattle.edits.specs.Formed.{Formed}
 
 -- the types of an inode in use
@@ -57,7 +57,7 @@ module _ {h : Shape} {s : List ℕ} (f : Bodies h s) where
         below-root = e .below-root;
         parent = kind-is v _ 2 (e .parent);
         target = used-is v _ (e .target);
-        above = λ d. e .up (is-kind v _ 2 d);
+        above = λ d. e .up (kind-test v _ 2 d);
         system = λ n. e .system (no-kind v _ 2 n);
       }
 
@@ -127,8 +127,8 @@ module _ {h : Shape} {s : List ℕ} (f : Bodies h s) where
   unfolding textShared
   own i k si sk e =
       no-smaller i k
-      (λ l. not-both _ (and-both _ _ (is-kind v i 3 si) (eq-eqb _ _ e)) (any-not _ k (symlink k sk .own) i l))
-      (λ l. not-both _ (and-both _ _ (is-kind v k 3 sk) (eq-eqb _ _ (sym e))) (any-not _ i (symlink i si .own) k l))
+      (λ l. not-both _ (and-both _ _ (kind-test v i 3 si) (eq-eqb _ _ e)) (any-not _ k (symlink k sk .own) i l))
+      (λ l. not-both _ (and-both _ _ (kind-test v k 3 sk) (eq-eqb _ _ (sym e))) (any-not _ i (symlink i si .own) k l))
 
   owned : (t : ℕ) → TextUsed v t → (i : ℕ) × IsSymlink v i × (v .field i ≡ t)
   unfolding textLinked viewOf
@@ -221,7 +221,7 @@ module _ {h : Shape} {s : List ℕ} (form : Formed h s) (good : ConsistentView (
   is-linked j u =
       let l = good .placed .entry j u in
       record {
-        parent = is-kind w _ 2 (l .parent);
+        parent = kind-test w _ 2 (l .parent);
         target = is-used w _ (l .target);
         below-root = l .below-root;
         up = λ d. l .above (kind-is w _ 2 d);
@@ -247,7 +247,7 @@ module _ {h : Shape} {s : List ℕ} (form : Formed h s) (good : ConsistentView (
       owner : w .textLength t ≢ 0 → textLinked w t ≡ true
       owner n =
           let (i, k, e) = good .texts .owned t (l, n) in
-          any-hit (hasText w t) (h .inodes) i (k .0) (and-both _ _ (is-kind w i 3 k) (eq-eqb _ _ e))
+          any-hit (hasText w t) (h .inodes) i (k .0) (and-both _ _ (kind-test w i 3 k) (eq-eqb _ _ e))
 
   is-handle : (n : ℕ) → n < h .handles → Handle h s n
   unfolding viewOf
@@ -262,7 +262,7 @@ module _ {h : Shape} {s : List ℕ} (form : Formed h s) (good : ConsistentView (
   pub consistent-bodies : Bodies h s
   unfolding viewOf
   consistent-bodies = record {
-    root = is-kind w 0 2 (good .placed .root);
+    root = kind-test w 0 2 (good .placed .root);
     inode = is-inode;
     entry = is-entry;
     distinct = λ i j l m. refuted _ (λ e. let (a, b, p, n) = clash-is w i j e in other i j l (good .distinct i j (omega arith, a) (m, b) p n));

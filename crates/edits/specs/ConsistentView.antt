@@ -1,17 +1,12 @@
 -- What the records of a consistent image say of each other, as facts over its view, one field for each rule. Assumes nothing.
-use mathlib.Core.Path.{_≡_, sym, ap, _∙_}
+use mathlib.Core.Path.{_≡_}
 use mathlib.Core.Logic.{_≢_}
 use Prim.Native.Nat.{ℕ, _+_, _≤_, _<_}
-use native.Mathlib.Decide.{ℕ-discrete}
-use native.Mathlib.Omega.{arith}
-use Rattle.seq.specs.CountLaws.{count-some}
 use Rattle.seq.specs.Climb.{up}
-use Rattle.seq.specs.ClimbLaws.{no-circle}
-use Rattle.layout.specs.View.{View}
-use Rattle.tree.specs.Tree.{targets, entriesOf, childDirectories}
 use Rattle.layout.specs.Limits.{linkLimit}
+use Rattle.layout.specs.View.{View}
+use Rattle.tree.specs.Tree.{entriesOf, childDirectories}
 use Rattle.edits.specs.Kinds.{IsKind, IsDirectory, IsSymlink, IsUsed, IsLeaf, EntryUsed, TextUsed, HandleOpen}
-use Rattle.edits.specs.Tests.{targets-is}
 
 -- what an entry in use names
 pub record EntryLinked (v : View) (j : ℕ) : Type 0 where
@@ -74,31 +69,3 @@ pub record ConsistentView (v : View) : Type 0 where
   pub texts : Texts v
   -- rule 40
   pub handles : (n : ℕ) → HandleOpen v n → IsUsed v (v .opened n)
-
-module _ (v : View) (placed : Placed v) where
-  -- a directory other than the root has an entry
-  entry-of : (i : ℕ) → IsDirectory v i → i ≢ 0 → (j : ℕ) × EntryUsed v j × (v .target j ≡ i)
-  unfolding entriesOf
-  entry-of i d n =
-      let (j, l, t) = count-some (targets v i) (v .entries) (omega (arith, placed .one-entry i d n)) in
-      let (u, e) = targets-is v i j t in
-      (j, (l, u), e)
-
-  -- so its field names a directory, and so does the root's
-  pub parent-directory : (i : ℕ) → IsDirectory v i → IsDirectory v (v .field i)
-  parent-directory i d = go (ℕ-discrete i 0)
-    where
-      go : Dec (i ≡ 0) → IsDirectory v (v .field i)
-      go (yes e) = rw (ap (v .field) e ∙ placed .top) (placed .root)
-      go (no n) =
-          let (j, u, e) = entry-of i d n in
-          let f : v .field i ≡ v .parent j = ap (v .field) (sym e) ∙ placed .entry j u .above (rw e d) in
-          rw f (placed .entry j u .parent)
-
--- no directory is the one that holds it, nor above it
-pub not-above-parent : (v : View) → ConsistentView v → (j : ℕ) → EntryUsed v j → IsDirectory v (v .target j) → (k : ℕ) → up (v .field) k (v .parent j) ≢ v .target j
-unfolding up
-not-above-parent v good j u d k e =
-    let l = good .placed .entry j u in
-    let (n, way) = good .leads (v .target j) d in
-    l .below-root (no-circle (v .field) 0 (v .target j) k (good .placed .top) (ap (up (v .field) k) (l .above d) ∙ e) n way)

@@ -8,20 +8,24 @@ use native.Mathlib.Omega.{arith}
 use Rattle.seq.specs.Count.{Off, On, bit}
 use Rattle.seq.specs.CountLaws.{bit-le, on-or-off, count-zero, count-unique}
 use Rattle.seq.specs.Climb.{up}
+use Rattle.layout.specs.Limits.{linkLimit}
 use Rattle.layout.specs.View.{View}
 use Rattle.tree.specs.Tree.{targets, entriesOf, holdsDirectory, childDirectories}
-use Rattle.layout.specs.Limits.{linkLimit}
 use Rattle.edits.specs.Kinds.{IsDirectory, IsUsed, IsLeaf, EntryUsed, HandleOpen}
 use Rattle.edits.specs.KindsLaws.{directory-used, kind?, entry-used?}
 use Rattle.edits.specs.Tests.{is-targets, no-targets, same-target, is-holds, no-holds}
-use Rattle.edits.specs.ConsistentView.{EntryLinked, ConsistentView, not-above-parent}
-use Rattle.edits.specs.Edit.{SameInode, Edit, was, stayed, entry-was, linked-new, entries-edited}
-use Rattle.edits.specs.InodeChange.{InodeChange, below, same-was, children-changed, handles-same}
-use Rattle.edits.specs.TextChange.{TextChange, texts-freed}
+use Rattle.edits.specs.ConsistentView.{EntryLinked, ConsistentView}
+use Rattle.edits.specs.ConsistentViewLaws.{not-above-parent}
+use Rattle.edits.specs.Edit.{SameInode, Edit}
+use Rattle.edits.specs.EditLaws.{was, stayed, entry-was, linked-new, entries-edited}
+use Rattle.edits.specs.TextChange.{TextChange}
+use Rattle.edits.specs.TextChangeLaws.{texts-freed}
 use Rattle.edits.specs.Settled.{SameEntries, SameChildren, DirectoryCount, LeafCount}
 use Rattle.edits.specs.SettledLaws.{change-consistent}
 use Rattle.edits.specs.Moved.{Allowed, Replaced, Gone, Moved}
 use Rattle.edits.specs.MovedLaws.{replaced?, gone?}
+use Rattle.edits.specs.InodeChange.{InodeChange}
+use Rattle.edits.specs.InodeChangeLaws.{inode-below, same-was, children-changed, handles-same}
 
 module _ {v : View} {old new moved from into : ℕ} {called : List ℕ} (good : ConsistentView v) (ok : Allowed v old new moved from into called) where
   abbrev slots : List ℕ
@@ -159,7 +163,7 @@ module _ {v : View} {old new moved from into : ℕ} {called : List ℕ} (good : 
     directory-not-replaced : (i : ℕ) → IsDirectory w i → Replaced v new i → ⊥
     directory-not-replaced i d r =
         let one = good .placed .one-entry i (directory-was i d) (λ z. good .placed .entry new (r .0) .below-root (r .1 ∙ z)) in
-        directory-used w i d .1 (m .freed i (below change i (d .0)) (r, omega (arith, entries-lost i r)))
+        directory-used w i d .1 (m .freed i (inode-below change i (d .0)) (r, omega (arith, entries-lost i r)))
 
     -- the way up from the new parent does not meet the moved inode
     clear : (i : ℕ) → Reparented i → IsDirectory v (w .field i) × ((k : ℕ) → Reparented (up (v .field) k (w .field i)) → ⊥)
@@ -222,7 +226,7 @@ module _ {v : View} {old new moved from into : ℕ} {called : List ℕ} (good : 
     directory-count d h = go (ℕ-discrete d from) (ℕ-discrete d into)
       where
         b : d < v .inodes
-        b = below change d (h .0)
+        b = inode-below change d (h .0)
 
         go : Dec (d ≡ from) → Dec (d ≡ into) → DirectoryCount v w slots d
         go (yes e) x = inl (m .parents d b (inl e), children-within d h)
@@ -233,7 +237,7 @@ module _ {v : View} {old new moved from into : ℕ} {called : List ℕ} (good : 
     leaf-count i (l, u, n) = go (replaced? v new i)
       where
         b : IsLeaf v i
-        b = let k = used-same i (l, u) .kind in (below change i l, λ z. u (k ∙ z), λ z. n (k ∙ z))
+        b = let k = used-same i (l, u) .kind in (inode-below change i l, λ z. u (k ∙ z), λ z. n (k ∙ z))
 
         left : Gone v w new i → ⊥
         left g = u (m .freed i (b .0) g)
@@ -281,8 +285,8 @@ module _ {v : View} {old new moved from into : ℕ} {called : List ℕ} (good : 
         closed n o g = ok .unopened (g .0 .0) (ap (entriesOf v) (g .0 .1) ∙ last _ g) n o (sym (g .0 .1))
 
     -- The finished view is consistent.
-    pub finished-consistent : ConsistentView w
-    finished-consistent = change-consistent change good record {
+    pub moved-consistent : ConsistentView w
+    moved-consistent = change-consistent change good record {
       written = written;
       named = named;
       one-entry = λ i d _. inr (directory-was i d, entries-kept i (directory-not-replaced i d));

@@ -3,9 +3,9 @@ use mathlib.Core.List.{List}
 use Prim.Native.Nat.{ℕ}
 use Rattle.layout.specs.declared.Shape.{Shape}
 use Rattle.layout.specs.View.{viewOf}
-use Rattle.consistency.specs.Facts.{Bodies}
+use Rattle.consistency.specs.RecordFacts.{Bodies}
 use Rattle.edits.specs.Moved.{Allowed, Moved}
-use Rattle.edits.specs.Finished.{finished-consistent}
+use Rattle.edits.specs.Finished.{moved-consistent}
 use Rattle.edits.specs.Formed.{Formed}
 use Rattle.edits.specs.Bodies.{bodies-consistent, consistent-bodies}
 
@@ -15,4 +15,4 @@ pub rename-consistent : {h : Shape} {s t : List ℕ} {old new moved from into : 
     → Moved (viewOf h s) (viewOf h t) old new moved from into called
     → Formed h t
     → Bodies h t
-rename-consistent f ok m form = consistent-bodies form (finished-consistent (bodies-consistent f) ok m)
+rename-consistent f ok m form = consistent-bodies form (moved-consistent (bodies-consistent f) ok m)

@@ -3,8 +3,11 @@ pub mod KindsLaws
 pub mod Tests
 pub mod WayUp
 pub mod ConsistentView
+pub mod ConsistentViewLaws
 pub mod Edit
+pub mod EditLaws
 pub mod TextChange
+pub mod TextChangeLaws
 pub mod Settled
 pub mod SettledLaws
 pub mod Moved
@@ -13,6 +16,7 @@ pub mod Finished
 pub mod Renamed
 pub mod RenamedLaws
 pub mod Formed
+pub mod FormedLaws
 pub mod Bodies
 pub mod FinishedBodies
 pub mod Refusals
@@ -20,3 +24,4 @@ pub mod Written
 pub mod WrittenLaws
 pub mod Bench
 pub mod InodeChange
+pub mod InodeChangeLaws

@@ -5,9 +5,9 @@ use mathlib.Core.Logic.{_≢_, _⊎_}
 use mathlib.Core.List.{List}
 use Prim.Native.Nat.{ℕ, _+_, _<_}
 use Rattle.seq.specs.Climb.{up}
+use Rattle.layout.specs.Limits.{linkLimit}
 use Rattle.layout.specs.View.{View}
 use Rattle.tree.specs.Tree.{entriesOf, childDirectories}
-use Rattle.layout.specs.Limits.{linkLimit}
 use Rattle.edits.specs.Kinds.{IsDirectory, IsSymlink, EntryUsed, HandleOpen}
 use Rattle.edits.specs.Edit.{SameEntry, SameInode, SameHandle, SameSize}
 

@@ -6,17 +6,18 @@ use mathlib.Core.List.{List}
 use Prim.Native.Nat.{ℕ}
 use lib.Dec.{eqb}
 use borrow.Author.Tests.{eq-eqb, ne-eqb}
-use Rattle.seq.specs.Truth.{not-both}
 use Rattle.seq.specs.Search.{any}
-use Rattle.seq.specs.SearchLaws.{any-not}
 use Rattle.seq.specs.Bytes.{sameBytes}
-use Rattle.seq.specs.BytesLaws.{same-refl}
+use Rattle.seq.specs.Truth.{not-both}
+use Rattle.seq.specs.SearchLaws.{any-not}
 use Rattle.seq.specs.Climb.{up}
+use Rattle.seq.specs.BytesLaws.{same-refl}
 use Rattle.layout.specs.View.{View, entryUsed, handleOpen}
-use Rattle.edits.specs.Kinds.{IsDirectory, EntryUsed, HandleOpen}
 use Rattle.tree.specs.Tree.{reaches}
+use Rattle.edits.specs.Kinds.{IsDirectory, EntryUsed, HandleOpen}
 use Rattle.edits.specs.WayUp.{no-way}
-use Rattle.edits.specs.ConsistentView.{ConsistentView, parent-directory}
+use Rattle.edits.specs.ConsistentView.{ConsistentView}
+use Rattle.edits.specs.ConsistentViewLaws.{parent-directory}
 
 module _ (v : View) where
   -- the lookup of new's name: no entry of the directory has it

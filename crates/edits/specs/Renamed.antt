@@ -13,8 +13,8 @@ module _ (v : View) (old new moved from into : ℕ) (called : List ℕ) where
   at-slots x y f j = cond (eqb j new) x (cond (eqb j old) y (f j))
 
   -- the entries as edited, the inodes as before
-  unfoldable pub edited : View
-  edited = record {
+  unfoldable pub editedView : View
+  editedView = record {
     inodes = v .inodes;
     entries = v .entries;
     texts = v .texts;
@@ -44,11 +44,11 @@ module _ (v : View) (old new moved from into : ℕ) (called : List ℕ) where
   isReplaced i = entryUsed v new && eqb (v .target new) i
 
   abbrev pub isGone : ℕ → Bool
-  isGone i = isReplaced i && eqb (entriesOf edited i) 0
+  isGone i = isReplaced i && eqb (entriesOf editedView i) 0
 
   -- link counts, fields and texts
   abbrev pub linksOf : ℕ → ℕ
-  linksOf i = cond (eqb i from || eqb i into) (2 + childDirectories edited i) (cond (isReplaced i) (entriesOf edited i) (v .links i))
+  linksOf i = cond (eqb i from || eqb i into) (2 + childDirectories editedView i) (cond (isReplaced i) (entriesOf editedView i) (v .links i))
 
   abbrev pub fieldOf : ℕ → ℕ
   fieldOf i = cond (eqb i moved && isDirectory v moved) into (v .field i)
@@ -58,7 +58,7 @@ module _ (v : View) (old new moved from into : ℕ) (called : List ℕ) where
 
   -- the finished view, but for the times: no rule of a consistent image speaks of them
   unfoldable pub movedView : View
-  unfolding edited
+  unfolding editedView
   movedView = record {
     inodes = v .inodes;
     entries = v .entries;
@@ -74,10 +74,10 @@ module _ (v : View) (old new moved from into : ℕ) (called : List ℕ) where
     field = λ i. cond (isGone i) 0 (fieldOf i);
     modified = v .modified;
     changed = v .changed;
-    parent = edited .parent;
-    target = edited .target;
-    nameLength = edited .nameLength;
-    name = edited .name;
+    parent = editedView .parent;
+    target = editedView .target;
+    nameLength = editedView .nameLength;
+    name = editedView .name;
     textLength = λ t. cond (textGone t) 0 (v .textLength t);
     text = v .text;
     state = v .state;

@@ -13,17 +13,18 @@ use Rattle.seq.specs.CountLaws.{count-zero}
 use Rattle.layout.specs.View.{View, isDirectory}
 use Rattle.tree.specs.Tree.{targets, entriesOf, childDirectories}
 use Rattle.edits.specs.Kinds.{IsDirectory, IsSymlink, EntryUsed}
-use Rattle.edits.specs.Tests.{kind-is, is-kind, is-targets}
+use Rattle.edits.specs.Tests.{kind-is, kind-test, is-targets}
 use Rattle.edits.specs.ConsistentView.{ConsistentView}
-use Rattle.edits.specs.Edit.{SameInode, Edit, entries-edited, children-edited}
+use Rattle.edits.specs.Edit.{SameInode, Edit}
+use Rattle.edits.specs.EditLaws.{entries-edited, children-edited}
 use Rattle.edits.specs.Moved.{Allowed, Replaced, Gone, Moved}
-use Rattle.edits.specs.Finished.{slots-differ, from-stays, into-stays, moved-stays, finished-consistent}
-use Rattle.edits.specs.Renamed.{edited, isReplaced, isGone, textGone, movedView}
+use Rattle.edits.specs.Finished.{slots-differ, from-stays, into-stays, moved-stays, moved-consistent}
+use Rattle.edits.specs.Renamed.{editedView, isReplaced, isGone, textGone, movedView}
 
 module _ {v : View} {old new moved from into : ℕ} {called : List ℕ} (good : ConsistentView v) (ok : Allowed v old new moved from into called)
     (nonempty : length called ≢ 0) where
   abbrev e : View
-  e = edited v old new moved from into called
+  e = editedView v old new moved from into called
 
   abbrev w : View
   w = movedView v old new moved from into called
@@ -36,7 +37,7 @@ module _ {v : View} {old new moved from into : ℕ} {called : List ℕ} (good : 
 
   -- the recount does not see what becomes of the inodes
   recounted : Edit e w []
-  unfolding edited movedView
+  unfolding editedView movedView
   recounted = record {
     size = record { inodes = refl; entries = refl; texts = refl; handles = refl };
     places = tt;
@@ -76,7 +77,7 @@ module _ {v : View} {old new moved from into : ℕ} {called : List ℕ} (good : 
   named-kept j l g = count-zero (targets e _) (e .entries) (sym (entries-same _) ∙ g .1) j (l .0) (is-targets e _ j (l .1) refl)
 
   children-same : (d : ℕ) → childDirectories w d ≡ childDirectories e d
-  unfolding edited
+  unfolding editedView
   children-same d = omega (arith, children-edited recounted (λ j _ l. same _ (named-kept j l) .kind) d)
 
   -- the parents are not replaced
@@ -98,7 +99,7 @@ module _ {v : View} {old new moved from into : ℕ} {called : List ℕ} (good : 
       refuted _ (λ h. n (v .target new) (gone-is _ (search (and-left, and-right))) (kind-is v _ 3 (search (and-left, and-right))) (eqb-true _ _ (search (and-left, and-right))))
 
   pub renamed-moved : Moved v w old new moved from into called
-  unfolding edited movedView
+  unfolding editedView movedView
   renamed-moved = record {
     size = record { inodes = refl; entries = refl; texts = refl; handles = refl };
     entry = λ j _ a b.
@@ -112,7 +113,7 @@ module _ {v : View} {old new moved from into : ℕ} {called : List ℕ} (good : 
     name = rw (eq-eqb new new refl);
     freed = λ i _ g. rw (is-gone i g);
     same = λ i _. same i;
-    reparented = λ d. rw (not-gone moved (λ g. moved-stays good ok (g .0)), eq-eqb moved moved refl, is-kind v moved 2 d);
+    reparented = λ d. rw (not-gone moved (λ g. moved-stays good ok (g .0)), eq-eqb moved moved refl, kind-test v moved 2 d);
     field = λ i _ n r. rw (not-gone i n, not-reparented i r);
     parents = λ i _ h. rw (not-gone i (λ g. parent-stays i h (g .0)), is-parent i h) (ap (λ n. 2 + n) (sym (children-same i)));
     replaced = λ i _ r n.
@@ -125,8 +126,8 @@ module _ {v : View} {old new moved from into : ℕ} {called : List ℕ} (good : 
     where
       text-freed : (i : ℕ) → Gone v w new i → IsSymlink v i → w .textLength (v .field i) ≡ 0
       text-freed i ((u, t), z) l =
-          rw (is-gone (v .target new) ((u, refl), ap (entriesOf w) t ∙ z), is-kind v (v .target new) 3 (rw t l), eq-eqb _ _ (ap (v .field) t))
+          rw (is-gone (v .target new) ((u, refl), ap (entriesOf w) t ∙ z), kind-test v (v .target new) 3 (rw t l), eq-eqb _ _ (ap (v .field) t))
 
   -- The finished view of a rename is consistent.
   pub renamed-consistent : ConsistentView w
-  renamed-consistent = finished-consistent good ok renamed-moved
+  renamed-consistent = moved-consistent good ok renamed-moved

@@ -5,9 +5,9 @@ use mathlib.Core.List.{List}
 use Prim.Native.Nat.{ℕ, _+_, _≤_, _<_}
 use Rattle.seq.specs.Count.{On, bits}
 use Rattle.seq.specs.Climb.{up}
+use Rattle.layout.specs.Limits.{linkLimit}
 use Rattle.layout.specs.View.{View}
 use Rattle.tree.specs.Tree.{targets, entriesOf, holdsDirectory, childDirectories}
-use Rattle.layout.specs.Limits.{linkLimit}
 use Rattle.edits.specs.Kinds.{IsDirectory, IsLeaf, EntryUsed, HandleOpen}
 use Rattle.edits.specs.ConsistentView.{EntryLinked}
 use Rattle.edits.specs.TextChange.{TextChange}

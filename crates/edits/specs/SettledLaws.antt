@@ -4,16 +4,17 @@ use mathlib.Core.Logic.{⊎-elim}
 use mathlib.Core.List.{List}
 use Prim.Native.Nat.{ℕ, _≤_, _<_}
 use native.Mathlib.Omega.{arith}
+use Rattle.layout.specs.Limits.{linkLimit}
 use Rattle.layout.specs.View.{View}
 use Rattle.tree.specs.Tree.{entriesOf, childDirectories}
-use Rattle.layout.specs.Limits.{linkLimit}
 use Rattle.edits.specs.Kinds.{IsKind, IsDirectory, IsUsed}
 use Rattle.edits.specs.KindsLaws.{directory-used, kind?}
 use Rattle.edits.specs.ConsistentView.{Placed, Counted, ConsistentView}
-use Rattle.edits.specs.Edit.{kept, was, entries-edited, distinct-edited}
-use Rattle.edits.specs.InodeChange.{InodeChange, below, not-gone, same-was, same-is, entry-changed, children-changed, leads-changed, handles-changed}
-use Rattle.edits.specs.TextChange.{texts-changed}
+use Rattle.edits.specs.EditLaws.{kept, was, entries-edited, distinct-edited}
+use Rattle.edits.specs.TextChangeLaws.{texts-changed}
 use Rattle.edits.specs.Settled.{SameEntries, SameChildren, Settled}
+use Rattle.edits.specs.InodeChange.{InodeChange}
+use Rattle.edits.specs.InodeChangeLaws.{inode-below, not-gone, same-was, same-is, entry-changed, children-changed, leads-changed, handles-changed}
 
 module _ {v w : View} {slots : List ℕ} {Gone Made Reparented : ℕ → Type 0} (c : InodeChange v w slots Gone Made Reparented) (good : ConsistentView v)
     (o : Settled v w slots Gone Made Reparented) where
@@ -38,7 +39,7 @@ module _ {v w : View} {slots : List ℕ} {Gone Made Reparented : ℕ → Type 0}
   kind i l = go (c .gone? i) (c .made? i)
     where
       b : i < v .inodes
-      b = below c i l
+      b = inode-below c i l
 
       go : Dec (Gone i) → Dec (Made i) → w .kind i ≤ 3
       go (yes g) m = omega (arith, c .gone i b g)
@@ -64,7 +65,7 @@ module _ {v w : View} {slots : List ℕ} {Gone Made Reparented : ℕ → Type 0}
       go (yes m) = o .made-mode i m
       go (no m) =
           let s = same-was c i u m in
-          rw (s .mode) (good .counted .mode i (below c i (u .0), λ z. u .1 (s .kind ∙ z)))
+          rw (s .mode) (good .counted .mode i (inode-below c i (u .0), λ z. u .1 (s .kind ∙ z)))
 
   within : (i : ℕ) → IsUsed w i → w .links i ≤ linkLimit
   within i u = go (kind? w i 2)

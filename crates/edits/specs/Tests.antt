@@ -17,14 +17,14 @@ module _ (v : View) where
   pub kind-is : (i k : ℕ) → isKind v i k ≡ true → IsKind v i k
   kind-is i k e = (ltb-true _ _ (and-left (ltb i (v .inodes)) _ e), eqb-true _ _ (and-right (ltb i (v .inodes)) (eqb (v .kind i) k) e))
 
-  pub is-kind : (i k : ℕ) → IsKind v i k → isKind v i k ≡ true
-  is-kind i k (l, e) = rw (lt-ltb _ _ l, eq-eqb _ _ e)
+  pub kind-test : (i k : ℕ) → IsKind v i k → isKind v i k ≡ true
+  kind-test i k (l, e) = rw (lt-ltb _ _ l, eq-eqb _ _ e)
 
   pub no-kind : (i k : ℕ) → (IsKind v i k → ⊥) → isKind v i k ≡ false
   no-kind i k n = refuted (isKind v i k) (λ e. n (kind-is i k e))
 
   pub not-kind : (i k : ℕ) → isKind v i k ≡ false → IsKind v i k → ⊥
-  not-kind i k e d = not-both (isKind v i k) (is-kind i k d) e
+  not-kind i k e d = not-both (isKind v i k) (kind-test i k d) e
 
   -- an inode in use
   pub used-is : (i : ℕ) → isUsed v i ≡ true → IsUsed v i
@@ -53,7 +53,7 @@ module _ (v : View) where
   )
 
   pub is-holds : (d j : ℕ) → v .nameLength j ≢ 0 → v .parent j ≡ d → IsDirectory v (v .target j) → holdsDirectory v d j ≡ true
-  is-holds d j u e t = rw (ne-eqb _ _ u, eq-eqb _ _ e, is-kind (v .target j) 2 t)
+  is-holds d j u e t = rw (ne-eqb _ _ u, eq-eqb _ _ e, kind-test (v .target j) 2 t)
 
   pub no-holds : (d j : ℕ) → (v .nameLength j ≢ 0 → v .parent j ≡ d → IsDirectory v (v .target j) → ⊥) → holdsDirectory v d j ≡ false
   no-holds d j n = refuted (holdsDirectory v d j) (λ e. let (a, b, c) = holds-is d j e in n a b c)

@@ -3,8 +3,8 @@ use mathlib.Core.Path.{_≡_}
 use mathlib.Core.Logic.{_≢_}
 use mathlib.Core.Bool.{true, false, or-true}
 use Prim.Native.Nat.{ℕ, zero, suc, _≤_}
-use native.Mathlib.Nat.{le-of-suc-le-suc}
 use native.Mathlib.Decide.{ℕ-discrete}
+use native.Mathlib.Nat.{le-of-suc-le-suc}
 use native.Mathlib.Omega.{arith}
 use borrow.Author.Tests.{eqb-true, eq-eqb, ne-eqb}
 use Rattle.seq.specs.Truth.{and-right, not-both}
@@ -13,7 +13,7 @@ use Rattle.seq.specs.ClimbLaws.{short-way}
 use Rattle.layout.specs.View.{View, isDirectory}
 use Rattle.tree.specs.Tree.{reaches}
 use Rattle.edits.specs.Kinds.{IsDirectory}
-use Rattle.edits.specs.Tests.{is-kind}
+use Rattle.edits.specs.Tests.{kind-test}
 
 module _ (v : View) where
   -- the test as a number of steps
@@ -35,7 +35,7 @@ module _ (v : View) where
     steps-reach goal zero (suc k) i d l e = absurd (omega arith)
     steps-reach goal (suc n) zero i d l e = rw (eq-eqb _ _ e)
     steps-reach goal (suc n) (suc k) i d l e =
-        rw (is-kind v (v .field i) 2 (inside i d), steps-reach goal n k (v .field i) (inside i d) (le-of-suc-le-suc l) e, or-true)
+        rw (kind-test v (v .field i) 2 (inside i d), steps-reach goal n k (v .field i) (inside i d) (le-of-suc-le-suc l) e, or-true)
 
     pub way-leads : (goal i k : ℕ) → IsDirectory v i → up (v .field) k i ≡ goal → reaches v goal (v .inodes) i ≡ true
     way-leads goal i k d e =

@@ -4,8 +4,8 @@ use mathlib.Core.Logic.{_≢_, _⊎_, inl, inr, ⊎-elim}
 use mathlib.Core.Bool.{Bool, true, false, cond}
 use mathlib.Core.List.{List}
 use Prim.Native.Nat.{ℕ, _+_, _≤_, _<_}
-use native.Mathlib.Nat.{zero-add}
 use native.Mathlib.Decide.{ℕ-discrete}
+use native.Mathlib.Nat.{zero-add}
 use native.Mathlib.Omega.{arith}
 use lib.ListN.{length, getD, replicate, getD-replicate}
 use borrow.Author.Tests.{eqb-false, not-true}
@@ -14,22 +14,24 @@ use Rattle.seq.specs.Bytes.{part, zeros, noZero}
 use Rattle.seq.specs.BytesLaws.{part-byte, zeros-replicate}
 use Rattle.seq.specs.NumberLaws.{number-same}
 use Rattle.layout.specs.declared.Shape.{Shape}
-use Rattle.layout.specs.ContentsLaws.{Laid}
+use Rattle.layout.specs.Facts.{Laid}
 use Rattle.layout.specs.RecordLaws.{record-length}
 use Rattle.layout.specs.Fields.{inodeKind, inodeLinks, entryParent, entryTarget, entryNameLength, entryName, textLength, handleState, handleInode}
 use Rattle.layout.specs.View.{View, viewOf, inodeAt, entryAt, textAt, entryUsed, nameRoom}
+use Rattle.encode.specs.Facts.{Names}
 use Rattle.encode.specs.Entry.{entryBytes, retargeted}
-use Rattle.encode.specs.EntryLaws.{Names, names-itself, names-target, entry-names}
+use Rattle.encode.specs.EntryLaws.{names-itself, names-target, entry-names}
 use Rattle.names.specs.NameTests.{nameGood}
 use Rattle.tree.specs.Tree.{entriesOf}
-use Rattle.consistency.specs.Facts.{Bodies}
+use Rattle.consistency.specs.RecordFacts.{Bodies}
 use Rattle.edits.specs.Kinds.{IsSymlink, EntryUsed}
 use Rattle.edits.specs.KindsLaws.{directory-used, kind?, either?}
 use Rattle.edits.specs.ConsistentView.{ConsistentView}
 use Rattle.edits.specs.Edit.{SameEntry, SameInode}
 use Rattle.edits.specs.Moved.{Allowed, Replaced, Gone, Moved}
 use Rattle.edits.specs.MovedLaws.{replaced?, gone?}
-use Rattle.edits.specs.Formed.{EntryForm, TextForm, Formed, formed-changed}
+use Rattle.edits.specs.Formed.{EntryForm, TextForm, Formed}
+use Rattle.edits.specs.FormedLaws.{formed-changed}
 use Rattle.edits.specs.Bodies.{bodies-consistent, bodies-formed}
 use Rattle.edits.specs.FinishedBodies.{rename-consistent}
 use Rattle.edits.specs.Written.{Touched, Written}
@@ -190,9 +192,9 @@ module _ {h : Shape} {s t : List ℕ} {old new moved from into : ℕ} {called : 
       go (yes g) (no y) e = inl (m .text x l (λ i c z _. y (rw (c .0 .1) z)))
       go (no g) y e = inl (m .text x l (λ i c _ _. g ((c .0 .0, refl), ap (entriesOf w) (c .0 .1) ∙ c .1)))
 
-  pub written-formed : Formed h t
-  written-formed = formed-changed h s t form inode-form entry-form text-form (λ n l. inl (m .handle n l))
+  pub records-formed : Formed h t
+  records-formed = formed-changed h s t form inode-form entry-form text-form (λ n l. inl (m .handle n l))
 
   -- The bodies of the finished image are consistent.
   pub written-consistent : Bodies h t
-  written-consistent = rename-consistent f ok written-moved written-formed
+  written-consistent = rename-consistent f ok written-moved records-formed

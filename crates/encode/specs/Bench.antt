@@ -4,11 +4,11 @@ use mathlib.Core.List.{[], _∷_}
 use lib.ListN.{replicate}
 use Rattle.seq.specs.Bytes.{part, put}
 use Rattle.seq.specs.Number.{bytesOf}
-use Rattle.layout.specs.Bench.{bench}
+use Rattle.layout.specs.Limits.{absent}
+use Rattle.layout.specs.BenchTree.{bench}
 use Rattle.encode.specs.declared.journal.Journal.{Journal}
 use Rattle.encode.specs.Entry.{entryBytes, retargeted}
 use Rattle.encode.specs.Journal.{journalHead, journalBytes}
-use Rattle.layout.specs.Limits.{absent}
 
 -- slot 3: the name f in directory 1, for inode 3
 pub bench-entry : part bench 360 32 ≡ entryBytes 32 1 3 (102 ∷ [])

@@ -1,6 +1,6 @@
 -- A directory entry as it is made, and one with another target (form E). A reader has to believe this file. Assumes nothing.
 use mathlib.Core.List.{List, _∷_, _++_, []}
-use Prim.Native.Nat.{ℕ, _+_, _-_}
+use Prim.Native.Nat.{ℕ, _-_}
 use lib.ListN.{length, replicate}
 use Rattle.seq.specs.Bytes.{put}
 use Rattle.seq.specs.Number.{bytesOf}

@@ -9,12 +9,13 @@ use lib.ListN.{length, getD, replicate, length-append, length-replicate, getD-re
 use lib.Seq.{take-append-seam, getD-append-add}
 use borrow.Author.Tests.{eq-eqb}
 use Rattle.seq.specs.Search.{all}
-use Rattle.seq.specs.SearchLaws.{all-of}
 use Rattle.seq.specs.Bytes.{part, put, zeros}
-use Rattle.seq.specs.BytesLaws.{part-length, put-length, put-after, put-part-other, zeros-put-other, put-zeros-join}
 use Rattle.seq.specs.Number.{numberAt, bytesOf}
+use Rattle.seq.specs.SearchLaws.{all-of}
+use Rattle.seq.specs.BytesLaws.{part-length, put-length, put-after, put-part-other, zeros-put-other, put-zeros-join}
 use Rattle.seq.specs.NumberLaws.{bytesOf-length, number-put, number-put-other}
 use Rattle.layout.specs.Fields.{entryParent, entryTarget, entryNameLength, entryName}
+use Rattle.encode.specs.Facts.{Names}
 use Rattle.encode.specs.Entry.{entryBytes, entryHead, retargeted}
 
 -- its bytes put over zeros
@@ -22,18 +23,6 @@ pub entry-put : (width parent target : ℕ) (name : List ℕ) → 8 + length nam
     → put (put (replicate width 0) 0 (entryHead parent target (length name))) 8 name ≡ entryBytes width parent target name
 unfolding entryBytes bytesOf
 entry-put width parent target name fits = put-zeros-join width (entryHead parent target (length name)) name fits
-
--- The bytes x are an entry's, with parent p, target t and name n, and zeros where they belong.
-pub record Names (x : List ℕ) (width p t : ℕ) (n : List ℕ) : Type 0 where
-  pub long : length x ≡ width
-  pub fits : 8 + length n ≤ width
-  pub parent : entryParent x ≡ p
-  pub target : entryTarget x ≡ t
-  pub name-length : entryNameLength x ≡ length n
-  pub name : entryName x ≡ n
-  -- the three bytes behind the length, and those behind the name
-  pub padded : zeros x 5 3 ≡ true
-  pub filled : zeros x (8 + length n) (width - 8 - length n) ≡ true
 
 -- an entry as it stands, if its zeros are in order
 pub names-itself : (r : List ℕ) (width : ℕ) → length r ≡ width → 8 + entryNameLength r ≤ width → zeros r 5 3 ≡ true

@@ -5,31 +5,13 @@ use mathlib.Core.List.{List}
 use Prim.Native.Nat.{ℕ, _+_, _<_, _≤_}
 use native.Mathlib.Omega.{arith}
 use lib.ListN.{length}
-use Rattle.seq.specs.Bytes.{part, put}
-use Rattle.seq.specs.BytesLaws.{put-length, put-before, put-part-other}
+use Rattle.seq.specs.Bytes.{put}
 use Rattle.seq.specs.Number.{numberAt, span, bytesOf}
+use Rattle.seq.specs.BytesLaws.{put-length, put-before, put-part-other}
 use Rattle.seq.specs.NumberLaws.{bytesOf-length, number-put, number-put-other}
-use Rattle.layout.specs.Fields.{inodeKind, inodeSystem, inodeMode, inodeOwner, inodeGroup, inodeLinks, inodeField, inodeModified, inodeChanged}
+use Rattle.layout.specs.Fields.{inodeLinks, inodeField, inodeModified, inodeChanged}
 use Rattle.encode.specs.Inode.{withChanged, withField, withLinks, withModified}
-
--- The bytes x are an inode's, and have the fields in front of the link count as r has them.
-pub record Head (r x : List ℕ) : Type 0 where
-  pub long : length x ≡ 32
-  -- these fields in one piece, and each
-  pub front : part x 0 12 ≡ part r 0 12
-  pub kind : inodeKind x ≡ inodeKind r
-  pub system : inodeSystem x ≡ inodeSystem r
-  pub mode : inodeMode x ≡ inodeMode r
-  pub owner : inodeOwner x ≡ inodeOwner r
-  pub group : inodeGroup x ≡ inodeGroup r
-
--- Besides, they have these as link count, field, and times of modification and change.
-pub record Says (r x : List ℕ) (n f m c : ℕ) : Type 0 where
-  pub head : Head r x
-  pub links : inodeLinks x ≡ n
-  pub field : inodeField x ≡ f
-  pub modified : inodeModified x ≡ m
-  pub changed : inodeChanged x ≡ c
+use Rattle.encode.specs.Facts.{Head, Says}
 
 -- an inode as it stands
 pub says-itself : (r : List ℕ) → length r ≡ 32 → Says r r (inodeLinks r) (inodeField r) (inodeModified r) (inodeChanged r)

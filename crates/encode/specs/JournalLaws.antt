@@ -1,33 +1,22 @@
 -- The journal record is read back as it was written. Assumes nothing.
 use mathlib.Core.Path.{_≡_, refl}
 use mathlib.Core.Bool.{true}
-use Prim.Native.Nat.{_<_}
 use native.Mathlib.Omega.{arith}
 use lib.ListN.{length, replicate}
 use Rattle.seq.specs.Search.{all}
 use Rattle.seq.specs.Bytes.{put, zeros}
+use Rattle.seq.specs.Number.{numberAt, bytesOf}
 use Rattle.seq.specs.BytesLaws.{put-zeros-join}
-use Rattle.seq.specs.Number.{numberAt, span, bytesOf}
 use Rattle.seq.specs.NumberLaws.{number-bytes}
 use Rattle.layout.specs.Fields.{journalOldSlot, journalNewSlot, journalMoved, journalReplaced, journalOldParent, journalText, journalTime}
 use Rattle.encode.specs.declared.journal.Journal.{Journal}
+use Rattle.encode.specs.Facts.{InRange}
 use Rattle.encode.specs.Journal.{journalBytes, journalFormed, journalHead, journalOf}
 
 -- its bytes put over zeros
 pub journal-put : (j : Journal) → put (put (replicate 32 0) 0 (journalHead j)) 16 (bytesOf 8 (j .time)) ≡ journalBytes j
 unfolding journalBytes journalHead bytesOf
 journal-put j = put-zeros-join 32 (journalHead j) (bytesOf 8 (j .time)) (omega arith)
-
--- The numbers fit their fields.
-pub record InRange (j : Journal) : Type 0 where
-  pub kind : j .kind < 256
-  pub old : j .old < 65536
-  pub new : j .new < 65536
-  pub moved : j .moved < 65536
-  pub replaced : j .replaced < 65536
-  pub parent : j .parent < 65536
-  pub text : j .text < 65536
-  pub time : j .time < span 8
 
 pub journal-length : (j : Journal) → length (journalBytes j) ≡ 32
 unfolding journalBytes journalHead bytesOf

@@ -1,4 +1,5 @@
 pub mod Inode
+pub mod Facts
 pub mod InodeLaws
 pub mod Entry
 pub mod EntryLaws

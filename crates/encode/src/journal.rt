@@ -3,7 +3,7 @@ ghost use mathlib.Core.Path.{_≡_};
 ghost use Prim.Native.Nat.{_≤_};
 ghost use lib.ListN.{length};
 ghost use Rattle.encode.specs.Journal.{journalOf, journalFormed, journalHead, journalBytes};
-ghost use Rattle.encode.specs.JournalLaws.{InRange};
+ghost use Rattle.encode.specs.Facts.{InRange};
 
 // What a pending operation is recovered from. A number of 65,535 names no replaced inode, and no text.
 pub struct Journal {

@@ -7,13 +7,15 @@ use native.Mathlib.Nat.{le-refl}
 use native.Mathlib.Omega.{arith}
 use lib.Dec.{eqb}
 use borrow.Author.Tests.{eqb-true}
-use Rattle.seq.specs.Truth.{and-left, and-right}
 use Rattle.seq.specs.Search.{any, first}
+use Rattle.seq.specs.Truth.{and-left, and-right}
 use Rattle.layout.specs.declared.Shape.{Shape}
 use Rattle.layout.specs.Place.{Key, records, place}
-use Rattle.layout.specs.PlaceLaws.{Valid, apart}
+use Rattle.layout.specs.Facts.{Valid}
+use Rattle.layout.specs.PlaceLaws.{apart}
 use Rattle.plan.specs.Fit.{coverable, coversRecord, coversSection, covers}
-use Rattle.plan.specs.FitLaws.{Covered, one-covers, record-some}
+use Rattle.plan.specs.FitFacts.{Covered}
+use Rattle.plan.specs.FitLaws.{one-covers, record-some}
 use Rattle.image_store.specs.ImageLaws.{same-key}
 use Rattle.image_store.specs.Covered.{keyAt}
 

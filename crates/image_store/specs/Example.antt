@@ -15,11 +15,11 @@ use Rattle.seq.specs.Bytes.{part, put, zeros}
 use Rattle.seq.specs.Number.{numberAt, bytesOf}
 use Rattle.layout.specs.declared.Shape.{Shape}
 use Rattle.layout.specs.Place.{Key, recordBytes}
-use Rattle.layout.specs.PlaceLaws.{Valid}
+use Rattle.layout.specs.Facts.{Valid, Read}
 use Rattle.layout.specs.Contents.{nameIs, shapeOf, layoutGood}
-use Rattle.layout.specs.ContentsLaws.{Read}
 use Rattle.layout.specs.Record.{recordAt, store}
 use Rattle.plan.specs.Form.{planRows, planBytes, rowAt, headerOf, rowPut, rowsPut, cleared, noRow, rowCount}
+use Rattle.plan.specs.Jobs.{jobsIn}
 use Rattle.plan.specs.Fit.{coverable, coversSection, covers, rowFits, applicable}
 use Rattle.plan.specs.Write.{Write, inodeKey, entryKey, journalKey, storeAll}
 use Rattle.plan.specs.WriteLaws.{other-section}
@@ -35,11 +35,10 @@ use Rattle.image_store.specs.ImageLaws.{read-of, first-ok, images}
 use Rattle.image_store.specs.Buffers.{Buffers, enough}
 use Rattle.image_store.specs.BuffersLaws.{enough-is, is-enough, too-short}
 use Rattle.image_store.specs.JobLaws.{jobs}
-use Rattle.image_store.specs.JobRows.{planOf}
-use Rattle.plan.specs.Jobs.{jobsIn}
 use Rattle.image_store.specs.Recovery.{RecoveryJob, AnswersRows}
 use Rattle.image_store.specs.Operation.{rowsIn, plannedChange}
 use Rattle.image_store.specs.Safe.{planned-in-order, planned-owed, planned-recovers}
+use Rattle.image_store.specs.JobRows.{planOf}
 
 -- one inode at 40, one entry at 72, the journal record at 104, and the end at 136
 abbrev pub shape : Shape

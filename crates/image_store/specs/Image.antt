@@ -6,12 +6,12 @@ use Prim.Native.Nat.{ℕ}
 use lib.Dec.{ltb}
 use Rattle.seq.specs.Bytes.{part}
 use Rattle.layout.specs.declared.Shape.{Shape}
-use Rattle.layout.specs.Place.{Key, records}
 use Rattle.layout.specs.Limits.{contentsBytes}
-use Rattle.layout.specs.ContentsLaws.{Read}
+use Rattle.layout.specs.Place.{Key, records}
+use Rattle.layout.specs.Facts.{Read}
 use Rattle.layout.specs.Record.{recordAt, store}
 use Rattle.plan.specs.Fit.{rowFits}
-use Rattle.plan.specs.FitLaws.{Writes}
+use Rattle.plan.specs.FitFacts.{Writes}
 use Rattle.plan.specs.Write.{Write, rowFrom}
 
 -- the record exists

@@ -10,9 +10,9 @@ use borrow.Author.Tests.{lt-ltb, ltb-true, not-true}
 use Rattle.seq.specs.Truth.{to-T, of-T, and-left, and-right, and-both}
 use Rattle.layout.specs.declared.Shape.{Shape}
 use Rattle.layout.specs.Place.{Key}
-use Rattle.layout.specs.PlaceLaws.{Valid}
+use Rattle.layout.specs.Facts.{Valid, Laid, Read}
 use Rattle.layout.specs.Contents.{layoutGood, shapeOf}
-use Rattle.layout.specs.ContentsLaws.{Laid, Read, good-laid}
+use Rattle.layout.specs.ContentsLaws.{good-laid}
 use Rattle.layout.specs.Record.{recordAt, store}
 use Rattle.layout.specs.RecordLaws.{store-same, store-other, store-contents, same-image}
 use Rattle.layout.specs.Commute.{store-shape, store-layout}

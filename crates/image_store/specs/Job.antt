@@ -3,10 +3,10 @@ use Prim.Native.Nat.{_≤_}
 use lib.ListN.{length}
 use Rattle.layout.specs.declared.Shape.{Shape}
 use Rattle.plan.specs.Form.{Row, planBytes, rowAt}
-use Rattle.plan.specs.FitLaws.{Applicable}
+use Rattle.plan.specs.Jobs.{Job}
+use Rattle.plan.specs.FitFacts.{Applicable}
 use Rattle.plan.specs.Write.{Write}
 use Rattle.image_store.specs.Covered.{keyAt}
-use Rattle.plan.specs.Jobs.{Job}
 
 -- what a row of a plan writes, on images of shape h
 abbrev pub writeOf : Shape → Row → Write

@@ -12,22 +12,23 @@ use Rattle.seq.specs.BytesLaws.{part-length}
 use Rattle.layout.specs.declared.Shape.{Shape}
 use Rattle.layout.specs.Place.{Key, recordBytes, place}
 use Rattle.plan.specs.Form.{Row, planRows, planBytes, bodyAt, rowLength, rowOffset, rowAt}
-use Rattle.plan.specs.Stands.{Stands}
-use Rattle.plan.specs.FitLaws.{Covered, Applicable, applicable-is, applicable-fits, stands-applicable, written-fits}
+use Rattle.plan.specs.Jobs.{Job}
+use Rattle.plan.specs.FitFacts.{Covered, Applicable}
+use Rattle.plan.specs.FitLaws.{applicable-is, applicable-fits, stands-applicable, written-fits}
 use Rattle.plan.specs.Write.{Write, rowFrom}
+use Rattle.plan.specs.Stands.{Stands}
 use Rattle.apply.specs.Apply.{applyNumber, appliedImage}
-use Rattle.apply.specs.Laws.{applies-zero, refused-same, applied-done, applied-store}
 use Rattle.apply.specs.OneRow.{Applies}
-use Rattle.crash_theorem.specs.Store.{Store}
+use Rattle.apply.specs.Laws.{applies-zero, refused-same, applied-done, applied-store}
 use Rattle.crash_theorem.specs.Pick.{All}
 use Rattle.crash_theorem.specs.PickLaws.{all-map}
+use Rattle.crash_theorem.specs.Store.{Store}
 use Rattle.crash_theorem.specs.Form.{Form, storeOf, Does}
 use Rattle.image_store.specs.Image.{Ok, Fits, putWrite}
 use Rattle.image_store.specs.ImageLaws.{put-is, images}
 use Rattle.image_store.specs.Covered.{keyAt}
 use Rattle.image_store.specs.CoveredLaws.{key-covered, key-is}
 use Rattle.image_store.specs.Buffers.{Buffers, enough}
-use Rattle.plan.specs.Jobs.{Job}
 use Rattle.image_store.specs.Job.{writeOf, write, Takes}
 
 -- ---- applying such a row does what the row says

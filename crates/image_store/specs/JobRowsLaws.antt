@@ -6,17 +6,17 @@ use native.Mathlib.Nat.{add-zero}
 use native.Mathlib.Omega.{arith}
 use lib.ListN.{length, getD, length-map}
 use Rattle.layout.specs.declared.Shape.{Shape}
-use Rattle.layout.specs.ContentsLaws.{Read}
+use Rattle.layout.specs.Facts.{Read}
 use Rattle.plan.specs.Form.{Row, planRows, planBytes, rowsPut, cleared, rowCount}
-use Rattle.plan.specs.Stands.{RowFormed, Stands, Each}
+use Rattle.plan.specs.Jobs.{Job, jobsFrom, jobsIn}
 use Rattle.plan.specs.Many.{rows-length, rows-stand, cleared-length, rows-count}
 use Rattle.plan.specs.FitLaws.{written-formed}
 use Rattle.plan.specs.Write.{Write, rowsFrom}
+use Rattle.plan.specs.Stands.{RowFormed, Stands, Each}
 use Rattle.crash_theorem.specs.Pick.{All}
 use Rattle.crash_theorem.specs.Form.{Do}
 use Rattle.image_store.specs.Image.{Fits}
 use Rattle.image_store.specs.JobLaws.{jobForm, written-does}
-use Rattle.plan.specs.Jobs.{Job, jobsFrom, jobsIn}
 use Rattle.image_store.specs.JobRows.{planOf}
 
 pub jobs-append : (plan : List ℕ) (us vs : List Write) (i : ℕ)

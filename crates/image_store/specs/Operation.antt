@@ -3,15 +3,15 @@ use mathlib.Core.List.{List, _∷_, _++_}
 use Prim.Native.Nat.{ℕ, _+_}
 use lib.ListN.{length}
 use Rattle.layout.specs.declared.Shape.{Shape}
+use Rattle.plan.specs.Jobs.{Job, jobsFrom}
 use Rattle.plan.specs.Write.{Write}
 use Rattle.crash_theorem.specs.Change.{Change}
 use Rattle.crash_theorem.specs.Events.{EventOf, State, start, run}
 use Rattle.crash_theorem.specs.Plan.{Plan, aheadOf, decideRow, behindOf, afterOf, pendingOf}
 use Rattle.image_store.specs.ImageLaws.{images}
 use Rattle.image_store.specs.JobLaws.{jobs}
-use Rattle.plan.specs.Jobs.{Job, jobsFrom}
+use Rattle.image_store.specs.Recovery.{RecoveryJob, waitingAfter}
 use Rattle.image_store.specs.JobRows.{planOf}
-use Rattle.image_store.specs.Recovery.{RecoveryJob, answered}
 
 module _ (h : Shape) (s₀ : List ℕ) (p : Plan (images h s₀)) where
   -- its rows in the order of the plan: the journal record's and those of created records, the deciding one, the rest, the clearing one
@@ -34,7 +34,7 @@ module _ (h : Shape) (s₀ : List ℕ) (p : Plan (images h s₀)) where
         decide = record { plan = bytes; number = n };
         behind = jobsFrom bytes (n + 1) (length (behindOf (images h s₀) p));
         pending = pendingOf (images h s₀) p;
-        recover = answered 𝓡;
+        recover = waitingAfter 𝓡;
       }
 
   -- where it stands after a list of events

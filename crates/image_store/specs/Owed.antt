@@ -7,25 +7,25 @@ use native.Mathlib.Nat.{zero-add}
 use lib.ListN.{length}
 use Rattle.layout.specs.declared.Shape.{Shape}
 use Rattle.plan.specs.Form.{planRows, planBytes}
+use Rattle.plan.specs.Jobs.{jobsIn}
 use Rattle.plan.specs.Write.{Write}
 use Rattle.crash_theorem.specs.Pick.{All}
 use Rattle.crash_theorem.specs.Change.{Change, plan}
 use Rattle.crash_theorem.specs.Events.{start}
 use Rattle.crash_theorem.specs.Obligations.{Orderly, Obligations}
 use Rattle.crash_theorem.specs.InvariantLaws.{fits-of, start-inv}
-use Rattle.crash_theorem.specs.Plan.{Plan, WellFormed, Recovers, change}
-use Rattle.crash_theorem.specs.Planned.{orderly, journaled}
 use Rattle.crash_theorem.specs.Form.{Do, Carries}
 use Rattle.crash_theorem.specs.FormLaws.{carries-of, orderly-in, owed-in}
+use Rattle.crash_theorem.specs.Plan.{Plan, WellFormed, Recovers, change}
+use Rattle.crash_theorem.specs.Planned.{orderly, journaled}
 use Rattle.image_store.specs.Image.{Fits}
 use Rattle.image_store.specs.ImageLaws.{images}
 use Rattle.image_store.specs.JobLaws.{jobForm, jobs}
-use Rattle.image_store.specs.JobRows.{planOf}
-use Rattle.image_store.specs.JobRowsLaws.{jobs-length, jobs-append, plan-jobs, plan-does}
-use Rattle.plan.specs.Jobs.{jobsIn}
 use Rattle.image_store.specs.Recovery.{RecoveryJob, AnswersRows}
 use Rattle.image_store.specs.RecoveryLaws.{answers-follow}
 use Rattle.image_store.specs.Operation.{rowsIn, plannedChange}
+use Rattle.image_store.specs.JobRows.{planOf}
+use Rattle.image_store.specs.JobRowsLaws.{jobs-length, jobs-append, plan-jobs, plan-does}
 
 module _ (h : Shape) (s₀ : List ℕ) (p : Plan (images h s₀)) (recover : List ℕ → Option (List Write)) (buffer : List ℕ) (𝓡 : RecoveryJob)
     (𝓦 : WellFormed (images h s₀) p) (long : planBytes ≤ length buffer) (room : length (rowsIn h s₀ p) ≤ planRows) where

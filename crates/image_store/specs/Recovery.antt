@@ -9,10 +9,10 @@ use lib.Dec.{T}
 use lib.ListN.{length}
 use Rattle.layout.specs.declared.Shape.{Shape}
 use Rattle.plan.specs.Form.{planRows}
+use Rattle.plan.specs.Jobs.{Job, jobsIn}
 use Rattle.plan.specs.Write.{Write}
 use Rattle.image_store.specs.Image.{Ok}
 use Rattle.image_store.specs.Buffers.{Buffers, enough}
-use Rattle.plan.specs.Jobs.{Job, jobsIn}
 use Rattle.image_store.specs.JobRows.{planOf}
 
 -- The job as a crash calls it: for the buffers and the image, its number, and its plan buffer afterwards. Nobody reads its scratch.
@@ -21,12 +21,12 @@ pub record RecoveryJob : Type 0 where
   pub plan : Buffers → List ℕ → List ℕ
 
 -- what then waits: at 0 the rows of the plan, and else nothing
-abbrev pub answer : ℕ → List ℕ → Option (List Job)
-answer zero plan = some (jobsIn plan)
-answer (suc n) plan = none
+abbrev pub waitingAt : ℕ → List ℕ → Option (List Job)
+waitingAt zero plan = some (jobsIn plan)
+waitingAt (suc n) plan = none
 
-abbrev pub answered : RecoveryJob → Buffers → List ℕ → Option (List Job)
-answered 𝓡 b s = answer (𝓡 .number b s) (𝓡 .plan b s)
+abbrev pub waitingAfter : RecoveryJob → Buffers → List ℕ → Option (List Job)
+waitingAfter 𝓡 b s = waitingAt (𝓡 .number b s) (𝓡 .plan b s)
 
 -- The job answers 0, and its plan buffer holds these rows.
 pub record Fills (h : Shape) (𝓡 : RecoveryJob) (b : Buffers) (s : List ℕ) (ws : List Write) : Type 0 where

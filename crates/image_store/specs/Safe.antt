@@ -10,6 +10,7 @@ use lib.ListN.{length}
 use Rattle.layout.specs.declared.Shape.{Shape}
 use Rattle.layout.specs.Place.{Key}
 use Rattle.plan.specs.Form.{planRows, planBytes}
+use Rattle.plan.specs.Jobs.{Job, jobsIn}
 use Rattle.plan.specs.Write.{Write, storeAll}
 use Rattle.apply.specs.Apply.{applyNumber}
 use Rattle.crash_theorem.specs.Pick.{All}
@@ -17,22 +18,22 @@ use Rattle.crash_theorem.specs.Store.{Spares, putAll}
 use Rattle.crash_theorem.specs.Change.{Change, plan}
 use Rattle.crash_theorem.specs.Events.{EventOf, State, decided}
 use Rattle.crash_theorem.specs.Obligations.{OnTheWay, Obligations}
-use Rattle.crash_theorem.specs.Crash.{Safe, crash-safe}
+use Rattle.crash_theorem.specs.Crash.{Safe}
+use Rattle.crash_theorem.specs.CrashProof.{crash-safe}
 use Rattle.crash_theorem.specs.Order.{Permitted, Sorted}
 use Rattle.crash_theorem.specs.OrderLaws.{sorted-permitted, any-order}
+use Rattle.crash_theorem.specs.FormLaws.{do-sorted, way-said}
 use Rattle.crash_theorem.specs.Plan.{Plan, WellFormed, Recovers, ByRow, createdOf, decideRow, writes, afterOf, change}
 use Rattle.crash_theorem.specs.Planned.{decided-record, undecided-record}
-use Rattle.crash_theorem.specs.FormLaws.{do-sorted, way-said}
 use Rattle.image_store.specs.Image.{recordOf}
 use Rattle.image_store.specs.ImageLaws.{images, puts-store}
 use Rattle.image_store.specs.Buffers.{Buffers, enough}
 use Rattle.image_store.specs.JobLaws.{jobForm, jobs, answers-zero}
-use Rattle.plan.specs.Jobs.{Job, jobsIn}
-use Rattle.image_store.specs.JobRows.{planOf}
 use Rattle.image_store.specs.Recovery.{RecoveryJob, AnswersRows}
 use Rattle.image_store.specs.RecoveryLaws.{answer-zero}
 use Rattle.image_store.specs.Operation.{rowsIn, plannedChange, stateAfter}
 use Rattle.image_store.specs.Owed.{rows-do, first-waiting, carries, orderly-jobs, obligations-jobs}
+use Rattle.image_store.specs.JobRows.{planOf}
 
 module _ (h : Shape) (s₀ : List ℕ) (p : Plan (images h s₀)) (𝓦 : WellFormed (images h s₀) p) where
   -- the image after is the one before with every record stored that the rows write

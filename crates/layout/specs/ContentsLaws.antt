@@ -3,22 +3,23 @@ use mathlib.Core.Path.{_≡_, refl, sym, subst, _∙_}
 use mathlib.Core.Bool.{Bool, true, false, _&&_, and-false}
 use mathlib.Core.List.{List}
 use Prim.Native.Nat.{ℕ, _+_, _*_, _≤_, _<_}
-use lib.Dec.{eqb, leb, lit<, lit≤}
-use lib.ListN.{length, getD}
 use native.Mathlib.Nat.{mul-le-mul-right}
 use native.Mathlib.Omega.{arith}
+use lib.Dec.{eqb, leb, lit<, lit≤}
+use lib.ListN.{length, getD}
 use borrow.Author.Tests.{leb-true, eqb-true, eq-eqb, ne-eqb, le-leb, lt-leb}
-use Rattle.seq.specs.Truth.{and-left, and-right, and-both, same-truth, implies-at, implies-of}
 use Rattle.seq.specs.Search.{all}
+use Rattle.seq.specs.Number.{numberAt}
+use Rattle.seq.specs.Truth.{and-left, and-right, and-both, same-truth, implies-at, implies-of}
+use Rattle.seq.specs.AllPass.{no-more, _&_, is-every, every-at}
 use Rattle.seq.specs.SearchLaws.{all-at, all-not, all-of}
-use Rattle.seq.specs.Number.{numberAt, span}
-use Rattle.layout.specs.Limits.{widestEntry, entrySize, inodeLimit, entryLimit, textLimit, handleLimit, contentsBytes, journalSize}
 use Rattle.layout.specs.declared.Shape.{Shape}
 use Rattle.layout.specs.declared.contents.Contents.the-variants.{Bad, Good}
+use Rattle.layout.specs.Limits.{contentsBytes, journalSize}
 use Rattle.layout.specs.Place.{imageBytes, base}
+use Rattle.layout.specs.Facts.{Laid, CountsFit, Read}
 use Rattle.layout.specs.Contents.{fewest, layoutGood, most, nameIs, shapeOf, widthOf, sectionNamed, sectionPlaced, sectionCounted, layoutRules, countIn, contentsThere, offsetIn, sectionName}
 use Rattle.layout.specs.ContentsRead.{contentsOf, pickContents, rowGood, rowIs, rowsGood, layoutRead}
-use Rattle.seq.specs.AllPass.{no-more, _&_, is-every, every-at}
 
 -- the ways out of comparing a name: three bytes agree, and the fourth decides
 pub name-last : (s : List ℕ) (at : ℕ) (name : List ℕ) → getD s at 0 ≡ getD name 0 0 → getD s (at + 1) 0 ≡ getD name 1 0 → getD s (at + 2) 0 ≡ getD name 2 0
@@ -64,19 +65,6 @@ pub shape-is : (s : List ℕ) (a b c d w : ℕ) → a ≡ numberAt 2 s 6 → b �
     → _≡_ {A = Shape} (record { inodes = a; entries = b; texts = c; handles = d; width = w }) (shapeOf s)
 unfolding shapeOf
 shape-is s a b c d w p q r t u = λ i. record { inodes = p i; entries = q i; texts = r i; handles = t i; width = u i }
-
--- A shape within the limits that the image s has: what every reader of records may rely on. It leaves the entry width open between this edition's and
--- the next's, and holds that every place fits the two bytes of an offset.
-pub record Laid (h : Shape) (s : List ℕ) : Type 0 where
-  pub inodes-least : 1 ≤ h .inodes
-  pub inodes-most : h .inodes ≤ inodeLimit
-  pub entries-most : h .entries ≤ entryLimit
-  pub texts-most : h .texts ≤ textLimit
-  pub handles-most : h .handles ≤ handleLimit
-  pub width-least : entrySize ≤ h .width
-  pub width-most : h .width ≤ widestEntry
-  pub small : imageBytes h ≤ span 2
-  pub long : length s ≡ imageBytes h
 
 -- the ways out of comparing the rows
 module _ (s : List ℕ) (h : Shape) where
@@ -169,26 +157,12 @@ module _ (s : List ℕ) (good : layoutGood s ≡ true) where
     long = eqb-true _ _ (ends s good);
   }
 
--- a count of two bytes, of any image
-pub record CountsFit (h : Shape) : Type 0 where
-  pub inodes : h .inodes < 65536
-  pub entries : h .entries < 65536
-  pub texts : h .texts < 65536
-  pub handles : h .handles < 65536
-  pub width : h .width ≤ widestEntry
-
 -- its entries end where 22 bits reach, so no sum of its places wraps
 pub product : (h : Shape) → CountsFit h → h .width * h .entries < 4194304
 product h c = let l = mul-le-mul-right (h .entries) (c .width) in omega (arith, c .entries)
 
 pub image-fits : (h : Shape) → CountsFit h → imageBytes h < 18446744073709551616
 image-fits h few = omega (arith, product h few, few .inodes, few .texts, few .handles)
-
--- what a reader of the table of contents may conclude from its answer
-pub record Read (s : List ℕ) (h : Shape) : Type 0 where
-  pub good : layoutGood s ≡ true
-  pub shape : h ≡ shapeOf s
-  pub laid : Laid h s
 
 pub contents-good : (s : List ℕ) (h : Shape) → contentsOf s ≡ Good h → Read s h
 unfolding contentsOf

@@ -7,9 +7,9 @@ use lib.ListN.{length}
 use Rattle.seq.specs.Search.{all}
 use Rattle.seq.specs.Number.{numberAt}
 use Rattle.layout.specs.declared.Shape.{Shape}
-use Rattle.layout.specs.Limits.{contentsBytes}
 use Rattle.layout.specs.declared.contents.Contents.{Contents}
 use Rattle.layout.specs.declared.contents.Contents.the-variants.{Bad, Good}
+use Rattle.layout.specs.Limits.{contentsBytes}
 use Rattle.layout.specs.Place.{base, imageBytes}
 use Rattle.layout.specs.Contents.{sectionName, fewest, most, nameIs, shapeOf}
 

@@ -58,6 +58,10 @@ handleLimit = 16
 abbrev pub modeLimit : ℕ
 modeLimit = 4096
 
+-- rule 70: the bit of a mode by which a directory is sticky
+abbrev pub stickyBit : ℕ
+stickyBit = 512
+
 -- rule 34: the most links of an inode
 abbrev pub linkLimit : ℕ
 linkLimit = 64

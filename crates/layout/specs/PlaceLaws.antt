@@ -2,17 +2,13 @@
 use mathlib.Core.Path.{_≡_}
 use mathlib.Core.Logic.{_⊎_, inl, inr, _≢_}
 use Prim.Native.Nat.{ℕ, suc, _+_, _*_, _≤_, _<_}
-use native.Mathlib.Nat.{le-refl, le-trans, mul-suc, mul-le-mul-left}
 use native.Mathlib.Decide.{decLt, le-ind}
+use native.Mathlib.Nat.{le-refl, le-trans, mul-suc, mul-le-mul-left}
 use native.Mathlib.Omega.{arith}
 use Rattle.layout.specs.declared.Shape.{Shape}
 use Rattle.layout.specs.Limits.{contentsBytes}
 use Rattle.layout.specs.Place.{Key, base, imageBytes, place, recordBytes, records}
-
--- a record that exists
-pub record Valid (h : Shape) (k : Key) : Type 0 where
-  pub in-image : k .section < 5
-  pub in-section : k .index < records h (k .section)
+use Rattle.layout.specs.Facts.{Valid}
 
 -- a record ends where the next one begins at the latest
 next-record : (h : Shape) (k i j : ℕ) → i < j → place h k i + recordBytes h k ≤ place h k j
@@ -29,8 +25,8 @@ earlier-section : (h : Shape) (j k i : ℕ) → j < k → i < records h j → pl
 earlier-section h j k i l b = le-trans (next-record h j i (records h j) b) (base-mono h (suc j) k l)
 
 -- a record lies in the image
-pub inside : (h : Shape) (k i : ℕ) → k < 5 → i < records h k → place h k i + recordBytes h k ≤ imageBytes h
-inside h k i l b = earlier-section h k 5 i l b
+pub place-inside : (h : Shape) (k i : ℕ) → k < 5 → i < records h k → place h k i + recordBytes h k ≤ imageBytes h
+place-inside h k i l b = earlier-section h k 5 i l b
 
 -- a record lies behind the table of contents
 pub behind-contents : (h : Shape) (k i : ℕ) → contentsBytes ≤ place h k i

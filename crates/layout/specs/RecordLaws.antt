@@ -10,15 +10,11 @@ use lib.Seq.{take-add, take-all}
 use Rattle.seq.specs.Bytes.{part, put}
 use Rattle.seq.specs.BytesLaws.{part-length, part-range, put-length, put-part, put-part-other}
 use Rattle.layout.specs.declared.Shape.{Shape}
-use Rattle.layout.specs.Place.{Key, recordBytes, records, base, place, imageBytes}
-use Rattle.layout.specs.PlaceLaws.{Valid, inside, behind-contents, apart}
 use Rattle.layout.specs.Limits.{contentsBytes}
+use Rattle.layout.specs.Place.{Key, recordBytes, records, base, place, imageBytes}
+use Rattle.layout.specs.Facts.{Valid, Reads}
+use Rattle.layout.specs.PlaceLaws.{place-inside, behind-contents, apart}
 use Rattle.layout.specs.Record.{recordAt, store}
-
--- A record as a reader is handed it: its bytes, and how many they are.
-pub record Reads (r x : List ℕ) (n : ℕ) : Type 0 where
-  pub is : r ≡ x
-  pub long : length r ≡ n
 
 -- a field that was read from such a record is the record's
 pub field-of : {A : Type 0} {r x : List ℕ} {n : ℕ} {v : A} (f : List ℕ → A) → Reads r x n → v ≡ f r → v ≡ f x
@@ -26,7 +22,7 @@ field-of f reads e = e ∙ ap f (reads .is)
 
 pub record-length : (h : Shape) (s : List ℕ) (k i : ℕ) → length s ≡ imageBytes h → k < 5 → i < records h k → length (recordAt h s k i) ≡ recordBytes h k
 unfolding recordAt
-record-length h s k i long l b = part-length s (place h k i) (recordBytes h k) (let e = inside h k i l b in omega arith)
+record-length h s k i long l b = part-length s (place h k i) (recordBytes h k) (let e = place-inside h k i l b in omega arith)
 
 -- a record as the code takes it, `&s[at..at + n]`
 pub reads-record : (h : Shape) (s : List ℕ) (k i at n : ℕ) → length s ≡ imageBytes h → k < 5 → i < records h k → at ≡ place h k i → recordBytes h k ≡ n
@@ -40,7 +36,7 @@ reads-record h s k i at n long l b begins whole =
 module _ (h : Shape) where
   module _ (s b : List ℕ) (k : Key) (long : length s ≡ imageBytes h) (valid : Valid h k) (fits : length b ≡ recordBytes h (k .section)) where
     ends : place h (k .section) (k .index) + length b ≤ length s
-    ends = let e = inside h (k .section) (k .index) (valid .in-image) (valid .in-section) in omega arith
+    ends = let e = place-inside h (k .section) (k .index) (valid .in-image) (valid .in-section) in omega arith
 
     pub store-length : length (store h s k b) ≡ length s
     unfolding store

@@ -2,16 +2,15 @@
 use mathlib.Core.Path.{_≡_, refl}
 use mathlib.Core.Bool.{Bool, true, false, _&&_, cond}
 use mathlib.Core.List.{List}
-use Prim.Native.Nat.{ℕ, _-_, _≤_, _<_}
+use Prim.Native.Nat.{ℕ, _<_}
 use native.Mathlib.Omega.{arith}
 use lib.Dec.{eqb, ltb}
 use borrow.Author.Tests.{ltb-true, lt-ltb, eq-eqb, ne-eqb}
-use Rattle.seq.specs.Truth.{and-left}
 use Rattle.seq.specs.Bytes.{noZero}
+use Rattle.seq.specs.Truth.{and-left}
 use Rattle.layout.specs.declared.Shape.{Shape}
-use Rattle.layout.specs.Limits.{textRoom}
-use Rattle.layout.specs.ContentsLaws.{Laid}
-use Rattle.layout.specs.View.{View, entryUsed, handleOpen, isDirectory, isKind, isSymlink, isUsed, kindOf, nameRoom, viewOf}
+use Rattle.layout.specs.Facts.{Readable}
+use Rattle.layout.specs.View.{View, isKind, isSymlink, isUsed, kindOf, viewOf}
 
 -- what names an inode is below their number
 pub isKind-below : (h : Shape) (s : List ℕ) (i k : ℕ) → isKind (viewOf h s) i k ≡ true → i < h .inodes
@@ -47,20 +46,6 @@ other-kind v i k n = go (ltb i (v .inodes)) n
     go : (b : Bool) → (cond b (v .kind i) 0 ≡ k → ⊥) → (b && eqb (v .kind i) k) ≡ false
     go true n = ne-eqb _ _ n
     go false n = refl
-
--- Every number in a record leads somewhere: what a reader that follows them relies on. A consistent image is readable.
-pub record Readable (h : Shape) (s : List ℕ) : Type 0 where
-  pub laid : Laid h s
-  pub root : viewOf h s .kind 0 ≡ 2
-  pub kinds : (i : ℕ) → i < h .inodes → viewOf h s .kind i ≤ 3
-  pub parents : (j : ℕ) → j < h .entries → entryUsed (viewOf h s) j ≡ true → isDirectory (viewOf h s) (viewOf h s .parent j) ≡ true
-  pub targets : (j : ℕ) → j < h .entries → entryUsed (viewOf h s) j ≡ true → isUsed (viewOf h s) (viewOf h s .target j) ≡ true
-  pub names : (j : ℕ) → j < h .entries → viewOf h s .nameLength j ≤ nameRoom h
-  pub above : (i : ℕ) → isDirectory (viewOf h s) i ≡ true → viewOf h s .field i < h .inodes
-  pub symlinks : (i : ℕ) → isSymlink (viewOf h s) i ≡ true → viewOf h s .field i < h .texts
-  pub texts : (t : ℕ) → t < h .texts → viewOf h s .textLength t ≤ textRoom
-  pub plain : (t : ℕ) → t < h .texts → noZero (viewOf h s .text t) ≡ true
-  pub handles : (n : ℕ) → n < h .handles → handleOpen (viewOf h s) n ≡ true → isUsed (viewOf h s) (viewOf h s .opened n) ≡ true
 
 -- so the text of a symlink has no zero byte
 pub readable-text : (h : Shape) (s : List ℕ) → Readable h s → (i : ℕ) → isSymlink (viewOf h s) i ≡ true → noZero (viewOf h s .text (viewOf h s .field i)) ≡ true

@@ -39,6 +39,9 @@ pub const MODE_LIMIT: usize = 4096;
 
 pub const LINK_LIMIT: usize = 64;
 
+// The bit of a mode by which a directory is sticky.
+pub const STICKY_BIT: usize = 512;
+
 // The start that stands for the current directory.
 pub const NO_HANDLE: usize = 255;
 

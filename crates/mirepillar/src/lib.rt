@@ -7,7 +7,7 @@ ghost use mathlib.Core.Path.{_≡_};
 ghost use Rattle.consistency.specs.Consistent.{checkNumber};
 ghost use Rattle.apply.specs.Apply.{applyNumber, appliedImage};
 ghost use Rattle.rename.specs.Job.{renamed, planAfter};
-ghost use Rattle.rename.specs.Bounds.{Small};
+ghost use Rattle.rename.specs.Answers.{Small};
 ghost use Rattle.recover.specs.Job.{recovered};
 ghost use Rattle.mirepillar.specs.Result.{requestOf, packed, withoutWalks};
 

@@ -5,8 +5,8 @@ use mathlib.Core.List.{List}
 use Prim.Native.Nat.{ℕ}
 use borrow.Author.Tests.{eq-eqb, ne-eqb}
 use Rattle.layout.specs.declared.Shape.{Shape}
-use Rattle.layout.specs.View.{entryAt}
 use Rattle.layout.specs.Limits.{absent}
+use Rattle.layout.specs.View.{entryAt}
 use Rattle.encode.specs.Entry.{entryBytes, retargeted}
 use Rattle.results.specs.declared.Move.{Move}
 use Rattle.moves.specs.Plan.{newEntry}

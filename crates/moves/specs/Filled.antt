@@ -7,8 +7,8 @@ use lib.ListN.{length}
 use Rattle.layout.specs.declared.Shape.{Shape}
 use Rattle.plan.specs.Form.{planRows, rowPut, rowsPut, cleared}
 use Rattle.plan.specs.Write.{rowFrom, rowsFrom}
-use Rattle.plan.specs.WriteLaws.{filled-one, filled-join}
 use Rattle.plan.specs.Filled.{Filled}
+use Rattle.plan.specs.WriteLaws.{filled-one, filled-join}
 use Rattle.results.specs.declared.Move.{Move}
 use Rattle.results.specs.Results.{results, clearRow}
 use Rattle.results.specs.ResultRows.{results-le}
@@ -16,8 +16,8 @@ use Rattle.moves.specs.Plan.{journalRow, entryRow, renameRows, planned}
 
 module _ (h : Shape) (s : List ℕ) (m : Move) (called : List ℕ) where
   -- there is a place behind the results
-  pub results-below : {p q : List ℕ} {n : ℕ} → Filled h p 2 (results h s m) q n → n < planRows
-  results-below f = omega (arith, f .next, results-le h s m)
+  pub rename-results-below : {p q : List ℕ} {n : ℕ} → Filled h p 2 (results h s m) q n → n < planRows
+  rename-results-below f = omega (arith, f .next, results-le h s m)
 
   pub rename-filled : {z a b c d : List ℕ} {n : ℕ} → a ≡ rowPut z 0 (rowFrom h (journalRow h s m called)) → b ≡ rowPut a 1 (rowFrom h (entryRow h s m called))
       → Filled h b 2 (results h s m) c n → d ≡ rowPut c n (rowFrom h (clearRow h)) → Filled h z 0 (renameRows h s m called) d (n + 1)

@@ -5,16 +5,16 @@ use mathlib.Core.List.{List, [], _∷_, _++_}
 use Prim.Native.Nat.{ℕ}
 use lib.Dec.{eqb}
 use Rattle.layout.specs.declared.Shape.{Shape}
+use Rattle.layout.specs.Limits.{absent}
 use Rattle.layout.specs.View.{View, entryAt, isSymlink}
 use Rattle.encode.specs.declared.journal.Journal.{Journal}
-use Rattle.encode.specs.Journal.{journalBytes}
-use Rattle.layout.specs.Limits.{absent}
 use Rattle.encode.specs.Entry.{entryBytes, retargeted}
+use Rattle.encode.specs.Journal.{journalBytes}
+use Rattle.refusals.specs.declared.case.Case.{Case}
 use Rattle.plan.specs.Form.{rowsPut, cleared, journalGroup, entryGroup}
 use Rattle.plan.specs.Write.{Write, entryKey, journalKey, rowsFrom}
 use Rattle.results.specs.declared.Move.{Move}
 use Rattle.results.specs.Results.{entriesAfter, results, clearRow}
-use Rattle.refusals.specs.declared.case.Case.{Case}
 
 -- the move of a case, at a time, with the text that it frees
 abbrev pub moveWith : Case → ℕ → ℕ → Move

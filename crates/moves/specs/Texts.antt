@@ -4,10 +4,10 @@ use mathlib.Core.Logic.{_≢_}
 use mathlib.Core.Bool.{true, false}
 use Prim.Native.Nat.{ℕ}
 use borrow.Author.Tests.{eq-eqb, ne-eqb}
-use Rattle.layout.specs.View.{View, isSymlink}
 use Rattle.layout.specs.Limits.{absent}
-use Rattle.results.specs.Results.{entriesAfter}
+use Rattle.layout.specs.View.{View, isSymlink}
 use Rattle.refusals.specs.declared.case.Case.{Case}
+use Rattle.results.specs.Results.{entriesAfter}
 use Rattle.moves.specs.Plan.{moveWith, freedText}
 
 module _ (v : View) (c : Case) (time : ℕ) where

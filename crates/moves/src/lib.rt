@@ -4,7 +4,7 @@ use layout::limits;
 use refusals::case::Case;
 use results::Move;
 ghost use mathlib.Core.Path.{_≡_};
-ghost use Rattle.layout.specs.ContentsLaws.{Laid};
+ghost use Rattle.layout.specs.Facts.{Laid};
 ghost use Rattle.layout.specs.View.{viewOf};
 ghost use Rattle.moves.specs.Plan.{moveWith, freedText, moveOf};
 

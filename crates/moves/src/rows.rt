@@ -7,7 +7,7 @@ use results::Move;
 ghost use mathlib.Core.Path.{_≡_};
 ghost use Prim.Native.Nat.{_+_, _<_, _≤_};
 ghost use lib.ListN.{length};
-ghost use Rattle.layout.specs.ContentsLaws.{Laid};
+ghost use Rattle.layout.specs.Facts.{Laid};
 ghost use Rattle.encode.specs.Journal.{journalBytes};
 ghost use Rattle.plan.specs.Form.{planBytes, rowPut};
 ghost use Rattle.plan.specs.Write.{rowFrom};

@@ -2,7 +2,7 @@
 use layout::Shape;
 ghost use mathlib.Core.Path.{_≡_};
 ghost use Prim.Native.Nat.{_<_};
-ghost use Rattle.layout.specs.ContentsLaws.{Laid};
+ghost use Rattle.layout.specs.Facts.{Laid};
 ghost use Rattle.layout.specs.View.{viewOf};
 ghost use Rattle.names.specs.Name.{plainName, isDots, clash};
 ghost use Rattle.names.specs.NameTests.{nameGood, hasDuplicate, Named};

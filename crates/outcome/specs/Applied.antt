@@ -7,22 +7,22 @@ use lib.Dec.{lit≤}
 use lib.ListN.{length, length-append}
 use Rattle.layout.specs.declared.Shape.{Shape}
 use Rattle.plan.specs.Form.{planRows, planBytes, rowCount, resultGroup}
+use Rattle.plan.specs.Jobs.{Job, jobsIn}
 use Rattle.plan.specs.Write.{Write}
+use Rattle.results.specs.declared.Move.{Move}
+use Rattle.results.specs.Results.{results, clearRow}
+use Rattle.results.specs.ResultRows.{results-le}
 use Rattle.crash_theorem.specs.Pick.{All}
 use Rattle.crash_theorem.specs.PickLaws.{all-join, all-map}
 use Rattle.crash_theorem.specs.Store.{putAll}
 use Rattle.crash_theorem.specs.Order.{Permitted, Sorted}
+use Rattle.moves.specs.Plan.{renameRows, planned}
 use Rattle.image_store.specs.Image.{Fits}
 use Rattle.image_store.specs.ImageLaws.{images}
 use Rattle.image_store.specs.JobLaws.{jobs}
-use Rattle.plan.specs.Jobs.{Job, jobsIn}
-use Rattle.image_store.specs.JobRowsLaws.{plan-count}
 use Rattle.image_store.specs.Operation.{rowsIn}
 use Rattle.image_store.specs.Safe.{planned-whole, planned-in-order}
-use Rattle.results.specs.declared.Move.{Move}
-use Rattle.results.specs.Results.{results, clearRow}
-use Rattle.results.specs.ResultRows.{results-le}
-use Rattle.moves.specs.Plan.{renameRows, planned}
+use Rattle.image_store.specs.JobRowsLaws.{plan-count}
 use Rattle.outcome.specs.Outcome.{finished}
 use Rattle.outcome.specs.RenamePlan.{renamePlan}
 use Rattle.outcome.specs.RenamePlanLaws.{rename-rows, rename-planned}

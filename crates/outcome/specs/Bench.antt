@@ -7,20 +7,21 @@ use Rattle.seq.specs.Search.{all, count}
 use Rattle.seq.specs.Bytes.{part, sameBytes}
 use Rattle.seq.specs.Number.{numberAt, bytesOf}
 use Rattle.layout.specs.declared.Shape.{Shape}
+use Rattle.layout.specs.Limits.{absent}
 use Rattle.layout.specs.Contents.{shapeOf}
 use Rattle.layout.specs.Record.{recordAt}
 use Rattle.layout.specs.View.{viewOf}
-use Rattle.layout.specs.Bench.{bench}
+use Rattle.layout.specs.BenchTree.{bench}
 use Rattle.names.specs.Name.{plainName, isDots}
 use Rattle.names.specs.NameTests.{nameGood}
-use Rattle.layout.specs.Limits.{absent}
 use Rattle.consistency.specs.Consistent.{checkNumber}
-use Rattle.consistency.specs.Facts.{Consistent, consistent-is}
 use Rattle.consistency.specs.Bench.{bench-consistent}
+use Rattle.consistency.specs.Facts.{Consistent}
+use Rattle.consistency.specs.FactLaws.{consistent-is}
 use Rattle.edits.specs.Bench.{k, g, new-name, file-replaced}
-use Rattle.image_store.specs.ImageLaws.{read-of}
 use Rattle.results.specs.declared.Move.{Move}
 use Rattle.results.specs.Results.{entriesAfter}
+use Rattle.image_store.specs.ImageLaws.{read-of}
 use Rattle.outcome.specs.Outcome.{finished}
 use Rattle.outcome.specs.Called.{Called}
 use Rattle.outcome.specs.Consistent.{finished-checked}

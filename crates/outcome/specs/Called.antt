@@ -8,12 +8,12 @@ use lib.Dec.{eqb}
 use lib.ListN.{length}
 use Rattle.seq.specs.Number.{span}
 use Rattle.layout.specs.declared.Shape.{Shape}
-use Rattle.layout.specs.ContentsLaws.{Read}
+use Rattle.layout.specs.Limits.{absent}
+use Rattle.layout.specs.Facts.{Read}
 use Rattle.layout.specs.View.{View, viewOf, entryUsed, isSymlink, nameRoom}
 use Rattle.names.specs.NameTests.{nameGood}
-use Rattle.layout.specs.Limits.{absent}
 use Rattle.consistency.specs.Sound.{journalClear}
-use Rattle.consistency.specs.Facts.{Bodies}
+use Rattle.consistency.specs.RecordFacts.{Bodies}
 use Rattle.edits.specs.Moved.{Allowed}
 use Rattle.results.specs.declared.Move.{Move}
 use Rattle.results.specs.Results.{entriesAfter}

@@ -10,15 +10,15 @@ use lib.Dec.{eqb, lit<}
 use lib.ListN.{length, getD-replicate}
 use lib.Seq.{ext-getD}
 use borrow.Author.Tests.{eqb-true, eqb-false, eq-eqb, ne-eqb, not-true}
+use Rattle.seq.specs.Bytes.{zeros}
 use Rattle.seq.specs.Truth.{and-left, and-right}
 use Rattle.seq.specs.SearchLaws.{all-at}
-use Rattle.seq.specs.Bytes.{zeros}
 use Rattle.layout.specs.declared.Shape.{Shape}
+use Rattle.layout.specs.Limits.{absent}
 use Rattle.layout.specs.RecordLaws.{record-length}
 use Rattle.layout.specs.View.{View, viewOf, entryAt, journalAt, entryUsed, isSymlink}
+use Rattle.encode.specs.Facts.{Names}
 use Rattle.encode.specs.Entry.{entryBytes, retargeted}
-use Rattle.encode.specs.EntryLaws.{Names}
-use Rattle.layout.specs.Limits.{absent}
 use Rattle.consistency.specs.Sound.{journalClear}
 use Rattle.edits.specs.Kinds.{IsSymlink, EntryUsed}
 use Rattle.edits.specs.Tests.{kind-is}
@@ -27,14 +27,14 @@ use Rattle.edits.specs.Moved.{Replaced}
 use Rattle.edits.specs.Finished.{from-directory, from-stays, into-stays, moved-stays}
 use Rattle.edits.specs.Bodies.{bodies-consistent}
 use Rattle.edits.specs.WrittenLaws.{new-names}
+use Rattle.refusals.specs.declared.case.Case.{Case}
 use Rattle.plan.specs.Write.{journalKey}
-use Rattle.image_store.specs.Image.{recordOf}
-use Rattle.image_store.specs.ImageLaws.{record-is}
 use Rattle.results.specs.declared.Move.{Move}
 use Rattle.results.specs.Results.{entriesAfter, freeRecord}
 use Rattle.results.specs.InImage.{InImage}
-use Rattle.refusals.specs.declared.case.Case.{Case}
 use Rattle.moves.specs.Plan.{moveOf, newEntry}
+use Rattle.image_store.specs.Image.{recordOf}
+use Rattle.image_store.specs.ImageLaws.{record-is}
 use Rattle.outcome.specs.Called.{textOf, Called}
 
 -- The planner's move frees that text.
@@ -74,8 +74,8 @@ module _ {h : Shape} {s : List ℕ} {m : Move} {called : List ℕ} (c : Called h
       let e : v .target (m .new) ≡ absent = sym (is-replaced _ (u, refl)) ∙ z in
       omega (arith, replaced-below _ (u, e), c .read .laid .inodes-most)
 
-  pub text-is : m .text ≢ absent → IsSymlink v (m .replaced) × (entriesAfter v m (m .replaced) ≡ 0) × (m .text ≡ v .field (m .replaced))
-  text-is n =
+  pub freed-text : m .text ≢ absent → IsSymlink v (m .replaced) × (entriesAfter v m (m .replaced) ≡ 0) × (m .text ≡ v .field (m .replaced))
+  freed-text n =
       let (b, e) = picked (isSymlink v (m .replaced) && eqb (entriesAfter v m (m .replaced)) 0) (v .field (m .replaced)) (λ z. n (c .text ∙ z)) in
       (kind-is v (m .replaced) 3 (search and-left), eqb-true _ _ (search (and-left, and-right)), c .text ∙ e)
 
@@ -90,7 +90,7 @@ module _ {h : Shape} {s : List ℕ} {m : Move} {called : List ℕ} (c : Called h
     from = from-directory before-good (c .allowed) .0;
     into = c .allowed .into-directory .0;
     replaced = λ n. replaced-below _ (replaced-is n);
-    text = λ n. let (y, _, e) = text-is n in rw e (before-good .texts .used (m .replaced) y .0);
+    text = λ n. let (y, _, e) = freed-text n in rw e (before-good .texts .used (m .replaced) y .0);
   }
 
   -- the replaced inode is none of the others
@@ -117,8 +117,8 @@ module _ {h : Shape} {s : List ℕ} {m : Move} {called : List ℕ} (c : Called h
           let none : m .replaced ≡ absent = c .replaced ∙ rw u in
           rw (eq-eqb _ _ none, c .missing none)
 
-  pub entry-names : Names (newEntry h s m called) (h .width) (m .into) (m .moved) (c .name)
-  entry-names = rw entry-bytes (new-names (c .read .laid) (c .bodies) (c .allowed) (c .short))
+  pub new-entry-names : Names (newEntry h s m called) (h .width) (m .into) (m .moved) (c .name)
+  new-entry-names = rw entry-bytes (new-names (c .read .laid) (c .bodies) (c .allowed) (c .short))
 
   pub journal-zeros : recordOf h s journalKey ≡ freeRecord h 4
   unfolding journalClear zeros

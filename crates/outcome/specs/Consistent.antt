@@ -12,18 +12,20 @@ use Rattle.seq.specs.Bytes.{part}
 use Rattle.seq.specs.Count.{bit}
 use Rattle.seq.specs.CountLaws.{count-edited}
 use Rattle.layout.specs.declared.Shape.{Shape}
-use Rattle.layout.specs.ContentsLaws.{Read}
-use Rattle.layout.specs.View.{View, viewOf, inodeAt, textAt}
-use Rattle.tree.specs.Tree.{targets, entriesOf, childDirectories}
-use Rattle.encode.specs.InodeLaws.{Says, says-itself}
 use Rattle.layout.specs.Limits.{absent}
+use Rattle.layout.specs.Facts.{Read}
+use Rattle.layout.specs.View.{View, viewOf, inodeAt, textAt}
+use Rattle.encode.specs.Facts.{Says}
+use Rattle.encode.specs.InodeLaws.{says-itself}
+use Rattle.tree.specs.Tree.{targets, entriesOf, childDirectories}
 use Rattle.consistency.specs.Sound.{journalClear}
-use Rattle.consistency.specs.Facts.{Bodies, is-consistent}
 use Rattle.consistency.specs.Consistent.{consistent, checkNumber}
 use Rattle.consistency.specs.ConsistentLaws.{consistent-checked}
+use Rattle.consistency.specs.RecordFacts.{Bodies}
+use Rattle.consistency.specs.FactLaws.{is-consistent}
 use Rattle.edits.specs.Kinds.{IsDirectory, IsSymlink}
 use Rattle.edits.specs.KindsLaws.{kind?}
-use Rattle.edits.specs.Tests.{is-kind, no-kind, is-targets, no-targets}
+use Rattle.edits.specs.Tests.{kind-test, no-kind, is-targets, no-targets}
 use Rattle.edits.specs.Moved.{Replaced, Gone}
 use Rattle.edits.specs.MovedLaws.{replaced?}
 use Rattle.edits.specs.Finished.{slots-differ, from-directory}
@@ -34,12 +36,13 @@ use Rattle.results.specs.Results.{targetsAfter, entriesAfter, childrenAfter, li
 use Rattle.results.specs.Edited.{edited-old, edited-new, edited-else}
 use Rattle.results.specs.Links.{links-directory, links-other}
 use Rattle.results.specs.Records.{replaced-freed, moved-directory-says, moved-other-says, holder-says, replaced-says}
-use Rattle.afresh.specs.Recount.{Agrees, entries-agree, children-agree, Made, entries-made, children-made}
+use Rattle.afresh.specs.Recount.{Agrees, Made}
+use Rattle.afresh.specs.RecountLaws.{entries-agree, children-agree, entries-made, children-made}
 use Rattle.outcome.specs.Outcome.{finished}
 use Rattle.outcome.specs.Called.{Called}
-use Rattle.outcome.specs.CalledLaws.{before-good, replaced-is, is-replaced, replaced-present, replaced-below, text-is, in-image, entry-bytes, entry-names}
+use Rattle.outcome.specs.CalledLaws.{before-good, replaced-is, is-replaced, replaced-present, replaced-below, freed-text, in-image, entry-bytes, new-entry-names}
+use Rattle.outcome.specs.Finished.{finished-ok, new-written, old-cleared, moved-written, from-written, into-written, replaced-written, text-cleared, entry-kept, inode-kept, finished-text, handle-kept, journal-kept}
 use Rattle.outcome.specs.PlanRows.{inode-long, links-small}
-use Rattle.outcome.specs.Finished.{finished-ok, new-written, old-cleared, moved-written, from-written, into-written, replaced-written, text-cleared, entry-kept, inode-kept, text-kept, handle-kept, journal-kept}
 
 -- an image is consistent by its parts
 consistent-of : {h : Shape} {x : List ℕ} → Read x h → journalClear h x ≡ true → Bodies h x → consistent x ≡ true
@@ -157,9 +160,9 @@ module _ {h : Shape} {s : List ℕ} {m : Move} {called : List ℕ} (c : Called h
   unfolding viewOf
   finished-made = record {
     cleared = rw (old-cleared c) (getD-replicate (h .width) 4 0 0 (omega (arith, c .read .laid .width-least)));
-    used = λ z. c .nonempty (sym (entry-names c .name-length) ∙ (rw (new-written c) at z));
-    parent = rw (new-written c) (entry-names c .parent);
-    target = rw (new-written c) (entry-names c .target);
+    used = λ z. c .nonempty (sym (new-entry-names c .name-length) ∙ (rw (new-written c) at z));
+    parent = rw (new-written c) (new-entry-names c .parent);
+    target = rw (new-written c) (new-entry-names c .target);
   }
 
   -- what is counted on the image before, as edited, is what the finished image has
@@ -170,7 +173,7 @@ module _ {h : Shape} {s : List ℕ} {m : Move} {called : List ℕ} (c : Called h
   children-finished d = children-made finished-made d ∙ children-agree finished-agrees d
 
   parent-count : (i : ℕ) → IsDirectory v i → linksAfter v m i ≡ 2 + childDirectories w i
-  parent-count i d = links-directory v m i (is-kind v i 2 d) ∙ omega (arith, children-finished i)
+  parent-count i d = links-directory v m i (kind-test v i 2 d) ∙ omega (arith, children-finished i)
 
   -- the replaced inode has lost one entry, so a directory, which had one, is freed
   lost : (i : ℕ) → Replaced v (m .new) i → entriesOf v i ≡ entriesAfter v m i + 1
@@ -239,14 +242,14 @@ module _ {h : Shape} {s : List ℕ} {m : Move} {called : List ℕ} (c : Called h
   text-freed i g y =
       let e : m .text ≡ v .field i =
       subst (λ (k : ℕ). IsSymlink v k → entriesAfter v m k ≡ 0 → m .text ≡ v .field k) (is-replaced c i (g .0))
-      (λ y z. c .text ∙ rw (is-kind v (m .replaced) 3 y, eq-eqb _ _ z)) y (gone-none i g) in
+      (λ y z. c .text ∙ rw (kind-test v (m .replaced) 3 y, eq-eqb _ _ z)) y (gone-none i g) in
       ((λ z. omega (arith, before-good c .texts .used i y .0, sym e ∙ z, c .read .laid .texts-most)), e)
 
   text-stays : (x : ℕ) → x < h .texts → ((i : ℕ) → Gone v w (m .new) i → IsSymlink v i → v .field i ≢ x) → x ≢ m .text
   unfolding viewOf
   text-stays x l n e =
       let present : m .text ≢ absent = λ z. omega (arith, c .read .laid .texts-most, e ∙ z) in
-      let (y, z, f) = text-is c present in
+      let (y, z, f) = freed-text c present in
       let used : m .replaced ≢ absent = λ z. omega (arith, y .0, c .read .laid .inodes-most) in
       n (m .replaced) (replaced-is c used, entries-finished (m .replaced) ∙ z) y (sym f ∙ sym e)
 
@@ -264,7 +267,7 @@ module _ {h : Shape} {s : List ℕ} {m : Move} {called : List ℕ} (c : Called h
     parents = λ i e. parent-says i e .links ∙ parent-count i (holds i e);
     replaced = λ i r n. left-says i r (left-some i r n) .links ∙ left-count i r (left-some i r n);
     links = moved-links;
-    text = λ x l n. text-kept c x l (text-stays x l n);
+    text = λ x l n. finished-text c x l (text-stays x l n);
     text-freed = λ i g y. let (n, e) = text-freed i g y in subst (λ (x : ℕ). textAt h t x ≡ freeRecord h 2) e (text-cleared c n);
     handle = handle-kept c;
   }

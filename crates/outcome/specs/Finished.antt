@@ -9,24 +9,24 @@ use native.Mathlib.Omega.{arith}
 use lib.Dec.{eqb, lit<}
 use borrow.Author.Tests.{ne-eqb}
 use Rattle.layout.specs.declared.Shape.{Shape}
+use Rattle.layout.specs.Limits.{absent}
 use Rattle.layout.specs.Place.{Key}
-use Rattle.layout.specs.PlaceLaws.{Valid}
+use Rattle.layout.specs.Facts.{Valid}
 use Rattle.layout.specs.Record.{recordAt}
 use Rattle.layout.specs.View.{inodeAt, entryAt, textAt, handleAt, journalAt}
-use Rattle.layout.specs.Limits.{absent}
 use Rattle.plan.specs.Write.{Write, inodeKey, entryKey, textKey, journalKey}
 use Rattle.plan.specs.WriteLaws.{other-section, other-index}
+use Rattle.results.specs.declared.Move.{Move}
+use Rattle.results.specs.Results.{when, freeRecord, movedAfter, holderAfter, replacedAfter, oldRow, movedRow, holderRow, replacedRow, textRow, intoRows, replacedRows, results}
 use Rattle.crash_theorem.specs.Pick.{Has}
 use Rattle.crash_theorem.specs.PickLaws.{any-left, any-right}
 use Rattle.crash_theorem.specs.Store.{Spares}
-use Rattle.crash_theorem.specs.StoreLaws.{all-ok, all-same, all-other}
+use Rattle.crash_theorem.specs.StoreLaws.{all-ok, rows-same, all-other}
 use Rattle.crash_theorem.specs.Plan.{afterOf, writes}
+use Rattle.moves.specs.Plan.{newEntry, entryRow}
 use Rattle.image_store.specs.Image.{Ok, recordOf}
 use Rattle.image_store.specs.ImageLaws.{record-is, images}
 use Rattle.image_store.specs.Safe.{after-stored}
-use Rattle.results.specs.declared.Move.{Move}
-use Rattle.results.specs.Results.{when, freeRecord, movedAfter, holderAfter, replacedAfter, oldRow, movedRow, holderRow, replacedRow, textRow, intoRows, replacedRows, results}
-use Rattle.moves.specs.Plan.{newEntry, entryRow}
 use Rattle.outcome.specs.Outcome.{finished}
 use Rattle.outcome.specs.RenamePlan.{renamePlan}
 use Rattle.outcome.specs.Called.{Called}
@@ -87,12 +87,12 @@ module _ {h : Shape} {s : List ℕ} {m : Move} {called : List ℕ} (c : Called h
   pub finished-new : recordOf h t (entryKey (m .new)) ≡ newEntry h s m called
   finished-new =
       let 𝓦 = well-formed c in
-      rw finished-after at (all-same (images h s) rows (𝓦 .ok) (𝓦 .fits) (𝓦 .distinct) (entryRow h s m called) (inl refl))
+      rw finished-after at (rows-same (images h s) rows (𝓦 .ok) (𝓦 .fits) (𝓦 .distinct) (entryRow h s m called) (inl refl))
 
   pub finished-result : (w : Write) → Has (results h s m) w → recordOf h t (w .key) ≡ w .body
   finished-result w a =
       let 𝓦 = well-formed c in
-      rw finished-after at (all-same (images h s) rows (𝓦 .ok) (𝓦 .fits) (𝓦 .distinct) w (inr a))
+      rw finished-after at (rows-same (images h s) rows (𝓦 .ok) (𝓦 .fits) (𝓦 .distinct) w (inr a))
 
   pub finished-other : (k : Key) → entryKey (m .new) ≢ k → Spares (images h s) (results h s m) k → recordOf h t k ≡ recordOf h s k
   finished-other k n a =
@@ -143,8 +143,8 @@ module _ {h : Shape} {s : List ℕ} {m : Move} {called : List ℕ} (c : Called h
   inode-kept i l moved from into replaced =
       kept (inodeKey i) (record { in-image = lit< tt; in-section = l }) (other-section _ _ (λ e. omega arith)) (inode-spared h s m i moved from into replaced)
 
-  pub text-kept : (x : ℕ) → x < h .texts → x ≢ m .text → textAt h t x ≡ textAt h s x
-  text-kept x l n = kept (textKey x) (record { in-image = lit< tt; in-section = l }) (other-section _ _ (λ e. omega arith)) (text-spared h s m x n)
+  pub finished-text : (x : ℕ) → x < h .texts → x ≢ m .text → textAt h t x ≡ textAt h s x
+  finished-text x l n = kept (textKey x) (record { in-image = lit< tt; in-section = l }) (other-section _ _ (λ e. omega arith)) (text-spared h s m x n)
 
   pub handle-kept : (n : ℕ) → n < h .handles → handleAt h t n ≡ handleAt h s n
   handle-kept n l =

@@ -9,30 +9,30 @@ use lib.Dec.{eqb, lit<, lit≤}
 use lib.ListN.{length}
 use borrow.Author.Tests.{eqb-false, not-true}
 use Rattle.layout.specs.declared.Shape.{Shape}
+use Rattle.layout.specs.Limits.{absent}
 use Rattle.layout.specs.Place.{Key}
 use Rattle.layout.specs.RecordLaws.{record-length}
 use Rattle.layout.specs.View.{viewOf, inodeAt}
 use Rattle.encode.specs.JournalLaws.{journal-length}
-use Rattle.layout.specs.Limits.{absent}
 use Rattle.edits.specs.Finished.{slots-differ, moved-not-from, moved-not-into}
+use Rattle.plan.specs.Form.{clearGroup, entryGroup}
 use Rattle.plan.specs.Write.{Write, inodeKey, entryKey, textKey}
-use Rattle.plan.specs.WriteLaws.{other-section, other-index}
 use Rattle.plan.specs.Filled.{AllWrites}
+use Rattle.plan.specs.WriteLaws.{other-section, other-index}
+use Rattle.results.specs.declared.Move.{Move}
+use Rattle.results.specs.Results.{present, when, linksAfter, oldRow, movedRow, holderRow, replacedRow, textRow, intoRows, replacedRows, textRows, results}
+use Rattle.results.specs.Links.{links-le}
+use Rattle.results.specs.Owed.{results-write, clear-writes}
 use Rattle.crash_theorem.specs.Pick.{All}
 use Rattle.crash_theorem.specs.PickLaws.{all-join}
 use Rattle.crash_theorem.specs.Store.{Distinct, Spares}
 use Rattle.crash_theorem.specs.Plan.{WellFormed}
+use Rattle.moves.specs.Plan.{journalFor, journalRow, entryRow}
 use Rattle.image_store.specs.Image.{Fits}
 use Rattle.image_store.specs.ImageLaws.{first-ok, images}
-use Rattle.results.specs.declared.Move.{Move}
-use Rattle.results.specs.Results.{present, when, linksAfter, oldRow, movedRow, holderRow, replacedRow, textRow, intoRows, replacedRows, textRows, results}
-use Rattle.plan.specs.Form.{clearGroup, entryGroup}
-use Rattle.results.specs.Links.{links-le}
-use Rattle.results.specs.Owed.{results-write, clear-writes}
-use Rattle.moves.specs.Plan.{journalFor, journalRow, entryRow}
 use Rattle.outcome.specs.RenamePlan.{renamePlan, asked}
 use Rattle.outcome.specs.Called.{Called}
-use Rattle.outcome.specs.CalledLaws.{before-good, in-image, replaced-not-moved, replaced-not-from, replaced-not-into, entry-names, journal-zeros}
+use Rattle.outcome.specs.CalledLaws.{before-good, in-image, replaced-not-moved, replaced-not-from, replaced-not-into, new-entry-names, journal-zeros}
 
 -- rows that an operation may write fit
 writes-fit : (h : Shape) (ws : List Write) → AllWrites h ws → All (Fits h) ws
@@ -127,7 +127,7 @@ module _ {h : Shape} {s : List ℕ} {m : Move} {called : List ℕ} (c : Called h
       last = lit≤ tt;
       valid = record { in-image = lit< tt; in-section = in-image c .new };
       allowed = refl;
-      whole = entry-names c .long;
+      whole = new-entry-names c .long;
     };
   }
 

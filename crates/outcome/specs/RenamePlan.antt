@@ -2,12 +2,12 @@
 use mathlib.Core.List.{List, [], _++_}
 use Prim.Native.Nat.{ℕ}
 use Rattle.layout.specs.declared.Shape.{Shape}
-use Rattle.crash_theorem.specs.Plan.{by-row, Plan}
-use Rattle.image_store.specs.ImageLaws.{images}
+use Rattle.plan.specs.Write.{Write}
 use Rattle.results.specs.declared.Move.{Move}
 use Rattle.results.specs.Results.{results, clearRow, intoRows, replacedRows, textRows}
+use Rattle.crash_theorem.specs.Plan.{by-row, Plan}
 use Rattle.moves.specs.Plan.{journalRow, entryRow}
-use Rattle.plan.specs.Write.{Write}
+use Rattle.image_store.specs.ImageLaws.{images}
 
 module _ (h : Shape) (s : List ℕ) (m : Move) (called : List ℕ) where
   -- the rows by what they do: the journal record is set, the new entry decides, the results follow, the journal record is cleared

@@ -3,10 +3,10 @@ use mathlib.Core.Path.{_≡_, refl}
 use mathlib.Core.List.{List}
 use Prim.Native.Nat.{ℕ}
 use Rattle.layout.specs.declared.Shape.{Shape}
-use Rattle.image_store.specs.JobRows.{planOf}
-use Rattle.image_store.specs.Operation.{rowsIn}
 use Rattle.results.specs.declared.Move.{Move}
 use Rattle.moves.specs.Plan.{renameRows, planned}
+use Rattle.image_store.specs.Operation.{rowsIn}
+use Rattle.image_store.specs.JobRows.{planOf}
 use Rattle.outcome.specs.RenamePlan.{renamePlan}
 
 module _ (h : Shape) (s : List ℕ) (m : Move) (called : List ℕ) where

@@ -4,6 +4,7 @@ pub mod Path
 pub mod Permission
 pub mod PermissionLaws
 pub mod Lookup
+pub mod LookupFacts
 pub mod LookupLaws
 pub mod PathLaws
 pub mod Plain

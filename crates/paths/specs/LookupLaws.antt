@@ -6,19 +6,14 @@ use Prim.Native.Nat.{ℕ, _≤_, _<_}
 use native.Mathlib.Omega.{arith}
 use lib.Dec.{eqb}
 use borrow.Author.Tests.{eqb-true}
-use Rattle.seq.specs.Truth.{and-left, and-right}
 use Rattle.seq.specs.Search.{any}
-use Rattle.seq.specs.SearchLaws.{any-false, first-le, first-passes, first-before}
 use Rattle.seq.specs.Bytes.{sameBytes}
+use Rattle.seq.specs.Truth.{and-left, and-right}
+use Rattle.seq.specs.SearchLaws.{any-false, first-le, first-passes, first-before}
 use Rattle.seq.specs.BytesLaws.{same-bytes}
 use Rattle.layout.specs.View.{View, entryUsed}
 use Rattle.paths.specs.Lookup.{isNamed, lookup}
-
--- What holds of a slot that a name was found in.
-pub record Held (v : View) (d : ℕ) (name : List ℕ) (j : ℕ) : Type 0 where
-  pub used : entryUsed v j ≡ true
-  pub parent : v .parent j ≡ d
-  pub named : v .name j ≡ name
+use Rattle.paths.specs.LookupFacts.{Held}
 
 pub lookup-held : (v : View) (d : ℕ) (name : List ℕ) (j : ℕ) → j ≡ lookup v d name → j < v .entries → Held v d name j
 unfolding lookup isNamed

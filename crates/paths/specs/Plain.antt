@@ -7,9 +7,9 @@ use native.Mathlib.Omega.{arith}
 use lib.Dec.{eqb}
 use lib.ListN.{length, getD, length-take}
 use lib.Seq.{getD-take}
+use Rattle.seq.specs.Bytes.{noZero}
 use Rattle.seq.specs.SearchLaws.{first-le, first-before}
 use Rattle.seq.specs.EveryLaws.{every-take, every-drop, every-append}
-use Rattle.seq.specs.Bytes.{noZero}
 use Rattle.paths.specs.Path.{isSlash, slashes, untilSlash, skip, component, behind, bare}
 use Rattle.paths.specs.PathLaws.{name-more}
 

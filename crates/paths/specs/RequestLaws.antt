@@ -3,8 +3,8 @@ use mathlib.Core.Path.{_≡_}
 use mathlib.Core.Bool.{true, _&&_}
 use mathlib.Core.List.{List}
 use Prim.Native.Nat.{ℕ}
-use Rattle.seq.specs.Truth.{and-left, and-right}
 use Rattle.seq.specs.Bytes.{noZero}
+use Rattle.seq.specs.Truth.{and-left, and-right}
 use Rattle.layout.specs.View.{View, isDirectory}
 use Rattle.paths.specs.declared.request.Request.{Request}
 use Rattle.paths.specs.Request.{requestGood}

@@ -3,7 +3,7 @@ use layout::Shape;
 ghost use mathlib.Core.Path.{_≡_};
 ghost use Prim.Native.Nat.{_≤_, _<_};
 ghost use Rattle.layout.specs.View.{viewOf};
-ghost use Rattle.layout.specs.ViewLaws.{Readable};
+ghost use Rattle.layout.specs.Facts.{Readable};
 ghost use Rattle.paths.specs.Lookup.{isNamed, lookup};
 
 // Whether the entry in slot j is in use, lies in directory d and has this name.

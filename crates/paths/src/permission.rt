@@ -3,9 +3,14 @@ use crate::request::Credentials;
 use layout::Shape;
 ghost use mathlib.Core.Path.{_≡_};
 ghost use Prim.Native.Nat.{_≤_, _<_};
-ghost use Rattle.layout.specs.ContentsLaws.{Laid};
+ghost use Rattle.layout.specs.Facts.{Laid};
 ghost use Rattle.layout.specs.View.{viewOf};
 ghost use Rattle.paths.specs.Permission.{allows};
+
+// The bits that are asked for, by their weight in the others' class.
+pub const SEARCH_BIT: usize = 1;
+
+pub const WRITE_BIT: usize = 2;
 
 // Whether the caller has this bit on inode i.
 pub fn allows(image: &[u8], h: Shape, who: Credentials, i: usize, bit: usize) -> bool

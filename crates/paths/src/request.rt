@@ -1,7 +1,7 @@
 // A request: who asks, from where, and when.
 use layout::Shape;
 ghost use mathlib.Core.Path.{_≡_};
-ghost use Rattle.layout.specs.ContentsLaws.{Laid};
+ghost use Rattle.layout.specs.Facts.{Laid};
 ghost use Rattle.layout.specs.View.{viewOf};
 ghost use Rattle.paths.specs.Request.{requestGood};
 

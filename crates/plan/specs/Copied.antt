@@ -7,8 +7,8 @@ use lib.ListN.{length}
 use Rattle.seq.specs.Bytes.{put}
 use Rattle.seq.specs.BytesLaws.{put-length, put-within}
 use Rattle.plan.specs.Form.{Row, planRows, bodyBytes, planBytes, headerAt, bodyAt, headerOf, rowPut, rowsPut}
-use Rattle.plan.specs.RowLaws.{header-length, row-length}
 use Rattle.plan.specs.Stands.{RowFormed, Each}
+use Rattle.plan.specs.RowLaws.{header-length, row-length}
 
 module _ (buffer : List ℕ) (long : planBytes ≤ length buffer) where
   row-copied : (plan : List ℕ) (i : ℕ) (r : Row) → length plan ≡ planBytes → i < planRows → length (r .body) ≤ bodyBytes

@@ -5,7 +5,7 @@ use Prim.Native.Nat.{ℕ, _+_}
 use lib.ListN.{length}
 use Rattle.layout.specs.declared.Shape.{Shape}
 use Rattle.plan.specs.Form.{rowsPut}
-use Rattle.plan.specs.FitLaws.{Writes}
+use Rattle.plan.specs.FitFacts.{Writes}
 use Rattle.plan.specs.Write.{Write, rowsFrom}
 
 -- each is one that an operation may write (rule 84)

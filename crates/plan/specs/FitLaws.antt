@@ -10,21 +10,14 @@ use borrow.Author.Tests.{eq-eqb, eqb-true, lt-ltb, ltb-true, le-leb, leb-true}
 use Rattle.seq.specs.Truth.{and-left, and-right, and-both}
 use Rattle.seq.specs.SearchLaws.{any-hit, any-at}
 use Rattle.layout.specs.declared.Shape.{Shape}
-use Rattle.layout.specs.ContentsLaws.{Laid}
 use Rattle.layout.specs.Place.{Key, recordBytes, records, place, imageBytes}
-use Rattle.layout.specs.PlaceLaws.{Valid, inside}
-use Rattle.plan.specs.Form.{Row, planRows, bodyBytes, planBytes, bodyAt, rowGroup, rowBlank, rowLength, rowOffset, rowPosition, rowAt, rowPut, lastGroup}
-use Rattle.plan.specs.RowLaws.{row-stands}
-use Rattle.plan.specs.Stands.{RowFormed, Stands}
+use Rattle.layout.specs.Facts.{Laid}
+use Rattle.layout.specs.PlaceLaws.{place-inside}
+use Rattle.plan.specs.Form.{Row, planRows, bodyBytes, planBytes, rowLength, rowOffset, rowAt, rowPut}
 use Rattle.plan.specs.Fit.{applicable, coverable, covers, coversRecord, coversSection, groupGood, rowFits, rowFor}
-
--- The record that n bytes from at on are.
-pub record Covered (h : Shape) (at n : ℕ) : Type 0 where
-  pub key : Key
-  pub valid : Valid h key
-  pub allowed : coverable (key .section) ≡ true
-  pub begins : at ≡ place h (key .section) (key .index)
-  pub whole : n ≡ recordBytes h (key .section)
+use Rattle.plan.specs.FitFacts.{Covered, Applicable, Writes}
+use Rattle.plan.specs.Stands.{RowFormed, Stands}
+use Rattle.plan.specs.RowLaws.{row-stands}
 
 pub covers-one : (h : Shape) (at n : ℕ) → covers h at n ≡ true → Covered h at n
 unfolding covers coversSection
@@ -49,7 +42,7 @@ one-covers h at n c =
 
 -- such a record lies in the image
 pub covered-ends : (h : Shape) (at n : ℕ) → Covered h at n → at + n ≤ imageBytes h
-covered-ends h at n c = rw (c .begins, c .whole) (inside h (c .key .section) (c .key .index) (c .valid .in-image) (c .valid .in-section))
+covered-ends h at n c = rw (c .begins, c .whole) (place-inside h (c .key .section) (c .key .index) (c .valid .in-image) (c .valid .in-section))
 
 -- a record is not empty, and it fits a body
 pub record-some : (h : Shape) → 1 ≤ h .width → (k : ℕ) → 1 ≤ recordBytes h k
@@ -65,15 +58,6 @@ record-room h a (suc zero) = omega arith
 record-room h a (suc (suc zero)) = omega arith
 record-room h a (suc (suc (suc zero))) = omega arith
 record-room h a (suc (suc (suc (suc k)))) = omega arith
-
--- What holds of a row that can be applied.
-pub record Applicable (h : Shape) (plan : List ℕ) (i : ℕ) : Type 0 where
-  pub below : i < planRows
-  pub blank : rowBlank plan i ≡ 0
-  pub position : rowPosition plan i ≡ bodyAt i
-  pub first : 1 ≤ rowGroup plan i
-  pub last : rowGroup plan i ≤ lastGroup
-  pub covered : Covered h (rowOffset plan i) (rowLength plan i)
 
 pub applicable-is : (h : Shape) (plan : List ℕ) (i : ℕ) → applicable h plan i ≡ true → Applicable h plan i
 unfolding applicable rowFits rowAt
@@ -95,14 +79,6 @@ is-applicable h plan i g =
 pub applicable-fits : (h : Shape) (s plan : List ℕ) (i : ℕ) → Laid h s → Applicable h plan i → (rowLength plan i ≤ bodyBytes) × (rowOffset plan i + rowLength plan i ≤ length s)
 applicable-fits h s plan i laid g =
     (rw (g .covered .whole) (record-room h (laid .width-most) (g .covered .key .section)), omega (arith, laid .long, covered-ends h _ _ (g .covered)))
-
--- What an operation owes for each of its rows (rule 84).
-pub record Writes (h : Shape) (group : ℕ) (k : Key) (body : List ℕ) : Type 0 where
-  pub first : 1 ≤ group
-  pub last : group ≤ lastGroup
-  pub valid : Valid h k
-  pub allowed : coverable (k .section) ≡ true
-  pub whole : length body ≡ recordBytes h (k .section)
 
 -- such a row can be applied to the image, by itself
 module _ (h : Shape) (group : ℕ) (k : Key) (body : List ℕ) (w : Writes h group k body) where
@@ -126,7 +102,7 @@ module _ (h : Shape) (s : List ℕ) (laid : Laid h s) (group : ℕ) (k : Key) (b
   written-formed =
       let some = record-some h (omega (arith, laid .width-least)) (k .section) in
       let room = record-room h (laid .width-most) (k .section) in
-      let ends = inside h (k .section) (k .index) (w .valid .in-image) (w .valid .in-section) in
+      let ends = place-inside h (k .section) (k .index) (w .valid .in-image) (w .valid .in-section) in
       record { offset-small = omega (arith, laid .small); body-fits = omega (arith, w .whole); whole = refl }
 
   -- put into a plan, it can be applied from there

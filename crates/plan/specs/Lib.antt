@@ -5,6 +5,7 @@ pub mod Unused
 pub mod UnusedLaws
 pub mod Copied
 pub mod Fit
+pub mod FitFacts
 pub mod FitLaws
 pub mod Write
 pub mod Filled

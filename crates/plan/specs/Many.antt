@@ -10,12 +10,12 @@ use lib.Dec.{eqb}
 use lib.ListN.{length, getD, replicate, getD-replicate, length-replicate}
 use borrow.Author.Tests.{eq-eqb, ne-eqb}
 use Rattle.seq.specs.Search.{any}
-use Rattle.seq.specs.SearchLaws.{any-false, all-not, all-of, first-hit, first-none}
 use Rattle.seq.specs.Bytes.{put, zeros}
+use Rattle.seq.specs.SearchLaws.{any-false, all-not, all-of, first-hit, first-none}
 use Rattle.seq.specs.BytesLaws.{part-byte, put-length, put-inside, put-after}
 use Rattle.plan.specs.Form.{Row, planRows, headerBytes, bodyBytes, planBytes, headerAt, rowGroup, rowAt, rowPut, rowsPut, cleared, noRow, rowCount}
-use Rattle.plan.specs.RowLaws.{row-length, row-past, row-stands, header-other, stands-other}
 use Rattle.plan.specs.Stands.{RowFormed, Stands, header, Each}
+use Rattle.plan.specs.RowLaws.{row-length, row-past, row-stands, header-other, stands-other}
 
 pub each-at : (P : Row → Type 0) (d : Row) (rs : List Row) → Each P rs → (k : ℕ) → k < length rs → P (getD rs k d)
 each-at P d [] e k l = absurd (not-suc-le-zero l)

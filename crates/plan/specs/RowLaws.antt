@@ -3,15 +3,15 @@ use mathlib.Core.Path.{_≡_, refl, sym, ap, _∙_, subst}
 use mathlib.Core.Logic.{_⊎_, ⊎-elim, inl, inr, _≢_}
 use mathlib.Core.List.{List}
 use Prim.Native.Nat.{ℕ, _+_, _-_, _≤_, _<_}
-use native.Mathlib.Nat.{add-zero}
 use native.Mathlib.Decide.{decLt}
+use native.Mathlib.Nat.{add-zero}
 use native.Mathlib.Omega.{arith}
 use lib.ListN.{length, getD, take, drop}
 use Rattle.seq.specs.Bytes.{part, put}
-use Rattle.seq.specs.BytesLaws.{part-byte, part-length, part-range, put-length, put-part, put-part-other, put-after}
 use Rattle.seq.specs.Number.{numberAt, bytesOf}
+use Rattle.seq.specs.BytesLaws.{part-byte, part-length, part-range, put-length, put-part, put-part-other, put-after}
 use Rattle.seq.specs.NumberLaws.{number-part}
-use Rattle.layout.specs.RecordLaws.{Reads}
+use Rattle.layout.specs.Facts.{Reads}
 use Rattle.plan.specs.Form.{Row, planRows, headerBytes, bodyBytes, planBytes, headerAt, bodyAt, rowGroup, rowBlank, rowLength, rowOffset, rowPosition, rowAt, headerOf, rowPut}
 use Rattle.plan.specs.Stands.{RowFormed, Fields, header, Stands}
 

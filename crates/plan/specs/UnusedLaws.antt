@@ -10,9 +10,9 @@ use borrow.Author.Tests.{leb-false, ltb-false}
 use Rattle.seq.specs.Bytes.{put}
 use Rattle.seq.specs.BytesLaws.{put-before, put-after}
 use Rattle.plan.specs.Form.{Row, headerBytes, planBytes, headerAt, bodyAt, headerOf, rowPut, rowsPut, cleared}
-use Rattle.plan.specs.RowLaws.{header-length}
 use Rattle.plan.specs.Many.{cleared-byte}
 use Rattle.plan.specs.Unused.{inRange, inRow, inRows}
+use Rattle.plan.specs.RowLaws.{header-length}
 
 neither : {A : Type 0} (a b : Bool) → (a || b) ≡ false → (a ≡ false → b ≡ false → A) → A
 neither true b e f = absurd (false≢true (sym e))

@@ -2,7 +2,7 @@
 ghost use mathlib.Core.Path.{_≡_};
 ghost use Prim.Native.Nat.{_+_, _*_, _<_, _≤_};
 ghost use lib.ListN.{length, replicate};
-ghost use Rattle.layout.specs.RecordLaws.{Reads};
+ghost use Rattle.layout.specs.Facts.{Reads};
 ghost use Rattle.plan.specs.Form.{planBytes, planRows, bodyBytes, rowOf, rowPut, rowGroup, rowBlank, rowLength, rowOffset, rowPosition, rowAt, cleared};
 
 // How many rows a plan has, the bytes of a header and of a body, where the bodies begin, and the bytes of the whole.

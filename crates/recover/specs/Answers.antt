@@ -4,21 +4,21 @@ use mathlib.Core.List.{List}
 use Prim.Native.Nat.{ℕ}
 use lib.ListN.{replicate}
 use Rattle.layout.specs.declared.Shape.{Shape}
-use Rattle.layout.specs.ContentsLaws.{Read}
+use Rattle.layout.specs.Facts.{Read}
 use Rattle.plan.specs.Form.{planBytes}
-use Rattle.recover.specs.declared.Answer.{Answer}
 use Rattle.drafts.specs.declared.draft.Draft.the-variants.{Rows}
 use Rattle.drafts.specs.Draft.{draft}
-use Rattle.recover.specs.Job.{Recovered, answerOf}
 use Rattle.drafts.specs.Drafted.{Drafted}
+use Rattle.recover.specs.declared.Answer.{Answer}
+use Rattle.recover.specs.Job.{Recovered, withoutBuffers}
 
 -- a refusal
-abbrev pub refusedBy : ℕ → Answer
-refusedBy n = record { number = n; rows = 0 }
+abbrev pub noRows : ℕ → Answer
+noRows n = record { number = n; rows = 0 }
 
 -- The job answers so, and leaves these buffers.
 pub record RecoverAnswers (o : Recovered) (r : Answer) (plan scratch : List ℕ) : Type 0 where
-  pub is : r ≡ answerOf o
+  pub is : r ≡ withoutBuffers o
   pub plan-is : plan ≡ o .plan
   pub scratch-is : scratch ≡ o .scratch
 

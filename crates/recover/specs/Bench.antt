@@ -7,18 +7,18 @@ use Rattle.seq.specs.Search.{any, all, first, count}
 use Rattle.seq.specs.Bytes.{part, put, zeros, noZero, sameBytes}
 use Rattle.seq.specs.Number.{numberAt, bytesOf}
 use Rattle.layout.specs.declared.Shape.{Shape}
+use Rattle.layout.specs.Limits.{absent}
 use Rattle.layout.specs.Contents.{nameIs, shapeOf, layoutGood}
 use Rattle.layout.specs.Record.{recordAt, store}
 use Rattle.layout.specs.View.{viewOf, entryAt}
-use Rattle.layout.specs.Bench.{bench}
+use Rattle.layout.specs.BenchTree.{bench}
+use Rattle.encode.specs.Entry.{retargeted}
+use Rattle.encode.specs.Journal.{journalOf, journalFormed, journalHead, journalBytes}
 use Rattle.names.specs.Name.{plainName, isDots, clash}
 use Rattle.names.specs.NameTests.{nameGood}
 use Rattle.tree.specs.Tree.{entriesOf, childDirectories, reaches, textShared}
-use Rattle.encode.specs.Entry.{retargeted}
-use Rattle.encode.specs.Journal.{journalOf, journalFormed, journalHead, journalBytes}
-use Rattle.layout.specs.Limits.{absent}
-use Rattle.consistency.specs.Sound.{textLinked, journalClear}
-use Rattle.consistency.specs.Consistent.{bodiesGood, consistent}
+use Rattle.consistency.specs.Sound.{textLinked, journalClear, bodiesGood}
+use Rattle.consistency.specs.Consistent.{consistent}
 use Rattle.plan.specs.Form.{headerOf, rowPut, rowsPut, cleared, noRow, rowCount}
 use Rattle.plan.specs.Write.{Write, entryKey, journalKey, storeAll}
 use Rattle.results.specs.declared.Move.{Move}

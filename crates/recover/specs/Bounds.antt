@@ -8,13 +8,13 @@ use native.Mathlib.Omega.{arith}
 use lib.Dec.{ltb, lit≤}
 use lib.ListN.{length, length-append}
 use Rattle.layout.specs.declared.Shape.{Shape}
+use Rattle.layout.specs.Errno.{inconsistent, shortBuffer}
 use Rattle.layout.specs.Contents.{layoutGood, shapeOf}
 use Rattle.layout.specs.View.{viewOf, journalAt}
 use Rattle.encode.specs.declared.journal.Journal.{Journal}
 use Rattle.encode.specs.Journal.{journalOf, journalFormed}
 use Rattle.consistency.specs.Sound.{journalClear}
 use Rattle.consistency.specs.Consistent.{consistent}
-use Rattle.layout.specs.Errno.{inconsistent, shortBuffer}
 use Rattle.plan.specs.Form.{planRows, planBytes}
 use Rattle.plan.specs.Write.{Write, storeAll}
 use Rattle.results.specs.declared.Move.{Move}

@@ -7,8 +7,8 @@ use Prim.Native.Nat.{ℕ}
 use lib.Dec.{ltb}
 use lib.ListN.{length, replicate}
 use Rattle.seq.specs.Bytes.{put}
-use Rattle.layout.specs.Errno.{shortBuffer, notRecoverable, inconsistent}
 use Rattle.layout.specs.declared.Shape.{Shape}
+use Rattle.layout.specs.Errno.{shortBuffer, notRecoverable, inconsistent}
 use Rattle.layout.specs.Contents.{layoutGood, shapeOf}
 use Rattle.consistency.specs.Sound.{journalClear}
 use Rattle.consistency.specs.Consistent.{consistent}
@@ -25,8 +25,8 @@ pub record Recovered : Type 0 where
   pub scratch : List ℕ
 
 -- the answer without the buffers, as the code gives it
-abbrev pub answerOf : Recovered → Answer
-answerOf r = record { number = r .number; rows = r .rows }
+abbrev pub withoutBuffers : Recovered → Answer
+withoutBuffers r = record { number = r .number; rows = r .rows }
 
 -- rules 109 and 110: what scratch shows over the image's length: the outcome, or zeros where there is none
 abbrev pub outcomeOf : Shape → List ℕ → Option (List Write) → List ℕ

@@ -9,10 +9,10 @@ use native.Mathlib.Omega.{arith}
 use lib.Dec.{ltb}
 use lib.ListN.{length}
 use borrow.Author.Tests.{le-ltb, lt-ltb}
-use Rattle.layout.specs.Errno.{shortBuffer, inconsistent}
 use Rattle.layout.specs.declared.Shape.{Shape}
+use Rattle.layout.specs.Errno.{shortBuffer, inconsistent}
+use Rattle.layout.specs.Facts.{Read}
 use Rattle.layout.specs.Contents.{layoutGood}
-use Rattle.layout.specs.ContentsLaws.{Read}
 use Rattle.consistency.specs.Sound.{journalClear}
 use Rattle.consistency.specs.Consistent.{consistent}
 use Rattle.plan.specs.Form.{planBytes}

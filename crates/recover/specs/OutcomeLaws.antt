@@ -8,15 +8,17 @@ use lib.ListN.{length, getD, length-map}
 use Rattle.seq.specs.BytesLaws.{put-length}
 use Rattle.layout.specs.declared.Shape.{Shape}
 use Rattle.layout.specs.Place.{Key, place}
-use Rattle.layout.specs.ContentsLaws.{Laid, Read, good-laid}
+use Rattle.layout.specs.Facts.{Laid, Read}
+use Rattle.layout.specs.ContentsLaws.{good-laid}
 use Rattle.layout.specs.Record.{store}
 use Rattle.layout.specs.Commute.{store-shape, store-layout}
 use Rattle.plan.specs.Form.{Row, planRows, planBytes, rowsPut}
-use Rattle.plan.specs.Stands.{RowFormed, Stands, Each}
 use Rattle.plan.specs.Many.{rows-length, rows-stand}
-use Rattle.plan.specs.FitLaws.{Writes, written-formed}
+use Rattle.plan.specs.FitFacts.{Writes}
+use Rattle.plan.specs.FitLaws.{written-formed}
 use Rattle.plan.specs.Write.{Write, storeAll, rowFrom, rowsFrom}
 use Rattle.plan.specs.Filled.{AllWrites}
+use Rattle.plan.specs.Stands.{RowFormed, Stands, Each}
 use Rattle.apply.specs.Apply.{appliedImage}
 use Rattle.apply.specs.Laws.{written-stores}
 use Rattle.recover.specs.Outcome.{appliedFrom}

@@ -9,42 +9,42 @@ use native.Mathlib.Nat.{zero-add}
 use native.Mathlib.Omega.{arith}
 use lib.ListN.{length, replicate, take, drop, length-replicate, length-map}
 use lib.Seq.{length-take-le}
-use Rattle.seq.specs.Truth.{refuted}
 use Rattle.seq.specs.Bytes.{put}
+use Rattle.seq.specs.Truth.{refuted}
 use Rattle.seq.specs.BytesLaws.{put-eq, put-whole}
 use Rattle.layout.specs.declared.Shape.{Shape}
-use Rattle.layout.specs.ContentsLaws.{Read}
-use Rattle.consistency.specs.Sound.{journalClear}
-use Rattle.consistency.specs.Consistent.{bodiesGood, consistent, checkNumber}
-use Rattle.consistency.specs.ConsistentLaws.{checked-consistent, consistent-checked}
 use Rattle.layout.specs.Errno.{inconsistent, notRecoverable}
+use Rattle.layout.specs.Facts.{Read}
+use Rattle.consistency.specs.Sound.{journalClear, bodiesGood}
+use Rattle.consistency.specs.Consistent.{consistent, checkNumber}
+use Rattle.consistency.specs.ConsistentLaws.{checked-consistent, consistent-checked}
 use Rattle.plan.specs.Form.{planRows, planBytes, rowsPut, cleared}
 use Rattle.plan.specs.Many.{rows-length}
 use Rattle.plan.specs.Copied.{rows-copied}
 use Rattle.plan.specs.Write.{Write, storeAll, rowsFrom}
 use Rattle.plan.specs.Filled.{AllWrites, Filled}
-use Rattle.recover.specs.declared.Answer.{Answer}
 use Rattle.drafts.specs.declared.draft.Draft.the-variants.{Unfit, Rows}
 use Rattle.drafts.specs.Draft.{draft}
+use Rattle.drafts.specs.Drafted.{Drafted}
+use Rattle.drafts.specs.Fit.{draft-writes}
+use Rattle.recover.specs.declared.Answer.{Answer}
 use Rattle.recover.specs.Recover.{ifConsistent, pendingRows}
 use Rattle.recover.specs.Job.{Recovered, outcomeOf, refused, done, byRows, byJournal, recovered}
 use Rattle.recover.specs.Bounds.{draft-rows, recovered-few}
-use Rattle.drafts.specs.Drafted.{Drafted}
-use Rattle.drafts.specs.Fit.{draft-writes}
 use Rattle.recover.specs.Outcome.{appliedFrom}
 use Rattle.recover.specs.OutcomeLaws.{stored-length, rows-formed, rows-applied}
-use Rattle.recover.specs.Answers.{refusedBy, RecoverAnswers, DraftReady}
+use Rattle.recover.specs.Answers.{noRows, RecoverAnswers, DraftReady}
 
-pub answers-as : {o p : Recovered} {r t : Answer} {plan scratch : List ℕ} → RecoverAnswers o r plan scratch → t ≡ r → o ≡ p → RecoverAnswers p t plan scratch
-answers-as {o} {p} {r} {t} {plan} {scratch} a e f = subst (λ (q : Recovered). RecoverAnswers q t plan scratch) f (record { is = e ∙ a .is; plan-is = a .plan-is; scratch-is = a .scratch-is })
+pub recovered-as : {o p : Recovered} {r t : Answer} {plan scratch : List ℕ} → RecoverAnswers o r plan scratch → t ≡ r → o ≡ p → RecoverAnswers p t plan scratch
+recovered-as {o} {p} {r} {t} {plan} {scratch} a e f = subst (λ (q : Recovered). RecoverAnswers q t plan scratch) f (record { is = e ∙ a .is; plan-is = a .plan-is; scratch-is = a .scratch-is })
 
 -- the rows fit a plan
 pub answers-few : (plan scratch x : List ℕ) {r : Answer} {q z : List ℕ} → RecoverAnswers (recovered plan scratch x) r q z → r .rows ≤ planRows
 answers-few plan scratch x a = subst (λ (r : Answer). r .rows ≤ planRows) (sym (a .is)) (recovered-few plan scratch x)
 
 -- a refusal leaves both buffers as they were
-pub answers-refused : (plan scratch x : List ℕ) (n : ℕ) {o : Recovered} → o ≡ refused plan scratch x n → RecoverAnswers o (refusedBy n) plan scratch
-answers-refused plan scratch x n e = answers-as (record { is = refl; plan-is = refl; scratch-is = refl }) refl (sym e)
+pub answers-refused : (plan scratch x : List ℕ) (n : ℕ) {o : Recovered} → o ≡ refused plan scratch x n → RecoverAnswers o (noRows n) plan scratch
+answers-refused plan scratch x n e = recovered-as (record { is = refl; plan-is = refl; scratch-is = refl }) refl (sym e)
 
 -- it is exactly a plan
 pub ready-exact : {x : List ℕ} {h : Shape} {n : ℕ} {d : List ℕ} → DraftReady x h n d → length d ≡ planBytes
@@ -61,9 +61,9 @@ outcome-length h x (some ws) = stored-length h ws x
 
 -- not recoverable
 pub answers-none : (plan scratch x : List ℕ) (h : Shape) → length scratch ≡ length x → pendingRows h x ≡ none → (z : List ℕ) → z ≡ replicate (length scratch) 0
-    → RecoverAnswers (byRows plan scratch x h (pendingRows h x)) (refusedBy notRecoverable) plan z
+    → RecoverAnswers (byRows plan scratch x h (pendingRows h x)) (noRows notRecoverable) plan z
 answers-none plan scratch x h whole e z f =
-    answers-as (record {
+    recovered-as (record {
       is = refl;
       plan-is = refl;
       scratch-is = f ∙ ap (λ (n : ℕ). replicate n 0) whole
@@ -109,7 +109,7 @@ module _ (plan scratch x : List ℕ) (h : Shape) (whole : length scratch ≡ len
       stored = outcome ∙ outcome-is
 
       rows-refused : checkNumber y ≢ 0 → (z : List ℕ) → z ≡ replicate (length y) 0
-          → RecoverAnswers (byRows plan scratch x h (pendingRows h x)) (refusedBy notRecoverable) plan z
+          → RecoverAnswers (byRows plan scratch x h (pendingRows h x)) (noRows notRecoverable) plan z
       unfolding pendingRows
       rows-refused bad z e =
           let not-consistent : consistent (storeAll h x ws) ≡ false = refuted _ (λ t. bad (ap checkNumber stored ∙ consistent-checked _ t)) in
@@ -122,7 +122,7 @@ module _ (plan scratch x : List ℕ) (h : Shape) (whole : length scratch ≡ len
       rows-done fine q e =
           let good : consistent (storeAll h x ws) ≡ true = ap consistent (sym stored) ∙ checked-consistent y fine in
           let rows : n ≡ length ws = omega (arith, f .next) in
-          answers-as {r = record { number = 0; rows = length ws }} (record {
+          recovered-as {r = record { number = 0; rows = length ws }} (record {
             is = refl;
             plan-is = e ∙ copied;
             scratch-is = stored ∙ sym (put-whole scratch (storeAll h x ws) (whole ∙ sym (stored-length h ws x)));
@@ -131,11 +131,11 @@ module _ (plan scratch x : List ℕ) (h : Shape) (whole : length scratch ≡ len
 
   module _ (n : ℕ) (d : List ℕ) (ready : DraftReady x h n d) (y : List ℕ) (outcome : y ≡ appliedFrom (put scratch 0 x) d 0 n) where
     pub settle-refused : checkNumber y ≢ 0 → (z : List ℕ) → z ≡ replicate (length y) 0
-        → RecoverAnswers (byRows plan scratch x h (pendingRows h x)) (refusedBy notRecoverable) plan z
+        → RecoverAnswers (byRows plan scratch x h (pendingRows h x)) (noRows notRecoverable) plan z
     settle-refused bad z e = go (draft h x) refl (ready .drafted)
       where
         go : (o : Option (List Write)) → draft h x ≡ o → Drafted h (replicate planBytes 0) o (Rows n) d
-            → RecoverAnswers (byRows plan scratch x h (pendingRows h x)) (refusedBy notRecoverable) plan z
+            → RecoverAnswers (byRows plan scratch x h (pendingRows h x)) (noRows notRecoverable) plan z
         go none is f = absurd f
         go (some ws) is f = rows-refused ws is (replicate planBytes 0) refl d n f y outcome bad z e
 
@@ -167,7 +167,7 @@ module _ (plan scratch x : List ℕ) (h : Shape) where
 
     pub answers-pending : journalClear h x ≡ false → {r : Answer} {q front : List ℕ} → RecoverAnswers (byRows plan (take (length x) scratch) x h (pendingRows h x)) r q front
         → RecoverAnswers (byJournal plan scratch x h) r q (front ++ drop (length x) scratch)
-    answers-pending set a = answers-as (front-answers (pendingRows h x) a) refl (rw set)
+    answers-pending set a = recovered-as (front-answers (pendingRows h x) a) refl (rw set)
 
   -- clear: the bodies decide
   module _ (read : Read x h) (clear : journalClear h x ≡ true) where
@@ -175,9 +175,9 @@ module _ (plan scratch x : List ℕ) (h : Shape) where
     unfolding consistent
     by-bodies = rw (read .good, ← read .shape, clear)
 
-    pub answers-unsound : bodiesGood h x ≡ false → RecoverAnswers (byJournal plan scratch x h) (refusedBy inconsistent) plan scratch
-    answers-unsound bad = answers-as (record { is = refl; plan-is = refl; scratch-is = refl }) refl (rw (clear, by-bodies, bad))
+    pub answers-unsound : bodiesGood h x ≡ false → RecoverAnswers (byJournal plan scratch x h) (noRows inconsistent) plan scratch
+    answers-unsound bad = recovered-as (record { is = refl; plan-is = refl; scratch-is = refl }) refl (rw (clear, by-bodies, bad))
 
-    pub answers-nothing : bodiesGood h x ≡ true → {q z : List ℕ} → q ≡ cleared plan → z ≡ put scratch 0 x → RecoverAnswers (byJournal plan scratch x h) (refusedBy 0) q z
+    pub answers-nothing : bodiesGood h x ≡ true → {q z : List ℕ} → q ≡ cleared plan → z ≡ put scratch 0 x → RecoverAnswers (byJournal plan scratch x h) (noRows 0) q z
     unfolding rowsPut
-    answers-nothing good e f = answers-as {o = done plan scratch x h []} (record { is = refl; plan-is = e; scratch-is = f }) refl (rw (clear, by-bodies, good))
+    answers-nothing good e f = recovered-as {o = done plan scratch x h []} (record { is = refl; plan-is = e; scratch-is = f }) refl (rw (clear, by-bodies, good))

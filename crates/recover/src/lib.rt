@@ -7,11 +7,11 @@ use layout::errno;
 ghost use mathlib.Core.Path.{_≡_};
 ghost use Prim.Native.Nat.{_≤_};
 ghost use lib.ListN.{length};
-ghost use Rattle.layout.specs.ContentsLaws.{Read};
+ghost use Rattle.layout.specs.Facts.{Read};
 ghost use Rattle.plan.specs.Form.{planBytes};
 ghost use Rattle.recover.specs.Recover.{pendingRows};
 ghost use Rattle.recover.specs.Job.{byRows, byJournal, recovered};
-ghost use Rattle.recover.specs.Answers.{refusedBy, DraftReady, RecoverAnswers};
+ghost use Rattle.recover.specs.Answers.{noRows, DraftReady, RecoverAnswers};
 
 pub mod outcome;
 
@@ -22,7 +22,7 @@ pub struct Answer {
 }
 
 fn refused(number: u8) -> Answer
-    ensures { λ r. ⌜ r ≡ refusedBy number ⌝ }
+    ensures { λ r. ⌜ r ≡ noRows number ⌝ }
 {
     Answer { number, rows: 0 }
 }

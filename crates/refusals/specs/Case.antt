@@ -4,10 +4,10 @@ use mathlib.Core.Bool.{Bool, _&&_, _||_, not}
 use Prim.Native.Nat.{ℕ, _/_, _%_}
 use lib.Dec.{eqb, leb}
 use Rattle.seq.specs.Search.{any}
+use Rattle.layout.specs.Limits.{absent, stickyBit, linkLimit}
 use Rattle.layout.specs.Fields.{readOnly}
 use Rattle.layout.specs.View.{View, isDirectory, entryUsed, handleOpen}
 use Rattle.tree.specs.Tree.{entriesOf, reaches}
-use Rattle.layout.specs.Limits.{linkLimit, absent}
 use Rattle.paths.specs.declared.request.Credentials.{Credentials}
 use Rattle.paths.specs.Permission.{writeBit, allows}
 use Rattle.refusals.specs.declared.case.Case.{Case}
@@ -45,7 +45,7 @@ module _ (v : View) where
 
   -- rule 70, step 6: the sticky bit of directory d keeps the caller from inode i in it
   abbrev pub sticky : ℕ → Bool
-  sticky d = eqb (v .mode d / 512 % 2) 1
+  sticky d = eqb (v .mode d / stickyBit % 2) 1
 
   abbrev pub owns : Credentials → ℕ → Bool
   owns who i = eqb (who .user) (v .owner i)

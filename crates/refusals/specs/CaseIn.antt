@@ -2,8 +2,8 @@
 use mathlib.Core.Path.{_≡_}
 use mathlib.Core.Logic.{_≢_}
 use mathlib.Core.Bool.{true}
-use Rattle.layout.specs.View.{View, isDirectory, isUsed}
 use Rattle.layout.specs.Limits.{absent}
+use Rattle.layout.specs.View.{View, isDirectory, isUsed}
 use Rattle.refusals.specs.declared.case.Case.{Case}
 
 -- A case whose numbers name inodes in use: what the code relies on when it reads them.

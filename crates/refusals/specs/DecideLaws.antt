@@ -7,10 +7,10 @@ use lib.Dec.{eqb}
 use borrow.Author.Tests.{eqb-false, not-true, eq-eqb, ne-eqb}
 use Rattle.seq.specs.Truth.{and-left, and-right, by-test}
 use Rattle.layout.specs.View.{View}
-use Rattle.refusals.specs.declared.case.Case.{Case}
-use Rattle.refusals.specs.Case.{sameFile}
 use Rattle.refusals.specs.declared.case.Answer.{Answer}
 use Rattle.refusals.specs.declared.case.Answer.the-variants.{Refused, Same, Planned}
+use Rattle.refusals.specs.declared.case.Case.{Case}
+use Rattle.refusals.specs.Case.{sameFile}
 use Rattle.refusals.specs.Steps.{Rule, numberOf, decide, parentRules, kindRules, targetRules, steps}
 use Rattle.refusals.specs.Decide.{numbers, refusing}
 

@@ -5,14 +5,15 @@ use mathlib.Core.List.{List}
 use Prim.Native.Nat.{ℕ}
 use lib.Dec.{lit<}
 use Rattle.layout.specs.declared.Shape.{Shape}
-use Rattle.layout.specs.ContentsLaws.{Laid}
 use Rattle.layout.specs.Errno.{EACCES, ENOTDIR, EISDIR, ENOTEMPTY}
+use Rattle.layout.specs.Facts.{Laid}
 use Rattle.layout.specs.View.{View, viewOf, kindOf, isDirectory}
 use Rattle.layout.specs.ViewLaws.{kind-of, other-kind}
 use Rattle.refusals.specs.declared.case.Case.{Case}
 use Rattle.refusals.specs.Case.{exists, movedDenied, hasEntries}
 use Rattle.refusals.specs.CaseIn.{CaseIn}
-use Rattle.refusals.specs.Kinds.{TypesFit, no-directory, kind-missing, kind-exists, fit-missing, fit-directories, empty-missing, empty-directory}
+use Rattle.refusals.specs.Kinds.{TypesFit}
+use Rattle.refusals.specs.KindsLaws.{no-directory, kind-missing, kind-exists, fit-missing, fit-directories, empty-missing, empty-directory}
 use Rattle.refusals.specs.Steps.{numberOf, decide, kindRules}
 
 -- k is the type number as it was read

@@ -1,7 +1,9 @@
 pub mod Case
 pub mod CaseIn
 pub mod Within
+pub mod WithinLaws
 pub mod Kinds
+pub mod KindsLaws
 pub mod Steps
 pub mod KindLaws
 pub mod Decide

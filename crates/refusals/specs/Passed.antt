@@ -3,9 +3,9 @@ use mathlib.Core.Path.{_≡_}
 use mathlib.Core.Bool.{Bool, true, false, _&&_, not}
 use mathlib.Core.List.{List, [], _∷_}
 use Rattle.layout.specs.View.{View}
-use Rattle.refusals.specs.declared.case.Case.{Case}
 use Rattle.refusals.specs.declared.case.Answer.{Answer}
 use Rattle.refusals.specs.declared.case.Answer.the-variants.{Refused, Same, Planned}
+use Rattle.refusals.specs.declared.case.Case.{Case}
 use Rattle.refusals.specs.Case.{sameFile, readOnlyParent, otherSystem, mounted, parentDenied, stickyDenied, insideItself, movedDenied, notEmpty, busy, fullParent, noSlot}
 use Rattle.refusals.specs.Kinds.{TypesFit}
 use Rattle.refusals.specs.Steps.{Rule}

@@ -5,8 +5,8 @@ use mathlib.Core.List.{List, [], _∷_}
 use borrow.Author.Tests.{not-true}
 use Rattle.seq.specs.Truth.{and-left, and-right}
 use Rattle.layout.specs.View.{View}
-use Rattle.refusals.specs.declared.case.Case.{Case}
 use Rattle.refusals.specs.declared.case.Answer.the-variants.{Planned}
+use Rattle.refusals.specs.declared.case.Case.{Case}
 use Rattle.refusals.specs.Steps.{Rule, decide, steps}
 use Rattle.refusals.specs.Passed.{Passes, isPlanned, decidingRules, Passed}
 

@@ -5,9 +5,9 @@ use mathlib.Core.List.{List, [], _∷_, _++_}
 use Prim.Native.Nat.{ℕ}
 use Rattle.layout.specs.Errno.{EROFS, EXDEV, EBUSY, EACCES, EPERM, EINVAL, ENOTDIR, EISDIR, ENOTEMPTY, EMLINK, ENOSPC}
 use Rattle.layout.specs.View.{View}
-use Rattle.refusals.specs.declared.case.Case.{Case}
 use Rattle.refusals.specs.declared.case.Answer.{Answer}
 use Rattle.refusals.specs.declared.case.Answer.the-variants.{Refused, Same, Planned}
+use Rattle.refusals.specs.declared.case.Case.{Case}
 use Rattle.refusals.specs.Case.{sameFile, readOnlyParent, otherSystem, mounted, parentDenied, stickyDenied, insideItself, replacesOther, replacesDirectory, slashedFile, movedDenied, notEmpty, busy, fullParent, noSlot}
 
 -- the number of each answer

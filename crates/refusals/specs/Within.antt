@@ -1,20 +1,9 @@
 -- The inodes of a case lie in their section, but for the replaced one, which may be absent. Assumes nothing.
-use mathlib.Core.List.{List}
-use Prim.Native.Nat.{ℕ, _<_}
+use Prim.Native.Nat.{_<_}
 use Rattle.layout.specs.declared.Shape.{Shape}
-use Rattle.layout.specs.View.{viewOf}
-use Rattle.layout.specs.ViewLaws.{isKind-below, isUsed-below}
 use Rattle.refusals.specs.declared.case.Case.{Case}
-use Rattle.refusals.specs.CaseIn.{CaseIn}
 
 pub record Within (h : Shape) (c : Case) : Type 0 where
   pub moved : c .moved < h .inodes
   pub from : c .from < h .inodes
   pub into : c .into < h .inodes
-
-pub case-within : (h : Shape) (s : List ℕ) (c : Case) → CaseIn (viewOf h s) c → Within h c
-case-within h s c f = record {
-  moved = isUsed-below h s (c .moved) (f .moved);
-  from = isKind-below h s (c .from) 2 (f .from);
-  into = isKind-below h s (c .into) 2 (f .into);
-}

@@ -6,7 +6,7 @@ use layout::errno;
 use paths::permission;
 ghost use mathlib.Core.Path.{_≡_};
 ghost use mathlib.Core.Bool.{true, false};
-ghost use Rattle.layout.specs.ContentsLaws.{Laid};
+ghost use Rattle.layout.specs.Facts.{Laid};
 ghost use Rattle.layout.specs.View.{viewOf, isDirectory};
 ghost use Rattle.refusals.specs.Case.{movedDenied};
 ghost use Rattle.refusals.specs.CaseIn.{CaseIn};
@@ -20,7 +20,7 @@ fn moved_denied(image: &[u8], h: Shape, c: Case) -> bool
     if c.from == c.into {
         return false;
     }
-    !permission::allows(image, h, c.who, c.moved, 2)
+    !permission::allows(image, h, c.who, c.moved, permission::WRITE_BIT)
 }
 
 // Steps 8 to 10 of a directory. It may replace nothing, or a directory that has no entries.

@@ -7,7 +7,7 @@ use paths::permission;
 use paths::request::Credentials;
 ghost use mathlib.Core.Path.{_≡_};
 ghost use Prim.Native.Nat.{_<_};
-ghost use Rattle.layout.specs.ContentsLaws.{Laid};
+ghost use Rattle.layout.specs.Facts.{Laid};
 ghost use Rattle.layout.specs.View.{viewOf};
 ghost use Rattle.refusals.specs.Case.{readOnlyParent, otherSystem, mountedIn, mounted, parentDenied, sticky, owns, stickyDenied, insideItself};
 ghost use Rattle.refusals.specs.Within.{Within};
@@ -68,10 +68,10 @@ fn denied(image: &[u8], h: Shape, c: Case) -> bool
     requires { ⌜ Laid h (now image) × Within h c ⌝ }
     ensures { λ r. ⌜ r ≡ parentDenied (viewOf h (now (image .entry))) c ⌝ }
 {
-    if !permission::allows(image, h, c.who, c.from, 2) {
+    if !permission::allows(image, h, c.who, c.from, permission::WRITE_BIT) {
         return true;
     }
-    !permission::allows(image, h, c.who, c.into, 2)
+    !permission::allows(image, h, c.who, c.into, permission::WRITE_BIT)
 }
 
 // Whether directory d has the sticky bit.
@@ -80,7 +80,7 @@ fn is_sticky(image: &[u8], h: Shape, d: usize) -> bool
     ensures { λ r. ⌜ r ≡ sticky (viewOf h (now (image .entry))) d ⌝ }
 {
     let r = layout::records::inode(image, h, d);
-    layout::inode::mode(r) / 512 % 2 == 1
+    layout::inode::mode(r) / limits::STICKY_BIT % 2 == 1
 }
 
 // Whether the caller owns inode i.

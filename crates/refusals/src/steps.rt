@@ -7,7 +7,7 @@ use crate::target;
 use layout::Shape;
 ghost use mathlib.Core.Path.{_≡_};
 ghost use Rattle.layout.specs.View.{viewOf};
-ghost use Rattle.layout.specs.ViewLaws.{Readable};
+ghost use Rattle.layout.specs.Facts.{Readable};
 ghost use Rattle.refusals.specs.CaseIn.{CaseIn};
 ghost use Rattle.refusals.specs.Steps.{decide, steps};
 

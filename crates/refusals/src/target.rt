@@ -6,7 +6,7 @@ use layout::limits;
 ghost use mathlib.Core.Path.{_≡_};
 ghost use mathlib.Core.List.{List};
 ghost use Prim.Native.Nat.{ℕ, _<_};
-ghost use Rattle.layout.specs.ContentsLaws.{Laid};
+ghost use Rattle.layout.specs.Facts.{Laid};
 ghost use Rattle.layout.specs.View.{viewOf};
 ghost use Rattle.refusals.specs.Case.{entryIn, hasEntries, openOn, isOpened, busy, fullParent, noSlot};
 ghost use Rattle.refusals.specs.Within.{Within};

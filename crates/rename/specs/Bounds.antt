@@ -7,31 +7,26 @@ use lib.Dec.{eqb}
 use lib.ListN.{length, length-append}
 use Rattle.seq.specs.Truth.{by-test}
 use Rattle.layout.specs.declared.Shape.{Shape}
-use Rattle.layout.specs.View.{View}
+use Rattle.layout.specs.Limits.{stepLimit}
 use Rattle.layout.specs.Contents.{shapeOf}
+use Rattle.layout.specs.View.{View}
 use Rattle.paths.specs.declared.request.Request.{Request}
 use Rattle.component.specs.declared.state.Final.the-variants.{MustExist, MayBeMissing}
 use Rattle.component.specs.Step.{End}
-use Rattle.layout.specs.Limits.{stepLimit}
 use Rattle.walk.specs.Bound.{walk-bound}
 use Rattle.walk.specs.Both.{walksOf, oldWalk}
+use Rattle.refusals.specs.declared.case.Answer.{Answer}
+use Rattle.refusals.specs.declared.case.Answer.the-variants.{Refused, Same, Planned}
+use Rattle.refusals.specs.Steps.{decide}
 use Rattle.plan.specs.Form.{planRows}
 use Rattle.results.specs.declared.Move.{Move}
 use Rattle.results.specs.Results.{results, clearRow}
 use Rattle.results.specs.ResultRows.{results-le}
-use Rattle.refusals.specs.declared.case.Answer.{Answer}
-use Rattle.refusals.specs.declared.case.Answer.the-variants.{Refused, Same, Planned}
-use Rattle.refusals.specs.Steps.{decide}
-use Rattle.rename.specs.declared.Renamed.{Renamed}
 use Rattle.moves.specs.Plan.{renameRows}
+use Rattle.rename.specs.declared.Renamed.{Renamed}
 use Rattle.rename.specs.Order.{view, early}
 use Rattle.rename.specs.Job.{answer, move, called, rowsBy, countBy, renamed}
-use Rattle.rename.specs.Answers.{RenameAnswers}
-
-pub record Small (r : Renamed) : Type 0 where
-  pub rows : r .rows ≤ planRows
-  pub old : r .old ≤ stepLimit
-  pub new : r .new ≤ stepLimit
+use Rattle.rename.specs.Answers.{RenameAnswers, Small}
 
 rows-le : (h : Shape) (s : List ℕ) (m : Move) (name : List ℕ) → length (renameRows h s m name) ≤ planRows
 unfolding renameRows

@@ -5,13 +5,13 @@ use Prim.Native.Nat.{ℕ}
 use lib.ListN.{length}
 use Rattle.layout.specs.Contents.{shapeOf}
 use Rattle.paths.specs.declared.request.Request.{Request}
-use Rattle.plan.specs.Form.{cleared}
-use Rattle.results.specs.declared.Move.{Move}
 use Rattle.refusals.specs.declared.case.Answer.{Answer}
 use Rattle.refusals.specs.declared.case.Answer.the-variants.{Refused, Same, Planned}
 use Rattle.refusals.specs.Steps.{numberOf, decide}
-use Rattle.rename.specs.declared.Renamed.{Renamed}
+use Rattle.plan.specs.Form.{cleared}
+use Rattle.results.specs.declared.Move.{Move}
 use Rattle.moves.specs.Plan.{moveOf, renameRows, planned}
+use Rattle.rename.specs.declared.Renamed.{Renamed}
 use Rattle.rename.specs.Order.{view, walks, caseOf, nameOf, early, order}
 
 module _ (s plan : List ℕ) (q : Request) (old new : List ℕ) where

@@ -10,13 +10,14 @@ use lib.ListN.{length}
 use borrow.Author.Tests.{eq-eqb, leb-false}
 use Rattle.seq.specs.Truth.{not-both}
 use Rattle.layout.specs.declared.Shape.{Shape}
-use Rattle.layout.specs.View.{View, viewOf, isKind, isUsed, isSymlink}
-use Rattle.layout.specs.ViewLaws.{isUsed-below, isKind-below, Readable}
 use Rattle.layout.specs.Limits.{absent}
+use Rattle.layout.specs.Facts.{Readable}
+use Rattle.layout.specs.View.{View, viewOf, isKind, isUsed, isSymlink}
+use Rattle.layout.specs.ViewLaws.{isUsed-below, isKind-below}
 use Rattle.paths.specs.declared.request.Request.{Request}
 use Rattle.component.specs.declared.state.Final.the-variants.{MustExist, MayBeMissing}
 use Rattle.component.specs.Step.{Finding, existing, missing, nothing}
-use Rattle.walk.specs.Ends.{Existing, Missing, Known, Numbered, Facts}
+use Rattle.walk.specs.Ends.{Existing, Known, Numbered, Facts}
 use Rattle.walk.specs.Both.{Ends}
 use Rattle.refusals.specs.declared.case.Case.{Case}
 use Rattle.refusals.specs.Case.{exists, noSlot}
@@ -24,7 +25,8 @@ use Rattle.refusals.specs.CaseIn.{CaseIn}
 use Rattle.results.specs.Results.{entriesAfter}
 use Rattle.results.specs.InImage.{InImage}
 use Rattle.moves.specs.Plan.{moveWith, freedText, moveOf}
-use Rattle.rename.specs.Order.{freeSlot, directoryOf, slotOf, inodeOf, slashOf, nameOf, caseOf}
+use Rattle.rename.specs.Order.{directoryOf, slotOf, inodeOf, slashOf, nameOf, caseOf}
+use Rattle.rename.specs.Answers.{NewFound, by-entry, by-name}
 
 -- old's walk has found an entry
 pub old-found : (v : View) (f : Finding) (n : ℕ) → Known v MustExist f → Numbered n f → n ≡ 0 → Existing v (directoryOf f) (slotOf v f) (inodeOf f) (slashOf f)
@@ -32,14 +34,9 @@ old-found v (existing d j i slash) n known numbered z = known
 old-found v (missing d name slash) n known numbered z = absurd known
 old-found v nothing n known numbered z = absurd (numbered z)
 
--- new's has found an entry, or a name that is missing
-pub data NewFound (v : View) (f : Finding) : Type 0 where
-  entry : Existing v (directoryOf f) (slotOf v f) (inodeOf f) (slashOf f) → length (nameOf f) ≡ 0 → NewFound v f
-  name : inodeOf f ≡ absent → slotOf v f ≡ freeSlot v → Missing v (directoryOf f) (nameOf f) → NewFound v f
-
 pub new-found : (v : View) (f : Finding) (n : ℕ) → Known v MayBeMissing f → Numbered n f → n ≡ 0 → NewFound v f
-new-found v (existing d j i slash) n known numbered z = entry known refl
-new-found v (missing d name₁ slash) n known numbered z = name refl refl known
+new-found v (existing d j i slash) n known numbered z = by-entry known refl
+new-found v (missing d name slash) n known numbered z = by-name refl refl known
 new-found v nothing n known numbered z = absurd (numbered z)
 
 -- a test that fails behind one that holds
@@ -76,12 +73,12 @@ module _ (h : Shape) (s : List ℕ) (r : Readable h s) (q : Request) (e : Ends) 
   target-used d j i slash x = rw (← x .target) (r .targets j (x .below) (x .used))
 
   into-directory : NewFound v (e .new .found) → isKind v (c .into) 2 ≡ true
-  into-directory (entry x _) = x .directory
-  into-directory (name _ _ x) = x .directory
+  into-directory (by-entry x _) = x .directory
+  into-directory (by-name _ _ x) = x .directory
 
   replaced-used : NewFound v (e .new .found) → c .replaced ≢ absent → isUsed v (c .replaced) ≡ true
-  replaced-used (entry x _) some = target-used _ _ _ _ x
-  replaced-used (name none _ _) some = absurd (some none)
+  replaced-used (by-entry x _) some = target-used _ _ _ _ x
+  replaced-used (by-name none _ _) some = absurd (some none)
 
   pub case-in : CaseIn v c
   case-in = record {
@@ -94,8 +91,8 @@ module _ (h : Shape) (s : List ℕ) (r : Readable h s) (q : Request) (e : Ends) 
   -- a name that was missing fits an entry
   name-fits : NewFound v (e .new .found) → length (nameOf (e .new .found)) ≤ h .width - 8
   unfolding viewOf
-  name-fits (entry _ none) = omega arith
-  name-fits (name _ _ x) = x .short
+  name-fits (by-entry _ none) = omega arith
+  name-fits (by-name _ _ x) = x .short
 
   pub called-fits : 8 + length (nameOf (e .new .found)) ≤ h .width
   called-fits = let l = name-fits second in omega (arith, r .laid .width-least)
@@ -103,8 +100,8 @@ module _ (h : Shape) (s : List ℕ) (r : Readable h s) (q : Request) (e : Ends) 
   -- the new slot, and so the whole move, lies in the image
   new-below : noSlot v c ≡ false → NewFound v (e .new .found) → c .new < h .entries
   unfolding viewOf
-  new-below slot (entry x _) = x .below
-  new-below slot (name none _ _) = leb-false _ _ (behind-false (not (exists c)) _ slot (rw (eq-eqb (c .replaced) absent none)))
+  new-below slot (by-entry x _) = x .below
+  new-below slot (by-name none _ _) = leb-false _ _ (behind-false (not (exists c)) _ slot (rw (eq-eqb (c .replaced) absent none)))
 
   pub move-in : (time : ℕ) → noSlot v c ≡ false → InImage h (moveOf v c time)
   unfolding moveOf viewOf

@@ -6,19 +6,18 @@ use Prim.Native.Nat.{ℕ}
 use lib.Dec.{eqb, ltb}
 use lib.ListN.{length}
 use Rattle.seq.specs.Search.{first}
+use Rattle.layout.specs.Limits.{absent}
 use Rattle.layout.specs.Errno.{shortBuffer, inconsistent, journalPending, wrongRequest}
 use Rattle.layout.specs.Contents.{layoutGood, shapeOf}
 use Rattle.layout.specs.View.{View, viewOf, entryUsed}
-use Rattle.consistency.specs.Sound.{journalClear}
-use Rattle.consistency.specs.Consistent.{bodiesGood}
-use Rattle.layout.specs.Limits.{absent}
+use Rattle.consistency.specs.Sound.{journalClear, bodiesGood}
 use Rattle.paths.specs.declared.request.Request.{Request}
 use Rattle.paths.specs.Request.{requestGood}
 use Rattle.component.specs.Step.{Finding, existing, missing, nothing}
 use Rattle.walk.specs.Both.{Ends, walksOf}
-use Rattle.plan.specs.Form.{planBytes}
 use Rattle.refusals.specs.declared.case.Case.{Case}
 use Rattle.refusals.specs.Steps.{Rule, refuse, steps}
+use Rattle.plan.specs.Form.{planBytes}
 
 -- the lowest free slot, or the number of slots where none is free
 unfoldable pub freeSlot : View → ℕ

@@ -4,30 +4,30 @@ use mathlib.Core.Logic.{_≢_}
 use mathlib.Core.Bool.{Bool, true, false, cond}
 use mathlib.Core.List.{List, _++_}
 use Prim.Native.Nat.{ℕ, _≤_, _<_}
-use native.Mathlib.Omega.{arith}
 use native.Mathlib.Decide.{ℕ-discrete}
+use native.Mathlib.Omega.{arith}
 use lib.ListN.{length}
 use borrow.Author.Tests.{eq-eqb, ne-eqb, lt-ltb, le-ltb}
-use Rattle.layout.specs.Errno.{shortBuffer, inconsistent, wrongRequest}
 use Rattle.layout.specs.declared.Shape.{Shape}
+use Rattle.layout.specs.Errno.{shortBuffer, inconsistent, wrongRequest}
+use Rattle.layout.specs.Facts.{Read}
 use Rattle.layout.specs.Contents.{layoutGood}
-use Rattle.layout.specs.ContentsLaws.{Read}
 use Rattle.layout.specs.View.{View, viewOf}
-use Rattle.consistency.specs.Sound.{journalClear}
-use Rattle.consistency.specs.Consistent.{bodiesGood, recordsNumber}
+use Rattle.consistency.specs.Sound.{journalClear, bodiesGood}
+use Rattle.consistency.specs.Consistent.{recordsNumber}
 use Rattle.paths.specs.declared.request.Request.{Request}
 use Rattle.paths.specs.Request.{requestGood}
 use Rattle.walk.specs.Walk.{halt}
 use Rattle.walk.specs.Both.{Ends, walksOf, newWalk}
-use Rattle.plan.specs.Form.{planBytes}
 use Rattle.refusals.specs.declared.case.Answer.{Answer}
 use Rattle.refusals.specs.declared.case.Answer.the-variants.{Refused, Planned}
 use Rattle.refusals.specs.Steps.{numberOf, decide, steps}
 use Rattle.refusals.specs.DecideLaws.{decide-refused, decide-passed}
+use Rattle.plan.specs.Form.{planBytes}
 use Rattle.rename.specs.declared.Renamed.{Renamed}
 use Rattle.rename.specs.Order.{walks, caseOf, early, late, order}
 use Rattle.rename.specs.Job.{rowsBy, planBy, renamed, planAfter}
-use Rattle.rename.specs.Answers.{RenameAnswers, refusedBy}
+use Rattle.rename.specs.Answers.{RenameAnswers, refusedEarly}
 
 pub answers-as : {s plan : List ℕ} {q : Request} {old new : List ℕ} {r t : Renamed} {after : List ℕ} → RenameAnswers s plan q old new r after → t ≡ r
     → RenameAnswers s plan q old new t after
@@ -46,7 +46,7 @@ walked-old v q old new e = go (ℕ-discrete (walksOf v q old new .old .number) 0
     go (no some) = sym (ap (λ (b : Bool). cond b (newWalk v q new) (halt (walksOf v q old new .old .number)) .number) (ne-eqb _ 0 some)) ∙ e
 
 module _ (s plan : List ℕ) (q : Request) (old new : List ℕ) where
-  early-refused : (n : ℕ) → n ≢ 0 → decide (early s plan q old new) ≡ Refused n → RenameAnswers s plan q old new (refusedBy n) plan
+  early-refused : (n : ℕ) → n ≢ 0 → decide (early s plan q old new) ≡ Refused n → RenameAnswers s plan q old new (refusedEarly n) plan
   unfolding renamed planAfter order
   early-refused n some e =
       let d : decide (early s plan q old new ++ late s plan q old new) ≡ Refused n =
@@ -54,20 +54,20 @@ module _ (s plan : List ℕ) (q : Request) (old new : List ℕ) where
       record { is = rw (d, e); buffer = rw d }
 
   -- the plan is too short
-  pub answers-short : length plan < planBytes → RenameAnswers s plan q old new (refusedBy shortBuffer) plan
+  pub answers-short : length plan < planBytes → RenameAnswers s plan q old new (refusedEarly shortBuffer) plan
   answers-short l = early-refused shortBuffer (λ z. omega arith) (rw (lt-ltb _ _ l))
 
   module _ (long : planBytes ≤ length plan) where
-    pub answers-layout : layoutGood s ≡ false → RenameAnswers s plan q old new (refusedBy inconsistent) plan
+    pub answers-layout : layoutGood s ≡ false → RenameAnswers s plan q old new (refusedEarly inconsistent) plan
     answers-layout bad = early-refused inconsistent (λ z. omega arith) (rw (le-ltb _ _ long, bad))
 
     module _ (h : Shape) (read : Read s h) where
       -- the journal record, and then the bodies
-      pub answers-records : (n : ℕ) → n ≡ recordsNumber h s → n ≢ 0 → RenameAnswers s plan q old new (refusedBy n) plan
+      pub answers-records : (n : ℕ) → n ≡ recordsNumber h s → n ≢ 0 → RenameAnswers s plan q old new (refusedEarly n) plan
       unfolding recordsNumber
       answers-records n is some = go (journalClear h s) (bodiesGood h s) refl refl
         where
-          go : (a b : Bool) → journalClear h s ≡ a → bodiesGood h s ≡ b → RenameAnswers s plan q old new (refusedBy n) plan
+          go : (a b : Bool) → journalClear h s ≡ a → bodiesGood h s ≡ b → RenameAnswers s plan q old new (refusedEarly n) plan
           go true true c d = absurd (some (is ∙ rw (c, d)))
           go true false c d = let e : n ≡ 201 = is ∙ rw (c, d) in early-refused n some (rw (le-ltb _ _ long, read .good, ← read .shape, c, d, e))
           go false b c d = let e : n ≡ 203 = is ∙ rw c in early-refused n some (rw (le-ltb _ _ long, read .good, ← read .shape, c, e))
@@ -83,7 +83,7 @@ module _ (s plan : List ℕ) (q : Request) (old new : List ℕ) where
             go false b c d = let e : _≡_ {A = ℕ} 203 0 = sym (rw c) ∙ fine in absurd (omega arith)
 
         -- the request
-        pub answers-request : requestGood (viewOf h s) q old new ≡ false → RenameAnswers s plan q old new (refusedBy wrongRequest) plan
+        pub answers-request : requestGood (viewOf h s) q old new ≡ false → RenameAnswers s plan q old new (refusedEarly wrongRequest) plan
         answers-request bad =
             early-refused wrongRequest (λ z. omega arith)
             (rw (le-ltb _ _ long, read .good, ← read .shape, records-fine .0, records-fine .1, bad))

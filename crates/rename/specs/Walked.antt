@@ -6,33 +6,33 @@ use mathlib.Core.List.{List}
 use Prim.Native.Nat.{ℕ, _+_, _≤_}
 use lib.ListN.{length}
 use Rattle.layout.specs.declared.Shape.{Shape}
+use Rattle.layout.specs.Facts.{Readable}
 use Rattle.layout.specs.Contents.{shapeOf}
 use Rattle.layout.specs.View.{View, viewOf}
-use Rattle.layout.specs.ViewLaws.{Readable}
 use Rattle.consistency.specs.ConsistentLaws.{check-read}
-use Rattle.consistency.specs.Facts.{checked-readable}
+use Rattle.consistency.specs.FactLaws.{checked-readable}
 use Rattle.paths.specs.declared.request.Request.{Request}
 use Rattle.walk.specs.declared.both.Walks.{Walks}
-use Rattle.walk.specs.Answer.{endOf, BothAnswered}
 use Rattle.walk.specs.Both.{Ends, walksOf}
-use Rattle.plan.specs.Form.{cleared}
-use Rattle.plan.specs.Write.{Write}
-use Rattle.refusals.specs.declared.case.Case.{Case}
+use Rattle.walk.specs.Answer.{endOf, BothAnswered}
 use Rattle.refusals.specs.declared.case.Answer.{Answer}
 use Rattle.refusals.specs.declared.case.Answer.the-variants.{Refused, Same, Planned}
+use Rattle.refusals.specs.declared.case.Case.{Case}
 use Rattle.refusals.specs.Case.{noSlot}
 use Rattle.refusals.specs.CaseIn.{CaseIn}
 use Rattle.refusals.specs.Steps.{decide, steps}
 use Rattle.refusals.specs.PassedLaws.{planned-passed}
+use Rattle.plan.specs.Form.{cleared}
+use Rattle.plan.specs.Write.{Write}
 use Rattle.results.specs.InImage.{InImage}
-use Rattle.rename.specs.declared.Renamed.{Renamed}
 use Rattle.moves.specs.Plan.{moveOf, renameRows, planned}
+use Rattle.rename.specs.declared.Renamed.{Renamed}
 use Rattle.rename.specs.Order.{nameOf, caseOf}
+use Rattle.rename.specs.Answers.{RenameAnswers, endsOf, WalksBegin}
 use Rattle.rename.specs.Outs.{answers-as, walked-old, answers-walk, answers-steps}
-use Rattle.rename.specs.Answers.{RenameAnswers, endsOf, Given}
 use Rattle.rename.specs.Known.{case-in, called-fits, move-in}
 
-module _ {s plan : List ℕ} {q : Request} {old new : List ℕ} {h : Shape} (given : Given s plan q old new h) where
+module _ {s plan : List ℕ} {q : Request} {old new : List ℕ} {h : Shape} (given : WalksBegin s plan q old new h) where
   abbrev v : View
   v = viewOf h s
 
@@ -73,15 +73,15 @@ module _ {s plan : List ℕ} {q : Request} {old new : List ℕ} {h : Shape} (giv
             answers-as (answers-steps s plan q old new (given .long) h (given .read) (given .fine) (given .good) new-whole (Refused n) (sym e ∙ decided))
             (λ t. record { number = n; rows = 0; old = same-ends t .old .steps; new = same-ends t .new .steps })
 
-        pub steps-same : a ≡ Same → (after : List ℕ) → after ≡ cleared plan → RenameAnswers s plan q old new (answer (w .new .number) 0) after
-        steps-same e after f =
+        pub case-same : a ≡ Same → (after : List ℕ) → after ≡ cleared plan → RenameAnswers s plan q old new (answer (w .new .number) 0) after
+        case-same e after f =
             subst (λ (x : List ℕ). RenameAnswers s plan q old new (answer (w .new .number) 0) x) (sym f)
             (answers-as (answers-steps s plan q old new (given .long) h (given .read) (given .fine) (given .good) new-whole Same (sym e ∙ decided))
             (λ t. record { number = none t; rows = 0; old = same-ends t .old .steps; new = same-ends t .new .steps }))
 
         module _ (e : a ≡ Planned) where
-          pub planned-move : InImage h (moveOf v c (q .now))
-          planned-move =
+          pub walked-move : InImage h (moveOf v c (q .now))
+          walked-move =
               let slot = planned-passed v c (sym judged ∙ e) .slot in
               subst (λ (x : Case). InImage h (moveOf v x (q .now))) (sym is)
               (move-in h s image-readable q (endsOf w) (both .old .facts) (both .new .facts) old-whole none (q .now)

@@ -7,7 +7,7 @@ use refusals::case::Case;
 use walk::resolve::Walked;
 ghost use mathlib.Core.Path.{_≡_};
 ghost use Prim.Native.Nat.{_≤_, _<_};
-ghost use Rattle.layout.specs.ContentsLaws.{Laid};
+ghost use Rattle.layout.specs.Facts.{Laid};
 ghost use Rattle.layout.specs.View.{viewOf};
 ghost use Rattle.walk.specs.Answer.{endOf};
 ghost use Rattle.rename.specs.Order.{freeSlot, directoryOf, slotOf, inodeOf, slashOf, caseOf};

@@ -11,7 +11,7 @@ ghost use mathlib.Core.Path.{_≡_};
 ghost use mathlib.Core.Bool.{true};
 ghost use Prim.Native.Nat.{_+_, _≤_};
 ghost use lib.ListN.{length};
-ghost use Rattle.layout.specs.ContentsLaws.{Laid, Read};
+ghost use Rattle.layout.specs.Facts.{Laid, Read};
 ghost use Rattle.layout.specs.View.{viewOf};
 ghost use Rattle.consistency.specs.Consistent.{recordsNumber};
 ghost use Rattle.paths.specs.Request.{requestGood};
@@ -21,7 +21,7 @@ ghost use Rattle.plan.specs.Form.{planBytes};
 ghost use Rattle.results.specs.InImage.{InImage};
 ghost use Rattle.moves.specs.Plan.{moveOf, renameRows, planned};
 ghost use Rattle.rename.specs.Order.{nameOf};
-ghost use Rattle.rename.specs.Answers.{refusedBy, RenameAnswers};
+ghost use Rattle.rename.specs.Answers.{refusedEarly, RenameAnswers};
 
 pub mod found;
 
@@ -35,7 +35,7 @@ pub struct Renamed {
 
 // A refusal before any walk.
 fn refused(number: u8) -> Renamed
-    ensures { λ r. ⌜ r ≡ refusedBy number ⌝ }
+    ensures { λ r. ⌜ r ≡ refusedEarly number ⌝ }
 {
     Renamed {
         number,

@@ -9,22 +9,25 @@ use native.Mathlib.Decide.{ℕ-discrete}
 use native.Mathlib.Omega.{arith}
 use lib.Dec.{eqb, lit<}
 use borrow.Author.Tests.{eqb-true, eqb-false, eq-eqb, ne-eqb, lt-ltb, not-true}
+use Rattle.seq.specs.Bytes.{zeros}
 use Rattle.seq.specs.Truth.{refuted, and-left, and-right}
 use Rattle.seq.specs.SearchLaws.{all-not}
-use Rattle.seq.specs.Bytes.{zeros}
 use Rattle.layout.specs.declared.Shape.{Shape}
+use Rattle.layout.specs.Limits.{absent}
 use Rattle.layout.specs.View.{View, viewOf, inodeAt, entryAt, journalAt, entryUsed, isDirectory}
 use Rattle.encode.specs.declared.journal.Journal.{Journal}
+use Rattle.encode.specs.Facts.{InRange}
 use Rattle.encode.specs.Journal.{journalOf, journalFormed, journalBytes, journalHead}
-use Rattle.encode.specs.JournalLaws.{InRange, journal-formed, journal-of-bytes}
-use Rattle.layout.specs.Limits.{absent}
+use Rattle.encode.specs.JournalLaws.{journal-formed, journal-of-bytes}
 use Rattle.consistency.specs.Sound.{journalClear}
 use Rattle.consistency.specs.Consistent.{consistent}
 use Rattle.edits.specs.Kinds.{IsDirectory}
-use Rattle.edits.specs.Tests.{is-kind}
+use Rattle.edits.specs.Tests.{kind-test}
 use Rattle.edits.specs.Finished.{slots-differ, from-directory, moved-below-root, moved-not-from, moved-not-into}
 use Rattle.plan.specs.Write.{Write, entryKey, journalKey, storeAll}
 use Rattle.plan.specs.WriteLaws.{other-section}
+use Rattle.results.specs.declared.Move.{Move}
+use Rattle.results.specs.Results.{holderAfter, results, clearRow}
 use Rattle.crash_theorem.specs.Pick.{All}
 use Rattle.crash_theorem.specs.PickLaws.{all-join}
 use Rattle.crash_theorem.specs.Store.{putAll}
@@ -32,23 +35,21 @@ use Rattle.crash_theorem.specs.Change.{Change}
 use Rattle.crash_theorem.specs.Obligations.{OnTheWay}
 use Rattle.crash_theorem.specs.Plan.{Plan, WellFormed, Recovers, behindOf}
 use Rattle.crash_theorem.specs.Planned.{clear-settles, behind-all, reached, decided-record, undecided-record}
-use Rattle.image_store.specs.Image.{Fits, recordOf}
-use Rattle.image_store.specs.ImageLaws.{record-is, images, puts-store}
-use Rattle.results.specs.declared.Move.{Move}
-use Rattle.results.specs.Results.{holderAfter, results, clearRow}
 use Rattle.moves.specs.Plan.{journalFor, newEntry}
 use Rattle.drafts.specs.Draft.{belowOrAbsent, renameFits, moveFrom, entryStands, intoGood, undoing, finishing, moveDraft, renameDraft, kindDraft, draft}
-use Rattle.recover.specs.Recover.{ifConsistent, pendingRows, recover}
 use Rattle.drafts.specs.Fit.{move-undone, move-finished}
+use Rattle.recover.specs.Recover.{ifConsistent, pendingRows, recover}
+use Rattle.image_store.specs.Image.{Fits, recordOf}
+use Rattle.image_store.specs.ImageLaws.{record-is, images, puts-store}
 use Rattle.outcome.specs.Outcome.{finished}
 use Rattle.outcome.specs.RenamePlan.{renamePlan}
 use Rattle.outcome.specs.Called.{Called}
-use Rattle.outcome.specs.CalledLaws.{before-good, in-image, replaced-not-moved, replaced-not-from, replaced-not-into, entry-names}
-use Rattle.outcome.specs.PlanRows.{results-fit, well-formed}
+use Rattle.outcome.specs.CalledLaws.{before-good, in-image, replaced-not-moved, replaced-not-from, replaced-not-into, new-entry-names}
 use Rattle.outcome.specs.Finished.{finished-after, from-written, into-written}
 use Rattle.outcome.specs.Consistent.{before-consistent, finished-clear, finished-consistent}
-use Rattle.rename_survives.specs.Way.{Mixed, parent-typed, mixed-results}
-use Rattle.rename_survives.specs.Run.{renameChange}
+use Rattle.outcome.specs.PlanRows.{results-fit, well-formed}
+use Rattle.rename_survives.specs.Way.{parent-typed, mixed-results}
+use Rattle.rename_survives.specs.Run.{PartWritten, renameChange}
 
 below-or : (i n : ℕ) → (i ≢ absent → i < n) → belowOrAbsent i n ≡ true
 below-or i n f = go (ℕ-discrete i absent)
@@ -102,10 +103,10 @@ module _ {h : Shape} {s : List ℕ} {m : Move} {called : List ℕ} (c : Called h
   not-replaced : (k : ℕ) → k < h .inodes → (m .replaced ≢ absent → m .replaced ≢ k) → m .replaced ≢ k
   not-replaced k l f e = f (λ z. omega (arith, sym z ∙ e, c .read .laid .inodes-most)) e
 
-  module _ {x : List ℕ} (mixed : Mixed h s m called x) (journal : recordOf h x journalKey ≡ journalBytes (journalFor m)) where
+  module _ {x : List ℕ} (mixed : PartWritten h s m called x) (journal : recordOf h x journalKey ≡ journalBytes (journalFor m)) where
     directory : (i : ℕ) → IsDirectory v i → inodeAt h t i ≡ holderAfter h s m i → isDirectory (viewOf h x) i ≡ true
     unfolding viewOf
-    directory i d e = is-kind (viewOf h x) i 2 (d .0, parent-typed c mixed i (d .0) e ∙ d .1)
+    directory i d e = kind-test (viewOf h x) i 2 (d .0, parent-typed c mixed i (d .0) e ∙ d .1)
 
     journal-is : journalAt h x ≡ journalBytes (journalFor m)
     journal-is = sym (record-is h x journalKey (record { in-image = lit< tt; in-section = lit< tt })) ∙ journal
@@ -163,11 +164,11 @@ module _ {h : Shape} {s : List ℕ} {m : Move} {called : List ℕ} (c : Called h
     module _ (same : entryAt h x (m .new) ≡ newEntry h s m called) where
       into-is : viewOf h x .parent (m .new) ≡ m .into
       unfolding viewOf
-      into-is = rw same (entry-names c .parent)
+      into-is = rw same (new-entry-names c .parent)
 
       is-decided : entryStands (viewOf h x) m ≡ true
       unfolding entryStands viewOf
-      is-decided = rw same (rw (ne-eqb _ _ (λ z. c .nonempty (sym (entry-names c .name-length) ∙ z)), eq-eqb _ _ (entry-names c .target)))
+      is-decided = rw same (rw (ne-eqb _ _ (λ z. c .nonempty (sym (new-entry-names c .name-length) ∙ z)), eq-eqb _ _ (new-entry-names c .target)))
 
       into-good : intoGood (viewOf h x) m ≡ true
       unfolding intoGood
@@ -189,7 +190,7 @@ module _ {h : Shape} {s : List ℕ} {m : Move} {called : List ℕ} (c : Called h
 
   -- ---- on the way
 
-  way-mixed : (d : Bool) {x : List ℕ} → OnTheWay 𝓒 d x → Mixed h s m called x
+  way-mixed : (d : Bool) {x : List ℕ} → OnTheWay 𝓒 d x → PartWritten h s m called x
   way-mixed d {x} i = record {
     either = λ k n. subst (λ (y : List ℕ). (recordOf h x k ≡ recordOf h s k) ⊎ (recordOf h x k ≡ recordOf h y k)) (finished-after c) (i .mixed k n);
   }

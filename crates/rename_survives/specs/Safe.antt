@@ -9,48 +9,48 @@ use native.Mathlib.Omega.{arith}
 use lib.Dec.{T, lit<}
 use lib.ListN.{length}
 use Rattle.layout.specs.declared.Shape.{Shape}
+use Rattle.layout.specs.Errno.{shortBuffer}
 use Rattle.layout.specs.Fields.{entryParent, entryTarget, entryName}
 use Rattle.layout.specs.View.{viewOf, entryAt}
 use Rattle.consistency.specs.Consistent.{consistent}
 use Rattle.plan.specs.Form.{planRows, planBytes, entryGroup}
+use Rattle.plan.specs.Jobs.{Job, jobsIn}
 use Rattle.plan.specs.Write.{Write, entryKey}
 use Rattle.plan.specs.WriteLaws.{other-section}
 use Rattle.apply.specs.Apply.{applyNumber}
+use Rattle.results.specs.declared.Move.{Move}
 use Rattle.crash_theorem.specs.Pick.{All}
 use Rattle.crash_theorem.specs.Change.{Change, plan, goal}
 use Rattle.crash_theorem.specs.Events.{EventOf, State, decided}
 use Rattle.crash_theorem.specs.Obligations.{Obligations}
 use Rattle.crash_theorem.specs.Crash.{Safe}
 use Rattle.crash_theorem.specs.Plan.{Plan, WellFormed, Recovers}
-use Rattle.image_store.specs.Image.{Ok, recordOf}
-use Rattle.image_store.specs.ImageLaws.{record-is, images}
-use Rattle.image_store.specs.JobLaws.{jobs}
-use Rattle.plan.specs.Jobs.{Job, jobsIn}
-use Rattle.image_store.specs.JobRows.{planOf}
-use Rattle.image_store.specs.Buffers.{Buffers, enough}
-use Rattle.image_store.specs.BuffersLaws.{enough-is, too-short}
-use Rattle.image_store.specs.Recovery.{Fills, AnswersRows}
-use Rattle.image_store.specs.Operation.{rowsIn}
-use Rattle.image_store.specs.Owed.{carries}
-use Rattle.image_store.specs.Safe.{planned-first, planned-owed, planned-safe, planned-zero, planned-recovers, planned-refuses, planned-decided, planned-undecided}
-use Rattle.results.specs.declared.Move.{Move}
 use Rattle.moves.specs.Plan.{newEntry, planned as plannedBytes}
 use Rattle.recover.specs.Recover.{recover}
 use Rattle.recover.specs.Job.{Recovered}
 use Rattle.recover.specs.JobLaws.{recovered-short, recovered-done}
-use Rattle.layout.specs.Errno.{shortBuffer}
 use Rattle.recover.specs.Bounds.{recover-few}
+use Rattle.image_store.specs.Image.{Ok, recordOf}
+use Rattle.image_store.specs.ImageLaws.{record-is, images}
+use Rattle.image_store.specs.Buffers.{Buffers, enough}
+use Rattle.image_store.specs.BuffersLaws.{enough-is, too-short}
+use Rattle.image_store.specs.JobLaws.{jobs}
+use Rattle.image_store.specs.Recovery.{Fills, AnswersRows}
+use Rattle.image_store.specs.Operation.{rowsIn}
+use Rattle.image_store.specs.Owed.{carries}
+use Rattle.image_store.specs.Safe.{planned-first, planned-owed, planned-safe, planned-zero, planned-recovers, planned-refuses, planned-decided, planned-undecided}
+use Rattle.image_store.specs.JobRows.{planOf}
 use Rattle.outcome.specs.Outcome.{finished}
 use Rattle.outcome.specs.RenamePlan.{renamePlan}
 use Rattle.outcome.specs.RenamePlanLaws.{rename-planned}
 use Rattle.outcome.specs.Called.{Called}
-use Rattle.outcome.specs.CalledLaws.{in-image, entry-names}
-use Rattle.outcome.specs.PlanRows.{well-formed}
+use Rattle.outcome.specs.CalledLaws.{in-image, new-entry-names}
 use Rattle.outcome.specs.Finished.{finished-after}
 use Rattle.outcome.specs.Applied.{rows-few}
 use Rattle.outcome.specs.Consistent.{before-consistent, finished-consistent}
-use Rattle.rename_survives.specs.Recovers.{recovers}
+use Rattle.outcome.specs.PlanRows.{well-formed}
 use Rattle.rename_survives.specs.Run.{recoveryJob, NamesKept, renameJobs, renameState}
+use Rattle.rename_survives.specs.Recovers.{recovers}
 
 -- ---- the job recovery as the crash theorem calls it
 
@@ -151,7 +151,7 @@ module _ {h : Shape} {s : List ℕ} {m : Move} {called : List ℕ} (c : Called h
     kept-after : entryAt h x (m .new) ≡ newEntry h s m called → NamesKept h s x m
     unfolding viewOf
     kept-after e =
-        let n = entry-names c in
+        let n = new-entry-names c in
         let is-moved : entryTarget (entryAt h x (m .new)) ≡ m .moved = ap entryTarget e ∙ n .target in
         record {
           name = (m .new, (in-image c .new, rw e (λ z. c .nonempty (sym (n .name-length) ∙ z))), is-moved);

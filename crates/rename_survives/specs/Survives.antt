@@ -8,18 +8,18 @@ use Prim.Native.Nat.{ℕ}
 use lib.Dec.{T}
 use Rattle.layout.specs.declared.Shape.{Shape}
 use Rattle.consistency.specs.Consistent.{checkNumber}
+use Rattle.plan.specs.Jobs.{Job, jobsIn}
 use Rattle.apply.specs.Apply.{applyNumber}
+use Rattle.results.specs.declared.Move.{Move}
 use Rattle.crash_theorem.specs.Pick.{All, Empty, Has}
 use Rattle.crash_theorem.specs.Turn.{Turn}
 use Rattle.crash_theorem.specs.Change.{Change, plan}
 use Rattle.crash_theorem.specs.Events.{EventOf, crash, State, step, decided}
 use Rattle.crash_theorem.specs.Finish.{Finishes}
-use Rattle.image_store.specs.JobLaws.{jobs}
-use Rattle.plan.specs.Jobs.{Job, jobsIn}
-use Rattle.image_store.specs.Buffers.{Buffers, enough}
-use Rattle.results.specs.declared.Move.{Move}
 use Rattle.moves.specs.Plan.{planned}
 use Rattle.recover.specs.Job.{recovered}
+use Rattle.image_store.specs.Buffers.{Buffers, enough}
+use Rattle.image_store.specs.JobLaws.{jobs}
 use Rattle.outcome.specs.Outcome.{finished}
 use Rattle.rename_survives.specs.Run.{NamesKept, renameJobs, renameState}
 

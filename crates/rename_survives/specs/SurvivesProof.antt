@@ -6,10 +6,10 @@ use lib.ListN.{length}
 use Rattle.layout.specs.declared.Shape.{Shape}
 use Rattle.consistency.specs.ConsistentLaws.{consistent-checked}
 use Rattle.plan.specs.Form.{planBytes}
+use Rattle.results.specs.declared.Move.{Move}
 use Rattle.crash_theorem.specs.Change.{goal}
 use Rattle.crash_theorem.specs.Events.{EventOf}
 use Rattle.image_store.specs.JobLaws.{jobs}
-use Rattle.results.specs.declared.Move.{Move}
 use Rattle.outcome.specs.Called.{Called}
 use Rattle.rename_survives.specs.Safe.{rename-first, rename-safe, rename-goal, rename-outcome, rename-zero, rename-recovers, rename-kept}
 use Rattle.rename_survives.specs.Survives.{rename, state, Survives}

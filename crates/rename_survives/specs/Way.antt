@@ -7,29 +7,26 @@ use native.Mathlib.Omega.{arith}
 use lib.Dec.{lit<}
 use Rattle.layout.specs.declared.Shape.{Shape}
 use Rattle.layout.specs.Place.{Key}
-use Rattle.layout.specs.PlaceLaws.{Valid}
+use Rattle.layout.specs.Facts.{Valid}
 use Rattle.layout.specs.Record.{recordAt}
 use Rattle.layout.specs.Fields.{inodeKind}
 use Rattle.layout.specs.View.{viewOf, inodeAt, entryAt}
 use Rattle.plan.specs.Write.{inodeKey, entryKey, journalKey}
 use Rattle.plan.specs.WriteLaws.{other-section}
-use Rattle.image_store.specs.Image.{recordOf}
-use Rattle.image_store.specs.ImageLaws.{record-is}
 use Rattle.results.specs.declared.Move.{Move}
 use Rattle.results.specs.Results.{holderAfter, results}
 use Rattle.results.specs.Again.{holder-kind}
+use Rattle.afresh.specs.Afresh.{PartWay}
+use Rattle.afresh.specs.AfreshLaws.{results-same}
+use Rattle.image_store.specs.ImageLaws.{record-is}
 use Rattle.outcome.specs.Outcome.{finished}
 use Rattle.outcome.specs.Called.{Called}
 use Rattle.outcome.specs.CalledLaws.{in-image}
 use Rattle.outcome.specs.Finished.{moved-written, from-written, into-written, replaced-written, entry-kept}
-use Rattle.afresh.specs.Afresh.{PartWay, results-same}
 use Rattle.outcome.specs.Consistent.{finished-agrees}
+use Rattle.rename_survives.specs.Run.{PartWritten}
 
--- Of the image x every record but the journal's is as before or as finished.
-pub record Mixed (h : Shape) (s : List ℕ) (m : Move) (called x : List ℕ) : Type 0 where
-  pub either : (k : Key) → k ≢ journalKey → (recordOf h x k ≡ recordOf h s k) ⊎ (recordOf h x k ≡ recordOf h (finished h s m called) k)
-
-module _ {h : Shape} {s : List ℕ} {m : Move} {called : List ℕ} (c : Called h s m called) {x : List ℕ} (mixed : Mixed h s m called x) where
+module _ {h : Shape} {s : List ℕ} {m : Move} {called : List ℕ} (c : Called h s m called) {x : List ℕ} (mixed : PartWritten h s m called x) where
   abbrev t : List ℕ
   t = finished h s m called
 

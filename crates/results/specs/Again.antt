@@ -7,12 +7,12 @@ use native.Mathlib.Decide.{ℕ-discrete}
 use native.Mathlib.Omega.{arith}
 use lib.ListN.{length, length-append}
 use Rattle.seq.specs.Bytes.{put}
-use Rattle.seq.specs.BytesLaws.{put-length, put-join, put-before}
 use Rattle.seq.specs.Number.{bytesOf}
+use Rattle.seq.specs.BytesLaws.{put-length, put-join, put-before}
 use Rattle.seq.specs.NumberLaws.{bytesOf-length}
 use Rattle.layout.specs.declared.Shape.{Shape}
-use Rattle.layout.specs.Fields.{inodeKind}
 use Rattle.layout.specs.Commute.{put-swap, put-again, put-both-again}
+use Rattle.layout.specs.Fields.{inodeKind}
 use Rattle.encode.specs.Inode.{withLinks, withField, withChanged}
 use Rattle.results.specs.Results.{movedBytes, holderBytes, replacedBytes}
 use Rattle.results.specs.Records.{moved-directory, moved-other, replaced-freed, replaced-kept}

@@ -7,13 +7,13 @@ use Rattle.seq.specs.Search.{count}
 use Rattle.seq.specs.Bytes.{part, put}
 use Rattle.seq.specs.Number.{numberAt, bytesOf}
 use Rattle.layout.specs.declared.Shape.{Shape}
+use Rattle.layout.specs.Limits.{absent}
 use Rattle.layout.specs.Place.{place}
 use Rattle.layout.specs.Contents.{shapeOf}
-use Rattle.layout.specs.Fields.{inodeLinks, inodeField, inodeModified, inodeChanged}
 use Rattle.layout.specs.Record.{recordAt}
+use Rattle.layout.specs.Fields.{inodeLinks, inodeField, inodeModified, inodeChanged}
 use Rattle.layout.specs.View.{viewOf}
-use Rattle.layout.specs.Bench.{bench}
-use Rattle.layout.specs.Limits.{absent}
+use Rattle.layout.specs.BenchTree.{bench}
 use Rattle.plan.specs.Write.{Write}
 use Rattle.results.specs.declared.Move.{Move}
 use Rattle.results.specs.Results.{entriesAfter, childrenAfter, linksAfter, movedBytes, holderBytes, replacedBytes, results}

@@ -8,18 +8,18 @@ use lib.Dec.{eqb, lit<, lit≤}
 use lib.ListN.{length, length-replicate}
 use borrow.Author.Tests.{eqb-false, not-true}
 use Rattle.layout.specs.declared.Shape.{Shape}
-use Rattle.layout.specs.ContentsLaws.{Laid}
+use Rattle.layout.specs.Limits.{absent}
+use Rattle.layout.specs.Facts.{Laid}
 use Rattle.layout.specs.RecordLaws.{record-length}
 use Rattle.layout.specs.View.{inodeAt}
-use Rattle.layout.specs.Limits.{absent}
-use Rattle.plan.specs.FitLaws.{Writes}
+use Rattle.plan.specs.Form.{resultGroup, clearGroup}
+use Rattle.plan.specs.FitFacts.{Writes}
 use Rattle.plan.specs.Write.{Write, inodeKey, entryKey, textKey, journalKey}
-use Rattle.plan.specs.WriteLaws.{writes-join}
 use Rattle.plan.specs.Filled.{AllWrites}
+use Rattle.plan.specs.WriteLaws.{writes-join}
 use Rattle.results.specs.declared.Move.{Move}
 use Rattle.results.specs.Results.{present, freeRecord, movedAfter, holderAfter, replacedAfter, when, holderRow, replacedRow, textRow, intoRows, replacedRows, textRows, results}
 use Rattle.results.specs.InImage.{InImage}
-use Rattle.plan.specs.Form.{resultGroup, clearGroup}
 use Rattle.results.specs.Again.{moved-length, holder-length, replaced-length}
 
 -- an inode with bytes of its length

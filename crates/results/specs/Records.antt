@@ -9,7 +9,8 @@ use Rattle.seq.specs.Number.{span}
 use Rattle.layout.specs.declared.Shape.{Shape}
 use Rattle.layout.specs.Fields.{inodeKind, inodeLinks, inodeField, inodeModified}
 use Rattle.encode.specs.Inode.{withLinks, withField, withChanged}
-use Rattle.encode.specs.InodeLaws.{Says, says-itself, says-links, says-field, says-modified, says-changed}
+use Rattle.encode.specs.Facts.{Says}
+use Rattle.encode.specs.InodeLaws.{says-itself, says-links, says-field, says-modified, says-changed}
 use Rattle.results.specs.Results.{freeRecord, movedBytes, holderBytes, replacedBytes}
 
 -- ---- the ways out

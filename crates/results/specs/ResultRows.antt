@@ -13,8 +13,8 @@ use Rattle.layout.specs.declared.Shape.{Shape}
 use Rattle.layout.specs.Limits.{absent}
 use Rattle.plan.specs.Form.{rowPut}
 use Rattle.plan.specs.Write.{Write, rowFrom}
-use Rattle.plan.specs.WriteLaws.{filled-none, filled-one, filled-join}
 use Rattle.plan.specs.Filled.{Filled}
+use Rattle.plan.specs.WriteLaws.{filled-none, filled-one, filled-join}
 use Rattle.results.specs.declared.Move.{Move}
 use Rattle.results.specs.Results.{present, when, oldRow, movedRow, holderRow, replacedRow, textRow, alwaysRows, intoRows, replacedRows, textRows, results}
 

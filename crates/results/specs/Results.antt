@@ -7,15 +7,15 @@ use lib.Dec.{eqb}
 use lib.ListN.{replicate}
 use Rattle.seq.specs.Search.{count}
 use Rattle.layout.specs.declared.Shape.{Shape}
+use Rattle.layout.specs.Limits.{absent}
 use Rattle.layout.specs.Place.{Key, recordBytes}
 use Rattle.layout.specs.Fields.{inodeKind}
 use Rattle.layout.specs.View.{View, viewOf, inodeAt, isDirectory}
-use Rattle.tree.specs.Tree.{targets, holdsDirectory}
 use Rattle.encode.specs.Inode.{withLinks, withField, withModified, withChanged}
-use Rattle.layout.specs.Limits.{absent}
+use Rattle.tree.specs.Tree.{targets, holdsDirectory}
+use Rattle.plan.specs.Form.{resultGroup, clearGroup}
 use Rattle.plan.specs.Write.{Write, inodeKey, entryKey, textKey, journalKey}
 use Rattle.results.specs.declared.Move.{Move}
-use Rattle.plan.specs.Form.{resultGroup, clearGroup}
 
 -- form H: the number names a replaced inode, or a text
 abbrev pub present : ℕ → Bool

@@ -3,7 +3,7 @@ use crate::Move;
 use layout::Shape;
 ghost use mathlib.Core.Path.{_≡_};
 ghost use Prim.Native.Nat.{_<_};
-ghost use Rattle.layout.specs.ContentsLaws.{Laid};
+ghost use Rattle.layout.specs.Facts.{Laid};
 ghost use Rattle.layout.specs.View.{inodeAt};
 ghost use Rattle.results.specs.Results.{movedAfter, holderAfter, replacedAfter};
 

@@ -2,8 +2,9 @@
 use crate::Move;
 use layout::Shape;
 ghost use mathlib.Core.Path.{_≡_};
-ghost use Prim.Native.Nat.{_≤_, _<_};
-ghost use Rattle.layout.specs.ContentsLaws.{Laid};
+ghost use Prim.Native.Nat.{_+_, _≤_, _<_};
+ghost use Rattle.layout.specs.Limits.{entryLimit};
+ghost use Rattle.layout.specs.Facts.{Laid};
 ghost use Rattle.layout.specs.View.{viewOf};
 ghost use Rattle.results.specs.Results.{targetsAfter, entriesAfter, holdsAfter, childrenAfter, linksAfter};
 
@@ -28,7 +29,7 @@ fn targets_after(image: &[u8], h: Shape, m: Move, i: usize, j: usize) -> bool
 // How many entries, as edited, target inode i.
 pub fn entries_after(image: &[u8], h: Shape, m: Move, i: usize) -> usize
     requires { ⌜ Laid h (now image) ⌝ }
-    ensures { λ r. ⌜ (r ≡ entriesAfter (viewOf h (now (image .entry))) m i) × (r ≤ 1024) ⌝ }
+    ensures { λ r. ⌜ (r ≡ entriesAfter (viewOf h (now (image .entry))) m i) × (r ≤ entryLimit) ⌝ }
 {
     let n = h.entries;
     let mut found: usize = 0;
@@ -69,7 +70,7 @@ fn holds_after(image: &[u8], h: Shape, m: Move, d: usize, j: usize) -> bool
 // How many child directories directory d has, by the entries as edited.
 pub fn children_after(image: &[u8], h: Shape, m: Move, d: usize) -> usize
     requires { ⌜ Laid h (now image) ⌝ }
-    ensures { λ r. ⌜ (r ≡ childrenAfter (viewOf h (now (image .entry))) m d) × (r ≤ 1024) ⌝ }
+    ensures { λ r. ⌜ (r ≡ childrenAfter (viewOf h (now (image .entry))) m d) × (r ≤ entryLimit) ⌝ }
 {
     let n = h.entries;
     let mut found: usize = 0;
@@ -86,7 +87,7 @@ pub fn children_after(image: &[u8], h: Shape, m: Move, d: usize) -> usize
 // The link count of inode i, by the entries as edited.
 pub fn links_after(image: &[u8], h: Shape, m: Move, i: usize) -> usize
     requires { ⌜ Laid h (now image) ⌝ }
-    ensures { λ r. ⌜ (r ≡ linksAfter (viewOf h (now (image .entry))) m i) × (r ≤ 1026) ⌝ }
+    ensures { λ r. ⌜ (r ≡ linksAfter (viewOf h (now (image .entry))) m i) × (r ≤ 2 + entryLimit) ⌝ }
 {
     if layout::lookup::is_directory(image, h, i) {
         return children_after(image, h, m, i) + 2;

@@ -8,7 +8,7 @@ use plan::RESULT_GROUP;
 ghost use mathlib.Core.Path.{_≡_};
 ghost use Prim.Native.Nat.{_+_, _<_, _≤_};
 ghost use lib.ListN.{length};
-ghost use Rattle.layout.specs.ContentsLaws.{Laid};
+ghost use Rattle.layout.specs.Facts.{Laid};
 ghost use Rattle.plan.specs.Form.{planRows, planBytes, rowPut};
 ghost use Rattle.plan.specs.Write.{rowFrom};
 ghost use Rattle.plan.specs.Filled.{Filled};

@@ -11,9 +11,9 @@ use lib.Dec.{eqb}
 use lib.ListN.{length, getD, take, drop, set, length-set, length-take, length-drop, length-append, drop-of-length-le, replicate, length-replicate, getD-replicate, replicate-append-replicate}
 use lib.Seq.{sets-eq, length-sets, getD-set-same, getD-set-other, take-suc, length-take-le, ext-getD, getD-take, getD-drop, take-take}
 use borrow.Author.Tests.{eqb-true, eq-eqb}
+use Rattle.seq.specs.Bytes.{part, put, sameBytes, zeros}
 use Rattle.seq.specs.Truth.{and-left, and-right}
 use Rattle.seq.specs.SearchLaws.{all-at, all-of, all-same}
-use Rattle.seq.specs.Bytes.{part, put, sameBytes, zeros}
 
 -- the test says that they are equal
 pub same-refl : (xs : List ℕ) → sameBytes xs xs ≡ true

@@ -1,16 +1,16 @@
 -- Counts of two tests that differ at a few numbers only, and what a count of 0 or 1 says. Assumes nothing.
 use mathlib.Core.Path.{_≡_, refl, sym, ap, ap₂, _∙_}
 use mathlib.Core.Logic.{_≢_, _⊎_, inl, inr}
-use mathlib.Core.List.{List, [], _∷_}
 use mathlib.Core.Bool.{Bool, true, false, _&&_, not, cond, and-true, and-false}
+use mathlib.Core.List.{List, [], _∷_}
 use Prim.Native.Nat.{ℕ, zero, suc, _+_, _≤_, _<_}
-use native.Mathlib.Nat.{le-refl}
 use native.Mathlib.Decide.{ℕ-discrete, decLe}
+use native.Mathlib.Nat.{le-refl}
 use native.Mathlib.Omega.{arith}
 use lib.Dec.{eqb}
 use borrow.Author.Tests.{eq-eqb, ne-eqb}
-use Rattle.seq.specs.Truth.{not-both}
 use Rattle.seq.specs.Search.{count}
+use Rattle.seq.specs.Truth.{not-both}
 use Rattle.seq.specs.SearchLaws.{count-same}
 use Rattle.seq.specs.Count.{bit, Off, On, Places, bits}
 

@@ -7,8 +7,8 @@ use native.Mathlib.Nat.{add-zero, zero-add}
 use native.Mathlib.Omega.{arith}
 use lib.ListN.{length, getD}
 use Rattle.seq.specs.Bytes.{part, put}
-use Rattle.seq.specs.BytesLaws.{part-byte, put-join, put-inside, put-before, put-after}
 use Rattle.seq.specs.Number.{bytesOf, numberAt, span}
+use Rattle.seq.specs.BytesLaws.{part-byte, put-join, put-inside, put-before, put-after}
 
 pub bytesOf-length : (k v : ℕ) → length (bytesOf k v) ≡ k
 unfolding bytesOf

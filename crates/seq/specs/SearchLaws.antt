@@ -1,13 +1,13 @@
 -- Laws of searches: one turn of a loop that counts up, and what a search has found. Assumes nothing.
 use mathlib.Core.Path.{_≡_, refl, sym, ap, ap₂, _∙_}
-use mathlib.Core.Bool.{Bool, true, false, _&&_, _||_, not, cond, or-true, and-false, false≢true}
 use mathlib.Core.Logic.{_⊎_, inl, inr, ⊎-elim}
+use mathlib.Core.Bool.{Bool, true, false, _&&_, _||_, not, cond, or-true, and-false, false≢true}
 use Prim.Native.Nat.{ℕ, zero, suc, _+_, _<_, _≤_}
 use native.Mathlib.Nat.{eq-or-lt-of-le, not-suc-le-zero, le-of-suc-le-suc, le-refl, lt-of-not-le}
 use native.Mathlib.Numerals.{add-one}
 use native.Mathlib.Omega.{arith}
-use Rattle.seq.specs.Truth.{and-left, and-right, and-both, not-both, fails, holds}
 use Rattle.seq.specs.Search.{all, any, count, first}
+use Rattle.seq.specs.Truth.{and-left, and-right, and-both, not-both, fails, holds}
 
 -- a number below suc n is n, or below n
 last-or-below : {A : Type 0} (n k : ℕ) → k < suc n → (k ≡ n → A) → (k < n → A) → A

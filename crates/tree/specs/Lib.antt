@@ -3,3 +3,4 @@ pub mod TreeLaws
 pub mod Inode
 pub mod InodeTests
 pub mod InodeFacts
+pub mod InodeFactLaws

@@ -4,7 +4,7 @@ use layout::limits;
 ghost use mathlib.Core.Path.{_≡_};
 ghost use Prim.Native.Nat.{_<_};
 ghost use Rattle.seq.specs.Search.{all};
-ghost use Rattle.layout.specs.ContentsLaws.{Laid};
+ghost use Rattle.layout.specs.Facts.{Laid};
 ghost use Rattle.layout.specs.View.{viewOf, textUsed};
 ghost use Rattle.tree.specs.Inode.{leafGood, fileGood, directoryPlaced, directoryGood, symlinkGood, inodeGood};
 ghost use Rattle.tree.specs.Tree.{hasText, textShared};

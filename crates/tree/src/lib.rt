@@ -2,7 +2,8 @@
 use layout::Shape;
 ghost use mathlib.Core.Path.{_≡_};
 ghost use Prim.Native.Nat.{_≤_, _<_};
-ghost use Rattle.layout.specs.ContentsLaws.{Laid};
+ghost use Rattle.layout.specs.Limits.{entryLimit};
+ghost use Rattle.layout.specs.Facts.{Laid};
 ghost use Rattle.layout.specs.View.{viewOf};
 ghost use Rattle.tree.specs.Tree.{targets, entriesOf, holdsDirectory, childDirectories, reaches};
 
@@ -55,7 +56,7 @@ fn entry_holds_directory(image: &[u8], h: Shape, i: usize, j: usize) -> bool
 // How many child directories directory i has.
 pub fn child_directories(image: &[u8], h: Shape, i: usize) -> usize
     requires { ⌜ Laid h (now image) ⌝ }
-    ensures { λ r. ⌜ (r ≡ childDirectories (viewOf h (now (image .entry))) i) × (r ≤ 1024) ⌝ }
+    ensures { λ r. ⌜ (r ≡ childDirectories (viewOf h (now (image .entry))) i) × (r ≤ entryLimit) ⌝ }
 {
     let n = h.entries;
     let mut found: usize = 0;

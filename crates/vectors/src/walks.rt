@@ -13,7 +13,7 @@ use walk::resolve::Walked;
 ghost use mathlib.Core.Path.{_≡_};
 ghost use mathlib.Core.Bool.{true};
 ghost use Rattle.layout.specs.View.{viewOf};
-ghost use Rattle.layout.specs.ViewLaws.{Readable};
+ghost use Rattle.layout.specs.Facts.{Readable};
 ghost use Rattle.paths.specs.Request.{requestGood};
 ghost use Rattle.component.specs.State.{Ranged};
 

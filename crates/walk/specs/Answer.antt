@@ -1,16 +1,16 @@
 -- The code's answer of a walk: the end that it stands for, and all that a caller may rely on. Assumes nothing.
 use mathlib.Core.Path.{_≡_}
 use Prim.Native.Nat.{ℕ, _≤_}
+use Rattle.layout.specs.Limits.{stepLimit}
 use Rattle.layout.specs.View.{View}
-use Rattle.component.specs.declared.state.Walk.{Walk}
 use Rattle.component.specs.declared.state.Final.{Final}
 use Rattle.component.specs.declared.state.Final.the-variants.{MustExist, MayBeMissing}
 use Rattle.component.specs.declared.state.Found.{Found}
+use Rattle.component.specs.declared.state.Walk.{Walk}
 use Rattle.component.specs.Step.{End, Step, ends}
-use Rattle.layout.specs.Limits.{stepLimit}
 use Rattle.component.specs.State.{findingOf, Ranged}
-use Rattle.walk.specs.declared.resolve.Walked.{Walked}
 use Rattle.walk.specs.declared.both.Walks.{Walks}
+use Rattle.walk.specs.declared.resolve.Walked.{Walked}
 use Rattle.walk.specs.Ends.{Facts}
 use Rattle.walk.specs.Both.{Ends}
 

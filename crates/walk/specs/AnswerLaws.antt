@@ -4,6 +4,7 @@ use mathlib.Core.Bool.{true}
 use mathlib.Core.List.{List}
 use Prim.Native.Nat.{ℕ, _≤_}
 use Rattle.seq.specs.Bytes.{noZero}
+use Rattle.layout.specs.Limits.{stepLimit}
 use Rattle.layout.specs.View.{View, isSymlink}
 use Rattle.paths.specs.declared.request.Credentials.{Credentials}
 use Rattle.component.specs.declared.state.Final.{Final}
@@ -12,7 +13,6 @@ use Rattle.component.specs.declared.state.Found.the-variants.{Nothing}
 use Rattle.component.specs.declared.state.Leave.the-variants.{Refuses, Finds}
 use Rattle.component.specs.declared.state.Turn.{Turn}
 use Rattle.component.specs.Step.{End, Step}
-use Rattle.layout.specs.Limits.{stepLimit}
 use Rattle.component.specs.State.{leaveOf, Left, Turned}
 use Rattle.walk.specs.declared.resolve.Walked.{Walked}
 use Rattle.walk.specs.Walk.{walk}

@@ -6,18 +6,18 @@ use Prim.Native.Nat.{ℕ}
 use Rattle.seq.specs.Search.{any, all, first}
 use Rattle.seq.specs.Bytes.{part, sameBytes}
 use Rattle.seq.specs.Number.{numberAt, bytesOf}
+use Rattle.layout.specs.Limits.{noHandle}
 use Rattle.layout.specs.Contents.{shapeOf}
 use Rattle.layout.specs.Record.{recordAt}
 use Rattle.layout.specs.View.{View, viewOf}
-use Rattle.layout.specs.Bench.{bench}
-use Rattle.paths.specs.Permission.{allows}
+use Rattle.layout.specs.BenchTree.{bench}
 use Rattle.paths.specs.Path.{slashes, untilSlash}
+use Rattle.paths.specs.Permission.{allows}
 use Rattle.paths.specs.Lookup.{isNamed, lookup}
-use Rattle.component.specs.Step.{Finding, End, existing, missing, nothing, step}
 use Rattle.component.specs.declared.state.Final.{Final}
 use Rattle.component.specs.declared.state.Final.the-variants.{MustExist, MayBeMissing}
+use Rattle.component.specs.Step.{Finding, End, existing, missing, nothing, walkStep}
 use Rattle.walk.specs.Walk.{halt, walkFrom, walk}
-use Rattle.layout.specs.Limits.{noHandle}
 
 abbrev pub benchView : View
 benchView = viewOf (shapeOf bench) bench
@@ -51,5 +51,5 @@ pub walks :
     ∷ halt 16
     ∷ halt 2
     ∷ []
-unfolding bench any all first part sameBytes numberAt bytesOf shapeOf recordAt viewOf allows slashes untilSlash isNamed lookup step walkFrom walk
+unfolding bench any all first part sameBytes numberAt bytesOf shapeOf recordAt viewOf allows slashes untilSlash isNamed lookup walkStep walkFrom walk
 walks = refl

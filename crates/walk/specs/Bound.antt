@@ -7,13 +7,13 @@ use Prim.Native.Nat.{ℕ, zero, suc, _+_, _*_, _-_, _/_, _≤_, _<_, zero-le}
 use native.Mathlib.Nat.{le-trans, zero-add}
 use native.Mathlib.Omega.{arith}
 use lib.ListN.{length, length-append}
+use Rattle.layout.specs.Limits.{symlinkLimit, pathLimit, pathComponents, stepLimit}
 use Rattle.layout.specs.View.{View}
 use Rattle.paths.specs.declared.request.Credentials.{Credentials}
 use Rattle.paths.specs.Path.{behind, bare}
 use Rattle.paths.specs.PathLaws.{skip-le, skip-more, behind-le, behind-short, bare-append}
 use Rattle.component.specs.declared.state.Final.{Final}
-use Rattle.component.specs.Step.{Position, End, Step, goes, ends, step}
-use Rattle.layout.specs.Limits.{symlinkLimit, pathLimit, pathComponents, stepLimit}
+use Rattle.component.specs.Step.{Position, End, Step, goes, ends, walkStep}
 use Rattle.component.specs.Ways.{Way, refuses, moves, follows, exists, lacks}
 use Rattle.component.specs.WayLaws.{step-way}
 use Rattle.walk.specs.Walk.{startAt, walkFrom, walk}
@@ -37,7 +37,7 @@ after-way v last w x (follows i link more few short e) =
 after-way v last w x (exists slash place below slashed e) = subst (After w) (sym e) refl
 after-way v last w x (lacks slash may place none short plain e) = subst (After w) (sym e) refl
 
-pub after-is : (v : View) (who : Credentials) (last : Final) (w : Position) (x : Step) → step v who last w ≡ x → After w x
+pub after-is : (v : View) (who : Credentials) (last : Final) (w : Position) (x : Step) → walkStep v who last w ≡ x → After w x
 after-is v who last w x e = subst (After w) e (after-way v last w _ (step-way v who last w))
 
 pub budget-more : (w : Position) → bare (w .rest) ≡ false → 0 < budget w
@@ -87,7 +87,7 @@ ready-new w more short none unread = record {
 }
 
 module _ (v : View) (who : Credentials) (last : Final) where
-  pub ready-next : (w u : Position) → Ready w → step v who last w ≡ goes u → Ready u
+  pub ready-next : (w u : Position) → Ready w → walkStep v who last w ≡ goes u → Ready u
   ready-next w u r e =
       let g : Goes w u = after-is v who last w (goes u) e in
       let b = budget-falls w u (r .more) g in
@@ -102,9 +102,9 @@ module _ (v : View) (who : Credentials) (last : Final) where
   pub leads : (n : ℕ) (w : Position) → bare (w .rest) ≡ false → budget w ≤ n → Leads v who last w (walkFrom v who last n w)
   unfolding walkFrom
   leads zero w more enough = let b = budget-more w more in absurd (omega arith)
-  leads (suc n) w more enough = go (step v who last w) refl (λ u. leads n u)
+  leads (suc n) w more enough = go (walkStep v who last w) refl (λ u. leads n u)
     where
-      go : (x : Step) → step v who last w ≡ x → ((u : Position) → bare (u .rest) ≡ false → budget u ≤ n → Leads v who last u (walkFrom v who last n u))
+      go : (x : Step) → walkStep v who last w ≡ x → ((u : Position) → bare (u .rest) ≡ false → budget u ≤ n → Leads v who last u (walkFrom v who last n u))
           → Leads v who last w (elim x as (λ _. End) [ goes u ↦ walkFrom v who last n u | ends e ↦ e ])
       go (goes u) e on =
           let g : Goes w u = after-is v who last w (goes u) e in
@@ -123,9 +123,9 @@ module _ (v : View) (who : Credentials) (last : Final) where
       rw (s, walkFrom) (led n l (g .more) (omega arith))
 
   -- the components counted: one at least, and no more than the budget
-  pub counts : {w : Position} {e : End} → Leads v who last w e → w .steps < e .steps
-  counts {w} {e} (ending s) = let k = after-is v who last w (ends e) s in omega arith
-  counts {w} (going {u = u} s l) = let k = after-is v who last w (goes u) s .counted in let m = counts l in omega arith
+  pub leads-count : {w : Position} {e : End} → Leads v who last w e → w .steps < e .steps
+  leads-count {w} {e} (ending s) = let k = after-is v who last w (ends e) s in omega arith
+  leads-count {w} (going {u = u} s l) = let k = after-is v who last w (goes u) s .counted in let m = leads-count l in omega arith
 
   pub spends : {w : Position} {e : End} → Leads v who last w e → bare (w .rest) ≡ false → e .steps ≤ w .steps + budget w
   spends {w} {e} (ending s) more = let k = after-is v who last w (ends e) s in let b = budget-more w more in omega arith
@@ -136,10 +136,10 @@ module _ (v : View) (who : Credentials) (last : Final) where
       omega arith
 
   -- for a loop over the steps, whose fuel may stay where it is: a step that ends says the end, one that goes on keeps it
-  pub walk-ends : (w : Position) (e : End) → Ready w → step v who last w ≡ ends e → walkFrom v who last stepLimit w ≡ e
+  pub walk-ends : (w : Position) (e : End) → Ready w → walkStep v who last w ≡ ends e → walkFrom v who last stepLimit w ≡ e
   walk-ends w e r s = led stepLimit (ending s) (r .more) (ready-budget w r)
 
-  pub walk-goes : (w u : Position) → Ready w → step v who last w ≡ goes u → walkFrom v who last stepLimit w ≡ walkFrom v who last stepLimit u
+  pub walk-goes : (w u : Position) → Ready w → walkStep v who last w ≡ goes u → walkFrom v who last stepLimit w ≡ walkFrom v who last stepLimit u
   walk-goes w u r s =
       let q = ready-next w u r s in
       led stepLimit (going s (leads stepLimit u (q .more) (ready-budget u q))) (r .more) (ready-budget w r)
@@ -161,7 +161,7 @@ module _ (v : View) (who : Credentials) (last : Final) where
 
     -- a walk that begins counts
     pub walk-counts : 0 < walkFrom v who last stepLimit begin .steps
-    walk-counts = counts start-leads
+    walk-counts = leads-count start-leads
 
     start-bound : walkFrom v who last stepLimit begin .steps ≤ stepLimit
     start-bound = le-trans (spends start-leads more) (ready .within)

@@ -4,12 +4,12 @@ use mathlib.Core.Logic.{_⊎_}
 use mathlib.Core.Bool.{false}
 use Prim.Native.Nat.{ℕ, _+_, _*_, _-_, _/_, _≤_, _<_}
 use lib.ListN.{length}
+use Rattle.layout.specs.Limits.{symlinkLimit, pathLimit, pathComponents, stepLimit}
 use Rattle.layout.specs.View.{View}
 use Rattle.paths.specs.declared.request.Credentials.{Credentials}
 use Rattle.paths.specs.Path.{skip, behind, bare}
 use Rattle.component.specs.declared.state.Final.{Final}
-use Rattle.component.specs.Step.{Position, End, Step, goes, ends, step}
-use Rattle.layout.specs.Limits.{symlinkLimit, pathLimit, pathComponents, stepLimit}
+use Rattle.component.specs.Step.{Position, End, Step, goes, ends, walkStep}
 
 -- A step that goes on from w to u: the component counts, another is left, and either u is behind the component just read, or one more
 -- symlink, which was not one too many, has led into a path of its own.
@@ -39,5 +39,5 @@ pub record Ready (w : Position) : Type 0 where
 
 -- Where the steps from a position lead, with no fuel: the end of the step that ends, through those that go on.
 pub data Leads (v : View) (who : Credentials) (last : Final) : Position → End → Type 0 where
-  ending : {w : Position} {e : End} → step v who last w ≡ ends e → Leads v who last w e
-  going : {w u : Position} {e : End} → step v who last w ≡ goes u → Leads v who last u e → Leads v who last w e
+  ending : {w : Position} {e : End} → walkStep v who last w ≡ ends e → Leads v who last w e
+  going : {w u : Position} {e : End} → walkStep v who last w ≡ goes u → Leads v who last u e → Leads v who last w e

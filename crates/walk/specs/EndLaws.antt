@@ -5,20 +5,20 @@ use mathlib.Core.List.{List}
 use Prim.Native.Nat.{ℕ, _<_}
 use lib.Dec.{eqb}
 use lib.ListN.{length, getD}
+use Rattle.seq.specs.Bytes.{noZero}
 use Rattle.seq.specs.Truth.{and-both, or-left, or-right, not-both}
 use Rattle.seq.specs.SearchLaws.{all-at, all-of}
-use Rattle.seq.specs.Bytes.{noZero}
 use Rattle.layout.specs.View.{View, isDirectory, isSymlink}
 use Rattle.names.specs.Name.{plainName, isDots}
 use Rattle.names.specs.NameTests.{nameGood}
 use Rattle.paths.specs.declared.request.Credentials.{Credentials}
 use Rattle.paths.specs.Path.{component, behind, bare, isDot, isDotDot}
-use Rattle.paths.specs.Plain.{component-plain, behind-plain, joined-plain, component-slash, component-some}
 use Rattle.paths.specs.Lookup.{lookup}
 use Rattle.paths.specs.LookupLaws.{lookup-held, lookup-none}
+use Rattle.paths.specs.Plain.{component-plain, behind-plain, joined-plain, component-slash, component-some}
 use Rattle.component.specs.declared.state.Final.{Final}
 use Rattle.component.specs.declared.state.Final.the-variants.{MayBeMissing}
-use Rattle.component.specs.Step.{Position, missing, nothing, End, Step, goes, ends, step}
+use Rattle.component.specs.Step.{Position, missing, nothing, End, Step, goes, ends, walkStep}
 use Rattle.component.specs.Ways.{componentNumber, Way, refuses, moves, follows, exists, lacks}
 use Rattle.component.specs.WayLaws.{step-way}
 use Rattle.walk.specs.Walk.{haltNumber, walk}
@@ -85,7 +85,7 @@ module _ (v : View) (last : Final) (texts : (i : ℕ) → isSymlink v i ≡ true
       })
 
   module _ (who : Credentials) where
-    hands-step : (w : Position) (x : Step) → step v who last w ≡ x → bare (w .rest) ≡ false → noZero (w .rest) ≡ true → Hands x
+    hands-step : (w : Position) (x : Step) → walkStep v who last w ≡ x → bare (w .rest) ≡ false → noZero (w .rest) ≡ true → Hands x
     hands-step w x e more plain = subst Hands e (hands-way w _ more plain (step-way v who last w))
 
     led-facts : {w : Position} {e : End} → Leads v who last w e → bare (w .rest) ≡ false → noZero (w .rest) ≡ true → Facts v last e

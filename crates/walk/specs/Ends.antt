@@ -12,7 +12,7 @@ use Rattle.paths.specs.Lookup.{lookup}
 use Rattle.component.specs.declared.state.Final.{Final}
 use Rattle.component.specs.declared.state.Final.the-variants.{MustExist, MayBeMissing}
 use Rattle.component.specs.Step.{Finding, existing, missing, nothing, End}
-use Rattle.component.specs.Ways.{componentNumber, lacks}
+use Rattle.component.specs.Ways.{componentNumber}
 use Rattle.walk.specs.Walk.{haltNumber}
 
 -- A path that names inode i by the entry in slot j of directory d; it may end in a slash only if that is a directory.

@@ -5,13 +5,13 @@ use mathlib.Core.List.{List}
 use Prim.Native.Nat.{ℕ, zero, suc}
 use lib.Dec.{eqb, ltb}
 use lib.ListN.{length}
+use Rattle.layout.specs.Limits.{pathLimit, stepLimit, noHandle}
 use Rattle.layout.specs.Errno.{EBADF, EBUSY, ELOOP, ENAMETOOLONG, ENOENT}
 use Rattle.layout.specs.View.{View, handleOpen}
 use Rattle.paths.specs.declared.request.Credentials.{Credentials}
 use Rattle.paths.specs.Path.{empty, bare, absolute}
 use Rattle.component.specs.declared.state.Final.{Final}
-use Rattle.component.specs.Step.{Position, End, nothing, goes, ends, step}
-use Rattle.layout.specs.Limits.{pathLimit, stepLimit, noHandle}
+use Rattle.component.specs.Step.{Position, End, nothing, goes, ends, walkStep}
 use Rattle.walk.specs.declared.start.Start.{Start}
 use Rattle.walk.specs.declared.start.Start.the-variants.{Closed, At}
 
@@ -40,7 +40,7 @@ module _ (v : View) (who : Credentials) (last : Final) where
   -- as many components as there are, up to a number of them that is never reached (see Bound)
   unfoldable pub walkFrom : ℕ → Position → End
   walkFrom zero w = record { number = ELOOP; steps = w .steps; found = nothing }
-  walkFrom (suc n) w = elim (step v who last w) [ goes u ↦ walkFrom n u | ends e ↦ e ]
+  walkFrom (suc n) w = elim (walkStep v who last w) [ goes u ↦ walkFrom n u | ends e ↦ e ]
 
   -- rules 48 and 49: a handle that is closed, and then a path of slashes only
   abbrev pub begun : Start → List ℕ → End

@@ -8,13 +8,13 @@ use lib.Dec.{ltb}
 use lib.ListN.{length}
 use borrow.Author.Tests.{ltb-false, eq-eqb, ne-eqb, lt-ltb, le-ltb}
 use Rattle.seq.specs.Truth.{by-test}
+use Rattle.layout.specs.Limits.{pathLimit, stepLimit}
 use Rattle.layout.specs.Errno.{EBADF, EBUSY, ENAMETOOLONG, ENOENT}
 use Rattle.layout.specs.View.{View}
 use Rattle.paths.specs.declared.request.Credentials.{Credentials}
 use Rattle.paths.specs.Path.{empty, bare}
 use Rattle.component.specs.declared.state.Final.{Final}
 use Rattle.component.specs.Step.{End}
-use Rattle.layout.specs.Limits.{pathLimit, stepLimit}
 use Rattle.walk.specs.declared.start.Start.{Start}
 use Rattle.walk.specs.declared.start.Start.the-variants.{Closed, At}
 use Rattle.walk.specs.Walk.{haltNumber, halt, startOf, startAt, walkFrom, begun, walk}

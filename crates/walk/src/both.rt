@@ -7,7 +7,7 @@ use paths::request::Request;
 ghost use mathlib.Core.Path.{_≡_};
 ghost use mathlib.Core.Bool.{true};
 ghost use Rattle.layout.specs.View.{viewOf};
-ghost use Rattle.layout.specs.ViewLaws.{Readable};
+ghost use Rattle.layout.specs.Facts.{Readable};
 ghost use Rattle.paths.specs.Request.{requestGood};
 ghost use Rattle.walk.specs.Both.{walksOf};
 ghost use Rattle.walk.specs.Answer.{BothAnswered};

@@ -16,7 +16,7 @@ ghost use Prim.Native.Nat.{_≤_};
 ghost use lib.ListN.{length};
 ghost use Rattle.seq.specs.Bytes.{noZero};
 ghost use Rattle.layout.specs.View.{viewOf};
-ghost use Rattle.layout.specs.ViewLaws.{Readable};
+ghost use Rattle.layout.specs.Facts.{Readable};
 ghost use Rattle.paths.specs.WorkingPath.{workingPath};
 ghost use Rattle.layout.specs.Limits.{pathLimit, stepLimit};
 ghost use Rattle.component.specs.State.{positionOf, beginning, Fit};

@@ -3,7 +3,7 @@ use layout::Shape;
 use layout::limits;
 use paths::path;
 ghost use mathlib.Core.Path.{_≡_};
-ghost use Rattle.layout.specs.ContentsLaws.{Laid};
+ghost use Rattle.layout.specs.Facts.{Laid};
 ghost use Rattle.layout.specs.View.{viewOf};
 ghost use Rattle.walk.specs.Walk.{startOf};
 

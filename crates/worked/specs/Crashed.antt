@@ -10,26 +10,26 @@ use Rattle.seq.specs.Number.{numberAt, bytesOf}
 use Rattle.layout.specs.Contents.{nameIs, shapeOf, layoutGood}
 use Rattle.layout.specs.Record.{recordAt, store}
 use Rattle.layout.specs.View.{viewOf}
-use Rattle.layout.specs.Bench.{bench}
+use Rattle.layout.specs.BenchTree.{bench}
+use Rattle.encode.specs.Entry.{entryBytes}
+use Rattle.encode.specs.Journal.{journalOf, journalFormed, journalHead, journalBytes}
 use Rattle.names.specs.Name.{plainName, isDots, clash}
 use Rattle.names.specs.NameTests.{nameGood}
 use Rattle.tree.specs.Tree.{entriesOf, childDirectories, reaches, textShared}
-use Rattle.consistency.specs.Sound.{textLinked, journalClear}
-use Rattle.consistency.specs.Consistent.{bodiesGood, consistent, recordsNumber, checkNumber}
-use Rattle.encode.specs.Entry.{entryBytes}
-use Rattle.encode.specs.Journal.{journalOf, journalFormed, journalHead, journalBytes}
-use Rattle.paths.specs.Permission.{allows}
-use Rattle.paths.specs.Path as path
-use Rattle.paths.specs.Lookup.{isNamed, lookup}
+use Rattle.consistency.specs.Sound.{textLinked, journalClear, bodiesGood}
+use Rattle.consistency.specs.Consistent.{consistent, recordsNumber, checkNumber}
 use Rattle.paths.specs.Request.{requestGood}
-use Rattle.component.specs.Step.{step}
+use Rattle.paths.specs.Permission.{allows}
+use Rattle.paths.specs.Lookup.{isNamed, lookup}
+use Rattle.paths.specs.Path as path
+use Rattle.component.specs.Step.{walkStep}
 use Rattle.walk.specs.Walk.{walkFrom, walk}
 use Rattle.walk.specs.Both.{walksOf}
+use Rattle.refusals.specs.Case.{stickyDenied, hasEntries, isOpened}
 use Rattle.plan.specs.Form.{rowAt, headerOf, rowPut, rowsPut, cleared, noRow, rowCount}
 use Rattle.plan.specs.Fit.{coversSection, covers, rowFits, applicable}
 use Rattle.apply.specs.Apply.{applyNumber, appliedImage}
 use Rattle.results.specs.Results.{entriesAfter, childrenAfter, linksAfter, movedBytes, holderBytes, replacedBytes, results}
-use Rattle.refusals.specs.Case.{stickyDenied, hasEntries, isOpened}
 use Rattle.moves.specs.Plan.{moveOf, renameRows, planned}
 use Rattle.rename.specs.Order.{freeSlot, order}
 use Rattle.rename.specs.Job.{renamed, planAfter}
@@ -37,10 +37,10 @@ use Rattle.drafts.specs.Draft.{renameFits, entryStands, intoGood, moveDraft, re
 use Rattle.recover.specs.Recover.{pendingRows}
 use Rattle.recover.specs.Job.{recovered}
 use Rattle.outcome.specs.Outcome.{finished}
+use Rattle.demands.specs.Crashes.{Event, apply, refused, crash, State, groupOf, step as stepped, atFirst, entryApplied}
+use Rattle.demands.specs.Demand2.{finishedImage}
 use Rattle.demands.specs.Line.{dirty}
 use Rattle.demands.specs.Table.{owner, /a/f, /b/g}
-use Rattle.demands.specs.Crashes.{Event, apply, refused, crash, State, groupOf, step as stepped, begun, entryApplied}
-use Rattle.demands.specs.Demand2.{finishedImage}
 
 -- a crash, with buffers of these lengths filled with a byte
 abbrev crashed : ℕ → ℕ → ℕ → Event
@@ -79,7 +79,7 @@ passing x [] = (seen x ∷ [], x .image)
 passing x (e ∷ es) = let rest = passing (stepped x e) es in (seen x ∷ rest .0, rest .1)
 
 abbrev pub passed : List Event → List Seen × List ℕ
-passed es = passing (begun bench (planAfter bench dirty owner /a/f /b/g)) es
+passed es = passing (atFirst bench (planAfter bench dirty owner /a/f /b/g)) es
 
 -- eight rows wait at first; recovery is refused twice, and then its one row leaves the image before
 pub taken-back : passed back
@@ -94,7 +94,7 @@ pub taken-back : passed back
           ∷ [],
       bench,
     )
-unfolding bench any all first count part put store zeros noZero sameBytes numberAt bytesOf nameIs shapeOf layoutGood recordAt viewOf plainName isDots nameGood clash entriesOf childDirectories reaches textShared textLinked journalClear bodiesGood consistent recordsNumber checkNumber allows path.slashes path.untilSlash isNamed lookup requestGood step walkFrom walk walksOf entryBytes journalOf journalFormed journalHead journalBytes rowAt headerOf rowPut rowsPut cleared noRow rowCount coversSection covers rowFits applicable applyNumber appliedImage movedBytes holderBytes replacedBytes entriesAfter childrenAfter linksAfter results stickyDenied hasEntries isOpened moveOf renameRows planned freeSlot order renamed planAfter renameFits entryStands intoGood moveDraft renameDraft draft pendingRows recovered finished
+unfolding bench any all first count part put store zeros noZero sameBytes numberAt bytesOf nameIs shapeOf layoutGood recordAt viewOf plainName isDots nameGood clash entriesOf childDirectories reaches textShared textLinked journalClear bodiesGood consistent recordsNumber checkNumber allows path.slashes path.untilSlash isNamed lookup requestGood walkStep walkFrom walk walksOf entryBytes journalOf journalFormed journalHead journalBytes rowAt headerOf rowPut rowsPut cleared noRow rowCount coversSection covers rowFits applicable applyNumber appliedImage movedBytes holderBytes replacedBytes entriesAfter childrenAfter linksAfter results stickyDenied hasEntries isOpened moveOf renameRows planned freeSlot order renamed planAfter renameFits entryStands intoGood moveDraft renameDraft draft pendingRows recovered finished
 taken-back = refl
 
 -- once the new entry is applied, recovery has six rows, also the second time; they leave the finished image
@@ -118,5 +118,5 @@ pub carried-through : passed through
           ∷ [],
       finishedImage bench dirty owner /a/f /b/g,
     )
-unfolding bench any all first count part put store zeros noZero sameBytes numberAt bytesOf nameIs shapeOf layoutGood recordAt viewOf plainName isDots nameGood clash entriesOf childDirectories reaches textShared textLinked journalClear bodiesGood consistent recordsNumber checkNumber allows path.slashes path.untilSlash isNamed lookup requestGood step walkFrom walk walksOf entryBytes journalOf journalFormed journalHead journalBytes rowAt headerOf rowPut rowsPut cleared noRow rowCount coversSection covers rowFits applicable applyNumber appliedImage movedBytes holderBytes replacedBytes entriesAfter childrenAfter linksAfter results stickyDenied hasEntries isOpened moveOf renameRows planned freeSlot order renamed planAfter renameFits entryStands intoGood moveDraft renameDraft draft pendingRows recovered finished
+unfolding bench any all first count part put store zeros noZero sameBytes numberAt bytesOf nameIs shapeOf layoutGood recordAt viewOf plainName isDots nameGood clash entriesOf childDirectories reaches textShared textLinked journalClear bodiesGood consistent recordsNumber checkNumber allows path.slashes path.untilSlash isNamed lookup requestGood walkStep walkFrom walk walksOf entryBytes journalOf journalFormed journalHead journalBytes rowAt headerOf rowPut rowsPut cleared noRow rowCount coversSection covers rowFits applicable applyNumber appliedImage movedBytes holderBytes replacedBytes entriesAfter childrenAfter linksAfter results stickyDenied hasEntries isOpened moveOf renameRows planned freeSlot order renamed planAfter renameFits entryStands intoGood moveDraft renameDraft draft pendingRows recovered finished
 carried-through = refl

@@ -7,7 +7,8 @@ use lib.ListN.{length}
 use Rattle.seq.specs.Truth.{fails, holds}
 use Rattle.plan.specs.Form.{bodyBytes, rowLength, rowOffset}
 use Rattle.plan.specs.Fit.{applicable}
-use Rattle.plan.specs.FitLaws.{Applicable, applicable-is, applicable-fits}
+use Rattle.plan.specs.FitLaws.{applicable-is, applicable-fits}
+use Rattle.plan.specs.FitFacts.{Applicable}
 use Rattle.apply.specs.FindLaws.{laid-bounded}
 use Rattle.apply.specs.ApplyLaws.{row-copied}
 use borrow.Author.Needs.{needs}

@@ -2,7 +2,7 @@
 use mathlib.Core.Path.{refl, sym}
 use lib.Seq.{length-take-le}
 use Rattle.seq.specs.Truth.{fails, holds}
-use Rattle.recover.specs.Outs.{answers-as, answers-pending, answers-unsound, answers-nothing}
+use Rattle.recover.specs.Outs.{recovered-as, answers-pending, answers-unsound, answers-nothing}
 use borrow.Author.Needs.{needs}
 use Rattle.recover.proofs.by_journal.Statement.{statement}
 use Rattle.recover.proofs.by_journal.Tie as tie
@@ -42,7 +42,7 @@ returns-2 c =
     let args = c .before .before .before .before .before .before .before .before .args in
     let clear = holds (c .before .before .before .before .journal-clear .ensures) (c .before .before .before .if1 .left) in
     let bad = fails (c .before .before .bodies-good .ensures) (c .before .if2 .taken) in
-    answers-as (answers-unsound (args .plan .now) (args .scratch .now) (args .image .now) (args .h) (c .before .before .before .before .before .before .before .before .pre .0) clear bad) (c .refused .ensures) refl
+    recovered-as (answers-unsound (args .plan .now) (args .scratch .now) (args .image .now) (args .h) (c .before .before .before .before .before .before .before .before .pre .0) clear bad) (c .refused .ensures) refl
 
 clear-requires : tie.Need-clear-requires
 clear-requires c κs = search needs

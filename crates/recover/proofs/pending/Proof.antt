@@ -5,7 +5,7 @@ use Rattle.plan.specs.Form.{planBytes}
 use Rattle.drafts.specs.declared.draft.Draft.{Draft}
 use Rattle.drafts.specs.Draft.{draft}
 use Rattle.drafts.specs.Drafted.{Drafted}
-use Rattle.recover.specs.Outs.{answers-as, answers-none, unfit-none}
+use Rattle.recover.specs.Outs.{recovered-as, answers-none, unfit-none}
 use borrow.Author.Needs.{needs}
 use Rattle.recover.proofs.pending.Statement.{statement}
 use Rattle.recover.proofs.pending.Tie as tie
@@ -49,7 +49,7 @@ returns c =
     let make = c .before .before .before .before .before .before .before .before .make in
     let drafted = subst (λ (f : Draft). Drafted (args .h) (replicate planBytes 0) (draft (args .h) (args .image .now)) f (make .last .0)) (c .before .before .before .before .before .enum-told .given .1) (make .ensures) in
     let none = unfit-none (args .h) (args .image .now) (replicate planBytes 0) (make .last .0) drafted in
-    answers-as (answers-none (args .plan .now) (args .scratch .now) (args .image .now) (args .h) (pre .2) none _ (c .before .before .before .clear .ensures)) (c .refused .ensures) refl
+    recovered-as (answers-none (args .plan .now) (args .scratch .now) (args .image .now) (args .h) (pre .2) none _ (c .before .before .before .clear .ensures)) (c .refused .ensures) refl
 
 same-length-2 : tie.Need-same-length-2
 same-length-2 c = search needs

@@ -4,7 +4,7 @@ use mathlib.Core.List.{List}
 use Prim.Native.Nat.{ℕ}
 use native.Mathlib.Omega.{arith}
 use Rattle.recover.specs.Outcome.{appliedFrom}
-use Rattle.recover.specs.Outs.{answers-as, ready-exact, settle-refused, settle-done}
+use Rattle.recover.specs.Outs.{recovered-as, ready-exact, settle-refused, settle-done}
 use borrow.Author.Needs.{needs}
 use Rattle.recover.proofs.settle.Statement.{statement}
 use Rattle.recover.proofs.settle.Tie as tie
@@ -33,7 +33,7 @@ returns c =
     let pre = c .before .before .before .before .before .before .before .before .before .before .before .before .before .before .before .before .before .before .before .before .pre in
     let copied = c .before .before .before .before .before .before .before .before .before .before .before .before .before .before .copy .ensures in
     let outcome = c .before .before .before .before .before .before .before .before .before .before .apply .ensures ∙ ap (λ (xs : List ℕ). appliedFrom xs (args .draft .now) 0 (args .rows)) copied in
-    answers-as (settle-refused (args .plan .now) (args .scratch .now) (args .image .now) (args .h) (pre .2) (pre .1) (pre .0 .read) (args .rows) (args .draft .now) (pre .0) _
+    recovered-as (settle-refused (args .plan .now) (args .scratch .now) (args .image .now) (args .h) (pre .2) (pre .1) (pre .0 .read) (args .rows) (args .draft .now) (pre .0) _
     outcome (λ z. c .before .before .before .before .before .if1 .taken (c .before .before .before .before .before .before .check .ensures ∙ z)) _ (c .before .before .before .clear .ensures)) (c .refused .ensures) refl
 
 copy-requires-2 : tie.Need-copy-requires-2

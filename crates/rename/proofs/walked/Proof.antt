@@ -1,6 +1,6 @@
 -- `rename::walked` meets its contract: a walk refuses, or the steps answer. Assumes nothing.
-use Rattle.rename.specs.Walked.{image-readable, refused-walk, walked-case, steps-refuse, steps-same, planned-move, planned-name, steps-plan}
-use Rattle.rename.specs.Answers.{Given}
+use Rattle.rename.specs.Walked.{image-readable, refused-walk, walked-case, steps-refuse, case-same, walked-move, planned-name, steps-plan}
+use Rattle.rename.specs.Answers.{WalksBegin}
 use borrow.Author.Needs.{needs}
 use Rattle.rename.proofs.walked.Statement.{statement}
 use Rattle.rename.proofs.walked.Tie as tie
@@ -12,7 +12,7 @@ start c = c .before .before .before .before .before .before .before .before .bef
 abbrev walks : tie.After-judge → tie.After-both
 walks c = c .before .before .before .before .before .before
 
-given : (c : tie.Start) → Given (c .args .image .now) (c .args .plan .now) (c .args .q) (c .args .old .now) (c .args .new .now) (c .args .h)
+given : (c : tie.Start) → WalksBegin (c .args .image .now) (c .args .plan .now) (c .args .q) (c .args .old .now) (c .args .new .now) (c .args .h)
 given c = record { long = c .pre .0; read = c .pre .1; fine = c .pre .2; good = c .pre .3 }
 
 both-requires : tie.Need-both-requires
@@ -48,7 +48,7 @@ write-requires c κs =
     let is = at .before .case-of .ensures in
     let judged = at .judge .ensures in
     let planned = c .before .enum-told2 .given .1 in
-    (start at .pre .0, start at .pre .1 .laid, both .new .range, planned-move (given (start at)) both none is judged planned, planned-name (given (start at)) both none is judged planned)
+    (start at .pre .0, start at .pre .1 .laid, both .new .range, walked-move (given (start at)) both none is judged planned, planned-name (given (start at)) both none is judged planned)
 
 returns-2 : tie.Need-returns-2
 returns-2 c =
@@ -69,7 +69,7 @@ returns-3 c =
     let none = at .before .before .if1 .left in
     let is = at .before .case-of .ensures in
     let judged = at .judge .ensures in
-    steps-same (given (start at)) both none is judged (c .before .before .before .before .enum-told .given .1) _ (c .before .before .clear .ensures)
+    case-same (given (start at)) both none is judged (c .before .before .before .before .enum-told .given .1) _ (c .before .before .clear .ensures)
 
 same-length-2 : tie.Need-same-length-2
 same-length-2 c = search needs

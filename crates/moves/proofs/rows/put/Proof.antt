@@ -1,6 +1,6 @@
 -- `moves::rows::put` meets its contract. Assumes nothing.
 use native.Mathlib.Omega.{arith}
-use Rattle.moves.specs.Filled.{results-below, rename-filled, planned-filled}
+use Rattle.moves.specs.Filled.{rename-results-below, rename-filled, planned-filled}
 use borrow.Author.Needs.{needs}
 use Rattle.moves.proofs.rows.put.Statement.{statement}
 use Rattle.moves.proofs.rows.put.Tie as tie
@@ -20,12 +20,12 @@ put-requires c κs = search needs
 put-clear-requires : tie.Need-put-clear-requires
 put-clear-requires c κs =
     let args = c .before .before .before .before .before .before .before .before .before .before .before .before .before .before .before .before .before .before .before .before .args in
-    (search needs, results-below (args .h) (args .image .now) (args .m) (args .called .now) (c .before .before .before .put .ensures), search needs)
+    (search needs, rename-results-below (args .h) (args .image .now) (args .m) (args .called .now) (c .before .before .before .put .ensures), search needs)
 
 add-result : tie.Need-add-result
 add-result c =
     let args = c .before .before .before .before .before .before .before .before .before .before .before .before .before .before .before .before .before .before .before .before .before .before .before .args in
-    let l = results-below (args .h) (args .image .now) (args .m) (args .called .now) (c .before .before .before .before .before .before .put .ensures) in
+    let l = rename-results-below (args .h) (args .image .now) (args .m) (args .called .now) (c .before .before .before .before .before .before .put .ensures) in
     omega arith
 
 same-length : tie.Need-same-length

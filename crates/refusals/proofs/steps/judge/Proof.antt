@@ -3,7 +3,7 @@ use mathlib.Core.Path.{sym, ap, _∙_}
 use borrow.Author.Needs.{needs}
 use Rattle.layout.specs.View.{View, viewOf}
 use Rattle.refusals.specs.declared.case.Answer.the-variants.{Refused}
-use Rattle.refusals.specs.Within.{case-within}
+use Rattle.refusals.specs.WithinLaws.{case-within}
 use Rattle.refusals.specs.DecideLaws.{steps-same, steps-parents, steps-kinds, steps-target, steps-planned}
 use Rattle.refusals.proofs.steps.judge.Statement.{statement}
 use Rattle.refusals.proofs.steps.judge.Tie as tie
