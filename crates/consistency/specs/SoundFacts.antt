@@ -16,7 +16,7 @@ use Rattle.seq.specs.Truth.{refuted, implies-at, implies-of, and-left, and-righ
 use Rattle.seq.specs.AllPass.{no-more, _&_, is-every, every-at}
 use Rattle.seq.specs.SearchLaws.{any-not, any-false, all-none, all-at, all-of}
 use Rattle.layout.specs.declared.Shape.{Shape}
-use Rattle.layout.specs.Limits.{textRoom}
+use Rattle.layout.specs.Limits.{textRoom, textSize}
 use Rattle.layout.specs.View.{View, viewOf, entryAt, textAt, handleAt, nameRoom, isKind, isDirectory, isUsed, entryUsed, textUsed}
 use Rattle.layout.specs.ViewLaws.{isKind-below}
 use Rattle.names.specs.Name.{plainName, clash}
@@ -161,7 +161,7 @@ module _ (h : Shape) (s : List ℕ) where
         go true u = implies-at (textUsed v t) _ padded u
         go false u =
             let z : v .textLength t ≡ 0 = eqb-true _ _ (not-false _ u) in
-            rw z (zeros-rest (textAt h s t) 63 (implies-at (not (textUsed v t)) (zeros (textAt h s t) 0 64) freed (rw u)))
+            rw z (zeros-rest (textAt h s t) textRoom (implies-at (not (textUsed v t)) (zeros (textAt h s t) 0 textSize) freed (rw u)))
 
     bytes-of : noZero (v .text t) ≡ true
     unfolding viewOf noZero part
@@ -293,7 +293,7 @@ module _ (h : Shape) (s : List ℕ) where
     unfolding viewOf
     text-free t l = implies-of (not (textUsed v t)) _ (λ u.
         let z : v .textLength t ≡ 0 = eqb-true _ _ (not-false _ (not-true _ u)) in
-        zeros-whole (textAt h s t) 63 z (rw z at (f .text t l .filled)))
+        zeros-whole (textAt h s t) textRoom z (rw z at (f .text t l .filled)))
 
     open-has : (n : ℕ) → n < h .handles → opened v n ≡ true → Open h s n
     open-has n l o = f .handle n l .opened (λ z. omega (arith, leb-true 1 (v .state n) (and-left (leb 1 (v .state n)) _ o)))

@@ -12,7 +12,7 @@ use Rattle.seq.specs.Truth.{not-both, refuted, and-left, and-right, and-both}
 use Rattle.seq.specs.SearchLaws.{any-not, any-false, any-hit, any-at}
 use Rattle.seq.specs.Climb.{up}
 use Rattle.layout.specs.declared.Shape.{Shape}
-use Rattle.layout.specs.Limits.{linkLimit}
+use Rattle.layout.specs.Limits.{linkLimit, modeLimit}
 use Rattle.layout.specs.View.{View, viewOf, isSymlink}
 use Rattle.tree.specs.Tree.{hasText, textShared}
 use Rattle.tree.specs.TreeLaws.{reaches-goal}
@@ -74,7 +74,7 @@ module _ {h : Shape} {s : List ℕ} (f : Bodies h s) where
   unfolding viewOf
   symlink i (l, e) = f .inode i l .symlink e
 
-  mode : (i : ℕ) → IsUsed v i → v .mode i < 4096
+  mode : (i : ℕ) → IsUsed v i → v .mode i < modeLimit
   unfolding viewOf
   mode i (l, n) =
       let o = f .inode i l in

@@ -3,7 +3,7 @@ use mathlib.Core.Path.{_≡_}
 use mathlib.Core.Logic.{_≢_}
 use Prim.Native.Nat.{ℕ, _+_, _≤_, _<_}
 use Rattle.seq.specs.Climb.{up}
-use Rattle.layout.specs.Limits.{linkLimit}
+use Rattle.layout.specs.Limits.{linkLimit, modeLimit}
 use Rattle.layout.specs.View.{View}
 use Rattle.tree.specs.Tree.{entriesOf, childDirectories}
 use Rattle.edits.specs.Kinds.{IsKind, IsDirectory, IsSymlink, IsUsed, IsLeaf, EntryUsed, TextUsed, HandleOpen}
@@ -39,7 +39,7 @@ pub record Counted (v : View) : Type 0 where
   -- rule 8
   pub plain : (i : ℕ) → IsKind v i 1 → v .field i ≡ 0
   -- rule 19
-  pub mode : (i : ℕ) → IsUsed v i → v .mode i < 4096
+  pub mode : (i : ℕ) → IsUsed v i → v .mode i < modeLimit
   -- rule 31
   pub children : (i : ℕ) → IsDirectory v i → v .links i ≡ 2 + childDirectories v i
   -- rule 32

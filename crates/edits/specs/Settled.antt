@@ -5,7 +5,7 @@ use mathlib.Core.List.{List}
 use Prim.Native.Nat.{ℕ, _+_, _≤_, _<_}
 use Rattle.seq.specs.Count.{On, bits}
 use Rattle.seq.specs.Climb.{up}
-use Rattle.layout.specs.Limits.{linkLimit}
+use Rattle.layout.specs.Limits.{linkLimit, modeLimit}
 use Rattle.layout.specs.View.{View}
 use Rattle.tree.specs.Tree.{targets, entriesOf, holdsDirectory, childDirectories}
 use Rattle.edits.specs.Kinds.{IsDirectory, IsLeaf, EntryUsed, HandleOpen}
@@ -47,7 +47,7 @@ pub record Settled (v w : View) (slots : List ℕ) (Gone Made Reparented : ℕ �
   -- rules 6, 8 and 19: the inodes made
   pub made-kind : (i : ℕ) → Made i → w .kind i ≤ 3
   pub made-plain : (i : ℕ) → Made i → w .kind i ≡ 1 → w .field i ≡ 0
-  pub made-mode : (i : ℕ) → Made i → w .mode i < 4096
+  pub made-mode : (i : ℕ) → Made i → w .mode i < modeLimit
   -- rules 36, 37 and 39
   pub texts : TextChange v w Gone Made
   -- rule 40

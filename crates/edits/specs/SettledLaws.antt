@@ -4,7 +4,7 @@ use mathlib.Core.Logic.{⊎-elim}
 use mathlib.Core.List.{List}
 use Prim.Native.Nat.{ℕ, _≤_, _<_}
 use native.Mathlib.Omega.{arith}
-use Rattle.layout.specs.Limits.{linkLimit}
+use Rattle.layout.specs.Limits.{linkLimit, modeLimit}
 use Rattle.layout.specs.View.{View}
 use Rattle.tree.specs.Tree.{entriesOf, childDirectories}
 use Rattle.edits.specs.Kinds.{IsKind, IsDirectory, IsUsed}
@@ -58,10 +58,10 @@ module _ {v w : View} {slots : List ℕ} {Gone Made Reparented : ℕ → Type 0}
           let b = was (c .edit) i 1 (same-was c i used m .kind) f in
           c .field i (b .0) (not-gone c i used) m (λ r. omega (arith, b .1, c .directory i r .1)) ∙ good .counted .plain i b
 
-  mode : (i : ℕ) → IsUsed w i → w .mode i < 4096
+  mode : (i : ℕ) → IsUsed w i → w .mode i < modeLimit
   mode i u = go (c .made? i)
     where
-      go : Dec (Made i) → w .mode i < 4096
+      go : Dec (Made i) → w .mode i < modeLimit
       go (yes m) = o .made-mode i m
       go (no m) =
           let s = same-was c i u m in

@@ -7,6 +7,7 @@ use Prim.Native.Nat.{ℕ, _+_, _<_}
 use lib.ListN.{replicate}
 use Rattle.seq.specs.Bytes.{part}
 use Rattle.layout.specs.declared.Shape.{Shape}
+use Rattle.layout.specs.Limits.{textSize}
 use Rattle.layout.specs.View.{View, viewOf, inodeAt, entryAt, textAt, handleAt, entryUsed}
 use Rattle.encode.specs.Entry.{entryBytes, retargeted}
 use Rattle.tree.specs.Tree.{entriesOf, childDirectories}
@@ -36,5 +37,5 @@ pub record Written (h : Shape) (s t : List ℕ) (old new moved from into : ℕ) 
   -- the text of a freed symlink is zero, all others are as before; handles too
   pub text : (x : ℕ) → x < h .texts → ((i : ℕ) → Gone (viewOf h s) (viewOf h t) new i → IsSymlink (viewOf h s) i → viewOf h s .field i ≢ x)
       → textAt h t x ≡ textAt h s x
-  pub text-freed : (i : ℕ) → Gone (viewOf h s) (viewOf h t) new i → IsSymlink (viewOf h s) i → textAt h t (viewOf h s .field i) ≡ replicate 64 0
+  pub text-freed : (i : ℕ) → Gone (viewOf h s) (viewOf h t) new i → IsSymlink (viewOf h s) i → textAt h t (viewOf h s .field i) ≡ replicate textSize 0
   pub handle : (n : ℕ) → n < h .handles → handleAt h t n ≡ handleAt h s n

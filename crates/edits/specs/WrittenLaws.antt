@@ -14,6 +14,7 @@ use Rattle.seq.specs.Bytes.{part, zeros, noZero}
 use Rattle.seq.specs.BytesLaws.{part-byte, zeros-replicate}
 use Rattle.seq.specs.NumberLaws.{number-same}
 use Rattle.layout.specs.declared.Shape.{Shape}
+use Rattle.layout.specs.Limits.{textSize, textRoom}
 use Rattle.layout.specs.Facts.{Laid}
 use Rattle.layout.specs.RecordLaws.{record-length}
 use Rattle.layout.specs.Fields.{inodeKind, inodeLinks, entryParent, entryTarget, entryNameLength, entryName, textLength, handleState, handleInode}
@@ -48,9 +49,9 @@ unfolding viewOf
 same-entry h s t j e = record { parent = ap entryParent e; target = ap entryTarget e; nameLength = ap entryNameLength e; name = ap entryName e }
 
 -- a text of zeros is free
-blank-text : (h : Shape) (t : List ℕ) (x : ℕ) → textAt h t x ≡ replicate 64 0 → TextForm h t x
+blank-text : (h : Shape) (t : List ℕ) (x : ℕ) → textAt h t x ≡ replicate textSize 0 → TextForm h t x
 unfolding viewOf noZero part all
-blank-text h t x e = record { short = rw e (omega arith); filled = rw e (zeros-replicate 64 1 63 (omega arith)); bytes = rw e }
+blank-text h t x e = record { short = rw e (omega arith); filled = rw e (zeros-replicate textSize 1 textRoom (omega arith)); bytes = rw e }
 
 -- the new entry: where the slot was in use it is taken over, with parent and name as they are, and else it is made
 module _ {h : Shape} {s : List ℕ} {old new moved from into : ℕ} {called : List ℕ} (laid : Laid h s) (f : Bodies h s)

@@ -2,6 +2,7 @@
 ghost use mathlib.Core.Path.{_≡_};
 ghost use Prim.Native.Nat.{_≤_};
 ghost use lib.ListN.{length};
+ghost use Rattle.layout.specs.Limits.{journalSize};
 ghost use Rattle.encode.specs.Journal.{journalOf, journalFormed, journalHead, journalBytes};
 ghost use Rattle.encode.specs.Facts.{InRange};
 
@@ -21,7 +22,7 @@ pub struct Journal {
 }
 
 pub fn read(r: &[u8]) -> Journal
-    requires { ⌜ 32 ≤ length (now r) ⌝ }
+    requires { ⌜ journalSize ≤ length (now r) ⌝ }
     ensures { λ j. ⌜ (j ≡ journalOf (now (r .entry))) × InRange j ⌝ }
 {
     Journal {
@@ -38,7 +39,7 @@ pub fn read(r: &[u8]) -> Journal
 
 // Whether the record is marked as pending and the zeros that it has to have are there.
 pub fn formed(r: &[u8]) -> bool
-    requires { ⌜ 32 ≤ length (now r) ⌝ }
+    requires { ⌜ journalSize ≤ length (now r) ⌝ }
     ensures { λ x. ⌜ x ≡ journalFormed (now (r .entry)) ⌝ }
 {
     if r[0] != 1 {
@@ -76,7 +77,7 @@ fn head(j: Journal) -> [u8; 16]
 
 // Makes the whole record that of a pending operation.
 pub fn write(r: &mut [u8], j: Journal)
-    requires { ⌜ length (now r) ≡ 32 ⌝ }
+    requires { ⌜ length (now r) ≡ journalSize ⌝ }
     ensures { λ _. ⌜ now (r .exit) ≡ journalBytes j ⌝ }
 {
     let front = head(j);

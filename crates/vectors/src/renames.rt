@@ -12,8 +12,8 @@ fn print(number: usize) {
 }
 
 // Prints the line of a case: all that the library answers, and the checksum of the plan buffer after it.
-pub fn answer(s: &[u8], q: Request, old: &[u8], new: &[u8], plan: &mut [u8]) -> bool {
-    let r = rename::rename(s, q, old, new, plan);
+pub fn answer(image: &[u8], q: Request, old: &[u8], new: &[u8], plan: &mut [u8]) -> bool {
+    let r = rename::rename(image, q, old, new, plan);
     print(r.number as usize);
     print(r.rows);
     print(r.old);

@@ -23,10 +23,10 @@ fn buffer() -> [u8; 600]
 }
 
 // Answers a request whose paths are read.
-fn answer(job: Job, s: &[u8], q: Request, old: &[u8], new: &[u8], plan: &mut [u8]) -> bool {
+fn answer(job: Job, image: &[u8], q: Request, old: &[u8], new: &[u8], plan: &mut [u8]) -> bool {
     match job {
-        Job::Walk => walks::answer(s, q, old, new),
-        Job::Rename => renames::answer(s, q, old, new, plan),
+        Job::Walk => walks::answer(image, q, old, new),
+        Job::Rename => renames::answer(image, q, old, new, plan),
     }
 }
 
@@ -34,7 +34,7 @@ fn answer(job: Job, s: &[u8], q: Request, old: &[u8], new: &[u8], plan: &mut [u8
 fn filled(
     fd: i32,
     job: Job,
-    s: &[u8],
+    image: &[u8],
     q: Request,
     old: &mut [u8],
     new: &mut [u8],
@@ -46,7 +46,7 @@ fn filled(
     if !reader::fill(fd, new) {
         return false;
     }
-    answer(job, s, q, old, new, plan)
+    answer(job, image, q, old, new, plan)
 }
 
 // The lengths of the two paths.
@@ -59,7 +59,7 @@ struct Lengths {
 fn lent(
     fd: i32,
     job: Job,
-    s: &[u8],
+    image: &[u8],
     q: Request,
     l: Lengths,
     old: &mut [u8],
@@ -74,11 +74,19 @@ fn lent(
         reader::complain(b"a path is too long");
         return false;
     }
-    filled(fd, job, s, q, &mut old[..l.old], &mut new[..l.new], plan)
+    filled(
+        fd,
+        job,
+        image,
+        q,
+        &mut old[..l.old],
+        &mut new[..l.new],
+        plan,
+    )
 }
 
 // Reads the lengths of the two paths, then the paths, and answers.
-fn both(fd: i32, job: Job, s: &[u8], q: Request, plan: &mut [u8]) -> bool {
+fn both(fd: i32, job: Job, image: &[u8], q: Request, plan: &mut [u8]) -> bool {
     let mut b = [0u8; 4];
     if !reader::fill(fd, &mut b) {
         return false;
@@ -89,7 +97,7 @@ fn both(fd: i32, job: Job, s: &[u8], q: Request, plan: &mut [u8]) -> bool {
     };
     let mut old = buffer();
     let mut new = buffer();
-    lent(fd, job, s, q, l, &mut old, &mut new, plan)
+    lent(fd, job, image, q, l, &mut old, &mut new, plan)
 }
 
 // Reads the time of a request.
@@ -101,7 +109,7 @@ fn time(fd: i32, job: Job) -> Number {
 }
 
 // Reads a request and answers it.
-pub fn read(fd: i32, job: Job, s: &[u8], plan: &mut [u8]) -> bool {
+pub fn read(fd: i32, job: Job, image: &[u8], plan: &mut [u8]) -> bool {
     let mut b = [0u8; 12];
     if !reader::fill(fd, &mut b) {
         return false;
@@ -124,5 +132,5 @@ pub fn read(fd: i32, job: Job, s: &[u8], plan: &mut [u8]) -> bool {
         starts,
         now: now as u64,
     };
-    both(fd, job, s, q, plan)
+    both(fd, job, image, q, plan)
 }

@@ -82,10 +82,10 @@ fn print_found(r: Walked)
 }
 
 // Both walks of a request that is good.
-fn resolve(s: &[u8], h: Shape, q: Request, old: &[u8], new: &[u8])
-    requires { ⌜ Readable h (now s) × (requestGood (viewOf h (now s)) q (now old) (now new) ≡ true) ⌝ }
+fn resolve(image: &[u8], h: Shape, q: Request, old: &[u8], new: &[u8])
+    requires { ⌜ Readable h (now image) × (requestGood (viewOf h (now image)) q (now old) (now new) ≡ true) ⌝ }
 {
-    let r = walk::both::both(s, h, q, old, new);
+    let r = walk::both::both(image, h, q, old, new);
     let first = r.old;
     let second = r.new;
     print_counts(second.number as u64, first.steps, second.steps);
@@ -96,11 +96,11 @@ fn resolve(s: &[u8], h: Shape, q: Request, old: &[u8], new: &[u8])
 }
 
 // The line of a case on an image that can be read.
-fn line(s: &[u8], h: Shape, q: Request, old: &[u8], new: &[u8])
-    requires { ⌜ Readable h (now s) ⌝ }
+fn line(image: &[u8], h: Shape, q: Request, old: &[u8], new: &[u8])
+    requires { ⌜ Readable h (now image) ⌝ }
 {
-    if paths::request::good(s, h, q, old, new) {
-        resolve(s, h, q, old, new);
+    if paths::request::good(image, h, q, old, new) {
+        resolve(image, h, q, old, new);
     } else {
         print_counts(202, 0, 0);
     }
@@ -108,15 +108,15 @@ fn line(s: &[u8], h: Shape, q: Request, old: &[u8], new: &[u8])
 }
 
 // Prints the line of a case; false where its image is not consistent.
-pub fn answer(s: &[u8], q: Request, old: &[u8], new: &[u8]) -> bool {
-    if consistency::check(s) != 0 {
+pub fn answer(image: &[u8], q: Request, old: &[u8], new: &[u8]) -> bool {
+    if consistency::check(image) != 0 {
         reader::complain(b"the image of a walk is not consistent");
         return false;
     }
-    let found = layout::contents::read(s);
+    let found = layout::contents::read(image);
     match found {
         Contents::Bad => return false,
-        Contents::Good(h) => line(s, h, q, old, new),
+        Contents::Good(h) => line(image, h, q, old, new),
     }
     true
 }
