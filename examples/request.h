@@ -29,7 +29,7 @@ static uint64_t plan_rename(struct contents image, char **argv, uint8_t *plan)
     uint32_t group = (uint32_t)number_of("GROUP", argv[3], UINT32_MAX);
     uint16_t cwd = (uint16_t)number_of("CWD", argv[4], UINT16_MAX);
     uint64_t now = number_of("NOW", argv[5], UINT64_MAX);
-    return mp_rename(image.bytes, image.len, user, group, cwd, MP_CURRENT_DIRECTORY, MP_CURRENT_DIRECTORY, now,
+    return mp_rename(image.bytes, image.len, user, group, NULL, 0, cwd, MP_CURRENT_DIRECTORY, MP_CURRENT_DIRECTORY, now,
                      (const uint8_t *)argv[6], strlen(argv[6]), (const uint8_t *)argv[7], strlen(argv[7]), plan,
                      PLAN_BYTES);
 }

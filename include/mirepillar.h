@@ -1,8 +1,8 @@
 /*
  * Mirepillar's C interface: link with libmirepillar.a, which `rt staticlib mirepillar` makes.
  *
- * A buffer is a pointer and its length in bytes. Where the length is 0 the pointer is not used and
- * may be NULL. Any bytes may be given: no function asks for more than buffers that do not overlap.
+ * A buffer is a pointer and its length in bytes, a list of groups a pointer and their number. Where
+ * the length is 0 the pointer is not used and may be NULL. Any bytes may be given: no function asks for more than buffers that do not overlap.
  *
  * Every function gives one 64-bit result; an accessor below takes out each part of it.
  *
@@ -45,7 +45,7 @@ enum {
     MP_ENOTEMPTY = 39,
     MP_ELOOP = 40,
     MP_UNSOUND = 201,        /* the image is not consistent */
-    MP_WRONG_REQUEST = 202,  /* the current directory is none, or a path has a byte 0 */
+    MP_WRONG_REQUEST = 202,  /* the current directory is none, a path has a byte 0, or too many groups */
     MP_PENDING = 203,        /* the journal record is not zero: repair first */
     MP_NOT_REPAIRABLE = 204, /* the journal record does not fit, or its outcome is not consistent */
     MP_SHORT_BUFFER = 205,   /* a plan buffer under 648 bytes, or a scratch shorter than the image */
@@ -88,19 +88,25 @@ uint64_t mp_check(const uint8_t *image, size_t image_len);
 /* What a start is where a relative path begins in the current directory and at no handle. */
 enum { MP_CURRENT_DIRECTORY = 255 };
 
+/* The most groups of a caller beside the effective one. */
+enum { MP_MOST_GROUPS = 16 };
+
 /*
  * Plans a rename. The image is only read: landing the plan's rows is what renames.
  *
- * The request is the caller's user and group, the current directory (an inode), where each path
- * begins if it is relative (a handle, or MP_CURRENT_DIRECTORY), the time to be set, and two paths,
- * which need no byte 0 behind them. The result has a number, the rows, and both counts of steps:
+ * The request is the caller's effective user and group, the groups that the caller is in beside
+ * these (at most MP_MOST_GROUPS; of more none is read), the current directory (an inode), where each
+ * path begins if it is relative (a handle, or MP_CURRENT_DIRECTORY), the time to be set, and two
+ * paths, which need no byte 0 behind them. The result has a number, the rows, and both counts of
+ * steps:
  *
  *     0  the first 648 bytes of the plan's buffer are the plan, and what is behind them is as it
  *        was; two names of one file give a plan of no rows, since there is nothing to do;
  *   205  the buffer has fewer than 648 bytes;
  *   201  the layout of the image is bad, or its journal record is clear and another record is at fault;
  *   203  its layout is right and its journal record is not all zero: recovery has to come first;
- *   202  the current directory is none, or a path has a byte 0 in it;
+ *   202  the current directory is none, a path has a byte 0 in it, or there are more than 16 groups
+ *        beside the effective one;
  *  else  an errno of Linux, by which a walk or the rename itself is refused, such as 2 (ENOENT).
  *
  * The first of these that applies is given, the walk of the old path coming before that of the new
@@ -108,7 +114,8 @@ enum { MP_CURRENT_DIRECTORY = 255 };
  * rows. The counts are 0 where no walk has begun.
  */
 uint64_t mp_rename(const uint8_t *image, size_t image_len,
-                   uint32_t user, uint32_t group, uint16_t cwd, uint8_t old_start, uint8_t new_start, uint64_t now,
+                   uint32_t user, uint32_t group, const uint32_t *groups, size_t groups_len,
+                   uint16_t cwd, uint8_t old_start, uint8_t new_start, uint64_t now,
                    const uint8_t *old_path, size_t old_len, const uint8_t *new_path, size_t new_len,
                    uint8_t *plan, size_t plan_len);
 

@@ -2,6 +2,7 @@
 
 pub mod check;
 pub mod damage;
+pub mod groups;
 pub mod land;
 pub mod random;
 pub mod rename;
@@ -31,6 +32,8 @@ pub const PARTS: &[Part] = &[
     Part { name: "rename", make: rename::part::all },
     // an image, a plan buffer, a scratch buffer: number, rows and both buffers after
     Part { name: "repair", make: repair::part::all },
+    // what a rename has, with further groups: what a rename answers
+    Part { name: "groups", make: groups::part::all },
 ];
 
 /// The cases of one class, by the numbers that answer them.

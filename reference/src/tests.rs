@@ -1,6 +1,7 @@
 //! Tests that need both the model, which knows of no case, and the cases.
 
 mod effects;
+mod groups;
 mod made;
 mod model;
 mod rules;

@@ -13,6 +13,7 @@ pub const MOST_EDITS: usize = 12;
 pub const LONGEST_PLAN: usize = 1024;
 pub const LONGEST_PATH: usize = 600;
 pub const LONGEST_SCRATCH: usize = 131_072;
+pub const MOST_GROUPS: usize = 24;
 
 const BASE: u8 = 1;
 const CHECK: u8 = 2;
@@ -20,6 +21,7 @@ const WALK: u8 = 3;
 const LAND: u8 = 4;
 const RENAME: u8 = 5;
 const REPAIR: u8 = 6;
+const RENAME_WITH_GROUPS: u8 = 7;
 
 type Edit = (u32, u8);
 
@@ -31,6 +33,7 @@ pub enum Case {
     Land(Landing),
     Rename(Renaming),
     Repair(Repairing),
+    RenameWithGroups(Renaming),
 }
 
 #[derive(Clone, Debug, PartialEq, Eq)]
@@ -134,14 +137,29 @@ impl Writer {
     }
 
     pub fn rename(&mut self, home: &[u8], renaming: &Renaming) {
+        self.renaming(RENAME, home, renaming);
+        self.paths(&renaming.request);
+    }
+
+    pub fn rename_with_groups(&mut self, home: &[u8], renaming: &Renaming) {
+        let groups = &renaming.request.who.further;
+        assert!(groups.len() <= MOST_GROUPS, "a list of {} groups", groups.len());
+        self.renaming(RENAME_WITH_GROUPS, home, renaming);
+        self.data.extend((groups.len() as u16).to_le_bytes());
+        self.data.extend(groups.iter().flat_map(|group| group.to_le_bytes()));
+        self.paths(&renaming.request);
+    }
+
+    /// All of a rename but its groups and its paths.
+    fn renaming(&mut self, tag: u8, home: &[u8], renaming: &Renaming) {
         let Renaming { image, buffer, request, now } = renaming;
         assert!(usize::from(buffer.len) <= LONGEST_PLAN, "a plan of {} bytes", buffer.len);
-        self.image(RENAME, home, image);
+        assert!(tag == RENAME_WITH_GROUPS || request.who.further.is_empty(), "groups that are not stored");
+        self.image(tag, home, image);
         self.data.extend(buffer.len.to_le_bytes());
         self.data.push(buffer.fill);
         self.caller(request);
         self.data.extend(now.to_le_bytes());
-        self.paths(request);
     }
 
     pub fn repair(&mut self, home: &[u8], repairing: &Repairing) {
@@ -276,7 +294,7 @@ mod tests {
         let other = vec![7; 90];
         let mut edited = home.clone();
         edited[99] = 1;
-        let who = Credentials { user: u32::MAX, group: 5 };
+        let who = Credentials::new(u32::MAX, 5);
         let (old, new) = (Operand::new(3, b"a/b"), Operand::new(255, &[0; LONGEST_PATH]));
         let request = Request { who, current: 258, old, new };
         let mut writer = Writer::default();
@@ -293,7 +311,7 @@ mod tests {
     #[test]
     fn renames_are_read_as_they_were_written() {
         let home: Vec<u8> = (0..100).collect();
-        let who = Credentials { user: 1, group: u32::MAX };
+        let who = Credentials::new(1, u32::MAX);
         let request = Request { who, current: 513, old: Operand::new(0, b""), new: Operand::new(255, b"/b\0") };
         let renaming = |image: &[u8], len: u16, fill: u8| {
             let image = image.to_vec();
@@ -305,6 +323,24 @@ mod tests {
             writer.rename(&home, renaming);
         }
         let cases: Vec<Case> = renamings.into_iter().map(Case::Rename).collect();
+        assert_eq!(read(&writer.data).expect("the format is kept"), cases);
+        assert_eq!(read(&writer.data[..writer.data.len() - 1]), None);
+    }
+
+    #[test]
+    fn renames_with_groups_are_read_as_they_were_written() {
+        let home: Vec<u8> = (0..100).collect();
+        let renaming = |further: Vec<u32>| {
+            let who = Credentials { further, ..Credentials::new(1, u32::MAX) };
+            let request = Request { who, current: 513, old: Operand::new(0, b"/a"), new: Operand::new(255, b"") };
+            Renaming { image: home.clone(), buffer: Buffer { len: 648, fill: 9 }, request, now: 1 << 63 }
+        };
+        let mut writer = Writer::default();
+        let renamings = [vec![], vec![u32::MAX], (0..MOST_GROUPS as u32).collect()].map(renaming);
+        for renaming in &renamings {
+            writer.rename_with_groups(&home, renaming);
+        }
+        let cases: Vec<Case> = renamings.into_iter().map(Case::RenameWithGroups).collect();
         assert_eq!(read(&writer.data).expect("the format is kept"), cases);
         assert_eq!(read(&writer.data[..writer.data.len() - 1]), None);
     }

@@ -10,9 +10,9 @@
 #include <stdlib.h>
 #include <string.h>
 
-enum { TAG_BASE = 1, TAG_CHECK = 2, TAG_WALK = 3, TAG_LAND = 4, TAG_RENAME = 5, TAG_REPAIR = 6 };
+enum { TAG_BASE = 1, TAG_CHECK = 2, TAG_WALK = 3, TAG_LAND = 4, TAG_RENAME = 5, TAG_REPAIR = 6, TAG_GROUPS = 7 };
 enum { LONGEST_BASE = 53448, LONGEST_CASE = 131072, MOST_EDITS = 12, LONGEST_PLAN = 1024, LONGEST_PATH = 600 };
-enum { LONGEST_SCRATCH = 131072 };
+enum { LONGEST_SCRATCH = 131072, MOST_GROUPS = 24 };
 enum { MOST_TOLD = 10 };
 
 /* A file's bytes, and the part of them that is not yet read. */
@@ -26,6 +26,12 @@ struct input {
 /* A heap block with as many bytes as a buffer has: none where it is empty. */
 struct buffer {
     uint8_t *bytes;
+    size_t len;
+};
+
+/* The caller's further groups. An empty list has one number behind its end, so that a tool sees a block for it. */
+struct groups {
+    uint32_t *numbers;
     size_t len;
 };
 
@@ -132,8 +138,19 @@ static struct buffer read_buffer(struct input *input, unsigned len_bytes, size_t
     return buffer;
 }
 
-/* Reads a request, and gives what mp_rename answers to it. */
-static uint64_t ask_rename(struct input *input, struct buffer image, struct buffer plan)
+/* So many further groups, in a heap block as any buffer is. */
+static struct groups read_groups(struct input *input, size_t len)
+{
+    struct groups groups = {calloc(len > 0 ? len : 1, sizeof(uint32_t)), len};
+    if (groups.numbers == NULL)
+        fail("calloc", "no memory for the groups");
+    for (size_t i = 0; i < len; i++)
+        groups.numbers[i] = (uint32_t)take_number(input, 4);
+    return groups;
+}
+
+/* Reads a request, with a list of groups or without, and gives what mp_rename answers to it. */
+static uint64_t ask_rename(struct input *input, int has_groups, struct buffer image, struct buffer plan)
 {
     uint32_t user = (uint32_t)take_number(input, 4);
     uint32_t group = (uint32_t)take_number(input, 4);
@@ -141,14 +158,17 @@ static uint64_t ask_rename(struct input *input, struct buffer image, struct buff
     uint8_t old_start = *take(input, 1);
     uint8_t new_start = *take(input, 1);
     uint64_t now = take_number(input, 8);
+    struct groups groups = read_groups(input, has_groups ? take_up_to(input, 2, MOST_GROUPS) : 0);
     size_t old_len = take_up_to(input, 2, LONGEST_PATH);
     size_t new_len = take_up_to(input, 2, LONGEST_PATH);
     struct buffer old_path = block(old_len, take(input, old_len), old_len);
     struct buffer new_path = block(new_len, take(input, new_len), new_len);
-    uint64_t result = mp_rename(image.bytes, image.len, user, group, cwd, old_start, new_start, now, old_path.bytes,
-                                old_path.len, new_path.bytes, new_path.len, plan.bytes, plan.len);
+    uint64_t result = mp_rename(image.bytes, image.len, user, group, groups.numbers, groups.len, cwd, old_start,
+                                new_start, now, old_path.bytes, old_path.len, new_path.bytes, new_path.len,
+                                plan.bytes, plan.len);
     free(new_path.bytes);
     free(old_path.bytes);
+    free(groups.numbers);
     return result;
 }
 
@@ -209,12 +229,12 @@ static int land_case(struct input *cases, struct input *answers, unsigned long c
     return same_result && same_image;
 }
 
-static int rename_case(struct input *cases, struct input *answers, unsigned long count)
+static int rename_case(struct input *cases, int has_groups, struct input *answers, unsigned long count)
 {
     struct buffer image = read_image(cases);
     struct buffer plan = read_buffer(cases, 2, LONGEST_PLAN);
     uint64_t before = checksum(image);
-    uint64_t result = ask_rename(cases, image, plan);
+    uint64_t result = ask_rename(cases, has_groups, image, plan);
     if (checksum(image) != before)
         fail("mp_rename", "an image was changed");
     int differences = !same("the number of mp_rename", count, mp_number(result), read_answer(answers, ' '));
@@ -282,7 +302,10 @@ static unsigned long run(const char *path, struct input *answers)
             differences += !land_case(&cases, answers, ++count);
             break;
         case TAG_RENAME:
-            differences += !rename_case(&cases, answers, ++count);
+            differences += !rename_case(&cases, 0, answers, ++count);
+            break;
+        case TAG_GROUPS:
+            differences += !rename_case(&cases, 1, answers, ++count);
             break;
         case TAG_REPAIR:
             differences += !repair_case(&cases, answers, ++count);

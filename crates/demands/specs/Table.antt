@@ -9,6 +9,7 @@ use Rattle.seq.specs.Number.{bytesOf}
 use Rattle.layout.specs.Limits.{noHandle}
 use Rattle.layout.specs.BenchTree.{bench}
 use Rattle.paths.specs.declared.request.Request.{Request}
+use Rattle.paths.specs.Groups.{credentialsOf}
 use Rattle.plan.specs.Form.{planBytes}
 use Rattle.rename.specs.declared.Renamed.{Renamed}
 use Rattle.demands.specs.Line.{EntrySeen, Outcome, bytes, planned, Line, past, dirty}
@@ -17,7 +18,7 @@ use Rattle.demands.specs.Line.{EntrySeen, Outcome, bytes, planned, Line,
 
 -- a user and group of one number, in the root at time 500; old has a start, new begins in the root
 abbrev pub caller : ℕ → ℕ → Request
-caller id start = record { who = record { user = id; group = id }; current = 0; starts = record { old = start; new = noHandle }; now = 500 }
+caller id start = record { who = credentialsOf id id []; current = 0; starts = record { old = start; new = noHandle }; now = 500 }
 
 -- the one whom all inodes belong to
 abbrev pub owner : Request

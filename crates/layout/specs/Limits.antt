@@ -70,6 +70,10 @@ linkLimit = 64
 abbrev pub noHandle : ℕ
 noHandle = 255
 
+-- rule 42: the most groups of a caller beside the effective one
+abbrev pub groupLimit : ℕ
+groupLimit = 16
+
 -- rules 47 and 57: how long a path may be, as supplied and with a symlink's text in it
 abbrev pub pathLimit : ℕ
 pathLimit = 255

@@ -45,6 +45,9 @@ pub const STICKY_BIT: usize = 512;
 // The start that stands for the current directory.
 pub const NO_HANDLE: usize = 255;
 
+// The most groups of a caller beside the effective one.
+pub const GROUP_LIMIT: usize = 16;
+
 // The longest path, as supplied and with a symlink's text in it, and the bytes of a working path.
 pub const PATH_LIMIT: usize = 255;
 

@@ -1,15 +1,17 @@
 -- What C hands over and gets back: the parts of a request, and the job's answer as one number, each part in bits of its own. A reader has to believe this
 -- file. Assumes nothing.
 use mathlib.Core.Path.{_≡_}
+use mathlib.Core.List.{List}
 use Prim.Native.Nat.{ℕ, _+_, _*_, _/_, _%_, _<_}
 use Rattle.paths.specs.declared.request.Request.{Request}
+use Rattle.paths.specs.Groups.{credentialsOf}
 use Rattle.rename.specs.declared.Renamed.{Renamed}
 use Rattle.recover.specs.Job.{Recovered}
 
 -- the parts in the order of the function's arguments
-abbrev pub requestOf : ℕ → ℕ → ℕ → ℕ → ℕ → ℕ → Request
-requestOf user group current old new time = record {
-  who = record { user = user; group = group };
+abbrev pub requestOf : ℕ → ℕ → List ℕ → ℕ → ℕ → ℕ → ℕ → Request
+requestOf user group groups current old new time = record {
+  who = credentialsOf user group groups;
   current = current;
   starts = record { old = old; new = new };
   now = time;

@@ -1,5 +1,4 @@
 // The C interface: include/mirepillar.h declares these functions.
-use paths::request::Credentials;
 use paths::request::Request;
 use paths::request::Starts;
 use rename::Renamed;
@@ -28,12 +27,13 @@ fn pack(r: Renamed) -> u64
     (r.number as u64) + 256 * (r.rows as u64) + 65536 * (r.old as u64) + 4294967296 * (r.new as u64)
 }
 
-// The job rename. The starts of old and new are from and into.
+// The job rename. Further groups beside the effective one are given as a list, of which none is read where it is too long. The starts of old and new are from and into.
 #[no_mangle]
 pub extern "C" fn mp_rename(
     image: &[u8],
     user: u32,
     group: u32,
+    groups: &[u32],
     current: u16,
     from: u8,
     into: u8,
@@ -42,9 +42,9 @@ pub extern "C" fn mp_rename(
     new: &[u8],
     plan: &mut [u8],
 ) -> u64
-    ensures { λ r. ⌜ (r ≡ packed (renamed (now (image .entry)) (now (plan .entry)) (requestOf user group current from into time) (now (old .entry)) (now (new .entry)))) × (now (plan .exit) ≡ planAfter (now (image .entry)) (now (plan .entry)) (requestOf user group current from into time) (now (old .entry)) (now (new .entry))) ⌝ }
+    ensures { λ r. ⌜ (r ≡ packed (renamed (now (image .entry)) (now (plan .entry)) (requestOf user group (now (groups .entry)) current from into time) (now (old .entry)) (now (new .entry)))) × (now (plan .exit) ≡ planAfter (now (image .entry)) (now (plan .entry)) (requestOf user group (now (groups .entry)) current from into time) (now (old .entry)) (now (new .entry))) ⌝ }
 {
-    let who = Credentials { user, group };
+    let who = paths::groups::credentials(user, group, groups);
     let starts = Starts {
         old: from,
         new: into,

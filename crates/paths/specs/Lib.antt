@@ -1,6 +1,8 @@
 pub mod Request
 pub mod RequestLaws
 pub mod Path
+pub mod Groups
+pub mod GroupLaws
 pub mod Permission
 pub mod PermissionLaws
 pub mod Lookup

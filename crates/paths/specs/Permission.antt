@@ -4,6 +4,7 @@ use Prim.Native.Nat.{ℕ, _*_, _/_, _%_}
 use lib.Dec.{eqb}
 use Rattle.layout.specs.View.{View}
 use Rattle.paths.specs.declared.request.Credentials.{Credentials}
+use Rattle.paths.specs.Groups.{inGroup}
 
 -- the bits that permission speaks of
 abbrev pub searchBit : ℕ
@@ -11,10 +12,6 @@ searchBit = 1
 
 abbrev pub writeBit : ℕ
 writeBit = 2
-
--- the caller is in a group
-abbrev pub inGroup : Credentials → ℕ → Bool
-inGroup who g = eqb (who .group) g
 
 -- the weight of a bit in the class that applies: the owner's, else the group's, else the others'
 abbrev pub weight : View → Credentials → ℕ → ℕ → ℕ

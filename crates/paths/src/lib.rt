@@ -1,5 +1,6 @@
 // Requests, permission, names looked up, and the components of a path.
 pub mod find;
+pub mod groups;
 pub mod path;
 pub mod permission;
 pub mod request;

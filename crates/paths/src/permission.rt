@@ -1,4 +1,5 @@
 // Permission: the class that the caller falls in decides.
+use crate::groups;
 use crate::request::Credentials;
 use layout::Shape;
 ghost use mathlib.Core.Path.{_≡_};
@@ -25,7 +26,7 @@ pub fn allows(image: &[u8], h: Shape, who: Credentials, i: usize, bit: usize) ->
     if who.user == layout::inode::owner(r) {
         return mode / (64 * bit) % 2 == 1;
     }
-    if who.group == layout::inode::group(r) {
+    if groups::in_group(who, layout::inode::group(r)) {
         return mode / (8 * bit) % 2 == 1;
     }
     mode / bit % 2 == 1

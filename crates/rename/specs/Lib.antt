@@ -5,3 +5,5 @@ pub mod Outs
 pub mod Bounds
 pub mod Known
 pub mod Walked
+pub mod Alike
+pub mod AlikeLaws

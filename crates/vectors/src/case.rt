@@ -6,11 +6,13 @@ use crate::reader;
 use crate::reader::Number;
 use crate::renames;
 use crate::repairs;
+use crate::request;
 
 pub enum Job {
     Check,
     Land,
     Rename,
+    Groups,
     Repair,
 }
 
@@ -19,7 +21,8 @@ fn planned(fd: i32, job: Job, image: &mut [u8], plan: &mut [u8], scratch: &mut [
     match job {
         Job::Check => check::answer(image),
         Job::Land => land::planned(fd, image, plan),
-        Job::Rename => renames::buffered(fd, image, plan),
+        Job::Rename => renames::buffered(fd, request::Job::Rename, image, plan),
+        Job::Groups => renames::buffered(fd, request::Job::Groups, image, plan),
         Job::Repair => repairs::buffered(fd, image, plan, scratch),
     }
 }

@@ -30,6 +30,8 @@ const RENAME_CASE: u8 = 5;
 
 const REPAIR_CASE: u8 = 6;
 
+const GROUPS_CASE: u8 = 7;
+
 // Reads the rest of an item, and answers it where it is a case.
 fn item(
     fd: i32,
@@ -56,6 +58,9 @@ fn item(
     }
     if tag == REPAIR_CASE {
         return case::case(fd, Job::Repair, base, image, plan, scratch);
+    }
+    if tag == GROUPS_CASE {
+        return case::case(fd, Job::Groups, base, image, plan, scratch);
     }
     reader::complain(b"an item has an unknown tag");
     false
@@ -107,4 +112,5 @@ fn main() {
     run(b"walk");
     run(b"rename");
     run(b"repair");
+    run(b"groups");
 }

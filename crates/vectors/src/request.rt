@@ -3,17 +3,20 @@ use crate::reader;
 use crate::reader::Number;
 use crate::renames;
 use crate::walks;
-use paths::request::Credentials;
 use paths::request::Request;
 use paths::request::Starts;
 ghost use mathlib.Core.Path.{_≡_};
 ghost use lib.ListN.{length};
 
-// What is asked for. Only the request of a rename tells a time.
+// What is asked for. Only the request of a rename tells a time, and only one with groups has further ones.
 pub enum Job {
     Walk,
     Rename,
+    Groups,
 }
+
+// Room for more further groups than a request may have.
+const GROUPS: usize = 24;
 
 // Room for the longest path.
 fn buffer() -> [u8; 600]
@@ -26,7 +29,7 @@ fn buffer() -> [u8; 600]
 fn answer(job: Job, image: &[u8], q: Request, old: &[u8], new: &[u8], plan: &mut [u8]) -> bool {
     match job {
         Job::Walk => walks::answer(image, q, old, new),
-        Job::Rename => renames::answer(image, q, old, new, plan),
+        _ => renames::answer(image, q, old, new, plan),
     }
 }
 
@@ -104,8 +107,96 @@ fn both(fd: i32, job: Job, image: &[u8], q: Request, plan: &mut [u8]) -> bool {
 fn time(fd: i32, job: Job) -> Number {
     match job {
         Job::Walk => Number::Read(0),
-        Job::Rename => reader::number64(fd),
+        _ => reader::number64(fd),
     }
+}
+
+// Reads how many further groups a request has.
+fn group_count(fd: i32, job: Job) -> Number {
+    match job {
+        Job::Groups => reader::number16(fd),
+        _ => Number::Read(0),
+    }
+}
+
+// A list of further groups, and whether the file has them all.
+struct Groups {
+    whole: bool,
+    groups: [u32; GROUPS],
+}
+
+// Reads so many further groups, as far as there is room for them.
+fn listed(fd: i32, count: usize) -> Groups {
+    let mut groups = [0u32; GROUPS];
+    let mut k: usize = 0;
+    while k < GROUPS {
+        if count <= k {
+            return Groups {
+                whole: true,
+                groups,
+            };
+        }
+        let mut b = [0u8; 4];
+        if !reader::fill(fd, &mut b) {
+            return Groups {
+                whole: false,
+                groups,
+            };
+        }
+        groups[k] = reader::joined(b[0], b[1], b[2], b[3]) as u32;
+        k += 1;
+    }
+    Groups {
+        whole: true,
+        groups,
+    }
+}
+
+// The parts of a request that come first, as they were read.
+struct Front {
+    user: u32,
+    group: u32,
+    current: u16,
+    starts: Starts,
+    now: u64,
+}
+
+// Cuts the list to the further groups that there are, reads the paths, and answers.
+fn named(
+    fd: i32,
+    job: Job,
+    image: &[u8],
+    f: Front,
+    groups: &[u32],
+    count: usize,
+    plan: &mut [u8],
+) -> bool {
+    if groups.len() < count {
+        reader::complain(b"a list of groups is too long");
+        return false;
+    }
+    let starts = f.starts;
+    let q = Request {
+        who: paths::groups::credentials(f.user, f.group, &groups[..count]),
+        current: f.current,
+        starts,
+        now: f.now,
+    };
+    both(fd, job, image, q, plan)
+}
+
+// Reads how many further groups there are, then these, then the paths, and answers.
+fn grouped(fd: i32, job: Job, image: &[u8], f: Front, plan: &mut [u8]) -> bool {
+    let number = group_count(fd, job);
+    let Number::Read(count) = number else {
+        return false;
+    };
+    let l = listed(fd, count);
+    if !l.whole {
+        return false;
+    }
+    let groups = l.groups;
+    named(fd, job, image, f, &groups, count, plan)
 }
 
 // Reads a request and answers it.
@@ -118,19 +209,16 @@ pub fn read(fd: i32, job: Job, image: &[u8], plan: &mut [u8]) -> bool {
     let Number::Read(now) = number else {
         return false;
     };
-    let who = Credentials {
-        user: reader::joined(b[0], b[1], b[2], b[3]) as u32,
-        group: reader::joined(b[4], b[5], b[6], b[7]) as u32,
-    };
     let starts = Starts {
         old: b[10],
         new: b[11],
     };
-    let q = Request {
-        who,
+    let f = Front {
+        user: reader::joined(b[0], b[1], b[2], b[3]) as u32,
+        group: reader::joined(b[4], b[5], b[6], b[7]) as u32,
         current: reader::pair(b[8], b[9]),
         starts,
         now: now as u64,
     };
-    both(fd, job, image, q, plan)
+    grouped(fd, job, image, f, plan)
 }

@@ -12,6 +12,7 @@ use Rattle.layout.specs.Record.{recordAt}
 use Rattle.layout.specs.View.{View, viewOf}
 use Rattle.layout.specs.BenchTree.{bench}
 use Rattle.paths.specs.Path.{slashes, untilSlash}
+use Rattle.paths.specs.Groups.{credentialsOf, inFurther, inGroup}
 use Rattle.paths.specs.Permission.{allows}
 use Rattle.paths.specs.Lookup.{isNamed, lookup}
 use Rattle.component.specs.declared.state.Final.{Final}
@@ -24,7 +25,7 @@ benchView = viewOf (shapeOf bench) bench
 
 -- user and group 100, in the root
 abbrev pub benchWalk : Final → ℕ → List ℕ → End
-benchWalk last start path = walk benchView (record { user = 100; group = 100 }) last 0 start path
+benchWalk last start path = walk benchView (credentialsOf 100 100 []) last 0 start path
 
 abbrev pub found : ℕ → Finding → End
 found steps f = record { number = 0; steps = steps; found = f }
@@ -51,5 +52,5 @@ pub walks :
     ∷ halt 16
     ∷ halt 2
     ∷ []
-unfolding bench any all first part sameBytes numberAt bytesOf shapeOf recordAt viewOf allows slashes untilSlash isNamed lookup walkStep walkFrom walk
+unfolding bench any all first part sameBytes numberAt bytesOf shapeOf recordAt viewOf credentialsOf inFurther inGroup allows slashes untilSlash isNamed lookup walkStep walkFrom walk
 walks = refl

@@ -19,6 +19,8 @@ extern "C" {
         image_len: usize,
         user: u32,
         group: u32,
+        groups: *const u32,
+        groups_len: usize,
         current: u16,
         old_start: u8,
         new_start: u8,
@@ -36,17 +38,22 @@ const BATCHES: usize = 31;
 const REQUESTS: usize = 16;
 const NOW: u64 = 500;
 
+/// No caller here has further groups, but the pointer of an empty list must not be null.
+static NO_GROUPS: [u32; 1] = [0];
+
 type Rename = fn(&[u8], &Request, &mut [u8]) -> u64;
 
 fn library(image: &[u8], request: &Request, plan: &mut [u8]) -> u64 {
     let (who, old, new) = (&request.who, &request.old, &request.new);
-    // SAFETY: each pointer and length are those of one slice, and only the plan is written.
+    // SAFETY: each pointer and length are those of one slice or of its beginning, and only the plan is written.
     unsafe {
         mp_rename(
             image.as_ptr(),
             image.len(),
             who.user,
             who.group,
+            NO_GROUPS.as_ptr(),
+            0,
             request.current,
             old.start,
             new.start,
@@ -74,7 +81,7 @@ fn requests(tree: &Tree) -> Vec<Request> {
     let random = &mut Random::new(1);
     let any = || {
         let (old, new) = (straight(tree, false, random), straight(tree, false, random));
-        Request { who: Credentials { user: SUPERUSER, group: 0 }, current: 0, old, new }
+        Request { who: Credentials::new(SUPERUSER, 0), current: 0, old, new }
     };
     let has_rows = |request: &Request| rename(&image, request, NOW, &mut [0; PLAN_LEN]).rows != 0;
     std::iter::repeat_with(any).filter(has_rows).take(REQUESTS).collect()

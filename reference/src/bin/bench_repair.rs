@@ -49,7 +49,7 @@ fn any_rename(tree: &Tree) -> PlannedRename {
     let random = &mut Random::new(1);
     let any = || {
         let (old, new) = (straight(tree, false, random), straight(tree, false, random));
-        let request = Request { who: Credentials { user: SUPERUSER, group: 0 }, current: 0, old, new };
+        let request = Request { who: Credentials::new(SUPERUSER, 0), current: 0, old, new };
         PlannedRename::new(&image, &request, NOW)
     };
     std::iter::repeat_with(any).flatten().next().expect("some rename is not refused")

@@ -50,17 +50,17 @@ pub struct RenameCase {
 pub type RenameCases = Vec<RenameCase>;
 
 /// A time behind all that the trees made by hand have.
-const NOW: u64 = 5000;
+pub(super) const NOW: u64 = 5000;
 
 /// The owner of the rename tree, in root.
-const CALLER: Credentials = Credentials { user: OWNER, group: GROUP };
+const CALLER: Credentials = Credentials::new(OWNER, GROUP);
 
-fn request(old: &str, new: &str) -> Request {
+pub(super) fn request(old: &str, new: &str) -> Request {
     let operand = |path: &str| Operand::new(CURRENT, path.as_bytes());
     Request { who: CALLER, current: 0, old: operand(old), new: operand(new) }
 }
 
-fn case(class: &'static str, tree: &Tree, request: Request, told: Told) -> RenameCase {
+pub(super) fn case(class: &'static str, tree: &Tree, request: Request, told: Told) -> RenameCase {
     RenameCase { class, image: tree.encode(), buffer: None, request, now: NOW, told: Some(told) }
 }
 

@@ -60,7 +60,7 @@ fn open(class: &'static str, image: Vec<u8>) -> RepairCase {
 
 fn request(old: &str, new: &str) -> Request {
     let operand = |path: &str| Operand::new(CURRENT, path.as_bytes());
-    Request { who: Credentials { user: OWNER, group: OWNER }, current: 0, old: operand(old), new: operand(new) }
+    Request { who: Credentials::new(OWNER, OWNER), current: 0, old: operand(old), new: operand(new) }
 }
 
 fn planned(tree: &Tree, old: &str, new: &str) -> PlannedRename {

@@ -33,7 +33,7 @@ pub type WalkCases = Vec<WalkCase>;
 
 /// The walk tree's owner, in root.
 fn request(old: Operand, new: Operand) -> Request {
-    Request { who: Credentials { user: OWNER, group: GROUP }, current: 0, old, new }
+    Request { who: Credentials::new(OWNER, GROUP), current: 0, old, new }
 }
 
 fn from_current(path: &[u8]) -> Operand {

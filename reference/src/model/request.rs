@@ -8,6 +8,9 @@ use super::refusal::Refusal;
 /// The start that means the current directory.
 pub const CURRENT: u8 = 255;
 
+/// How many groups a caller may have beside the effective one.
+pub const FURTHER_MAX: usize = 16;
+
 /// One of the two paths, with the start that it has if it is relative.
 #[derive(Clone, Debug, PartialEq, Eq)]
 pub struct Operand {
@@ -30,14 +33,16 @@ pub struct Request {
 }
 
 /// What can be wrong with a request itself.
-pub const REFUSALS: [(Refusal, fn(&Request, &Image) -> bool); 3] = [
+pub const REFUSALS: [(Refusal, fn(&Request, &Image) -> bool); 4] = [
     (Refusal::new(42, "current directory is none", BAD_REQUEST), |request, image| !image.is_directory(request.current)),
     (Refusal::new(42, "byte 0 in old", BAD_REQUEST), |request, _| request.old.path.contains(&0)),
     (Refusal::new(42, "byte 0 in new", BAD_REQUEST), |request, _| request.new.path.contains(&0)),
+    (Refusal::new(42, "too many groups", BAD_REQUEST), |request, _| request.who.further.len() > FURTHER_MAX),
 ];
 
 impl Request {
-    /// Asked of both paths, whatever else is wrong with them and whether or not the current directory matters.
+    /// Asked of both paths, whatever else is wrong with them and whether or not the current directory matters; and of
+    /// every caller's groups, whether or not anybody is going to look at them.
     pub fn refusal(&self, image: &Image) -> Option<Refusal> {
         REFUSALS.iter().find(|(_, applies)| applies(self, image)).map(|(refusal, _)| *refusal)
     }

@@ -119,7 +119,7 @@ pub fn walk(image: &Image, request: &Request, role: Role) -> Walk {
 
 struct Walker<'a> {
     image: &'a Image<'a>,
-    who: Credentials,
+    who: &'a Credentials,
     /// What is still to be read, which always has a component.
     rest: Vec<u8>,
     /// The inode in which the next component is looked for. It need not be a directory.
@@ -136,7 +136,7 @@ fn is_slash(byte: &u8) -> bool {
 
 impl<'a> Walker<'a> {
     /// Rules 46 to 49, before any component is looked at.
-    fn start(image: &'a Image<'a>, request: &Request, operand: &Operand) -> Result<Walker<'a>, Refusal> {
+    fn start(image: &'a Image<'a>, request: &'a Request, operand: &Operand) -> Result<Walker<'a>, Refusal> {
         let path = &operand.path;
         if path.is_empty() {
             return Err(EMPTY);
@@ -148,7 +148,7 @@ impl<'a> Walker<'a> {
         if path.iter().all(is_slash) {
             return Err(SLASHES);
         }
-        Ok(Walker { image, who: request.who, rest: path.clone(), directory, search_granted, followed: 0, steps: 0 })
+        Ok(Walker { image, who: &request.who, rest: path.clone(), directory, search_granted, followed: 0, steps: 0 })
     }
 
     fn run(&mut self, role: Role) -> Result<Found, Refusal> {

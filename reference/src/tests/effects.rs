@@ -1,6 +1,6 @@
 //! What the cases of landing, rename and repair leave in images and buffers.
 
-use super::made::{LANDINGS, RENAMES, REPAIRS};
+use super::made::{all_renames, LANDINGS, RENAMES, REPAIRS};
 use crate::cases::random::Random;
 use crate::cases::{rename::part as rename_part, repair::part as repair_part};
 use crate::model::check::check;
@@ -51,7 +51,7 @@ fn every_shape_of_a_rename_is_planned() {
 
 #[test]
 fn renames_change_buffers_in_their_plan_alone_and_only_at_0() {
-    for renaming in &RENAMES.cases {
+    for renaming in all_renames() {
         let before = renaming.buffer.bytes();
         let mut plan = before.clone();
         let number = rename(&renaming.image, &renaming.request, renaming.now, &mut plan).number;
@@ -63,7 +63,7 @@ fn renames_change_buffers_in_their_plan_alone_and_only_at_0() {
 #[test]
 fn whole_plans_of_renames_lead_to_the_finished_image() {
     let random = &mut Random::new(10);
-    for Renaming { image, buffer, request, now } in &RENAMES.cases {
+    for Renaming { image, buffer, request, now } in all_renames() {
         let mut plan = buffer.bytes();
         let answer = rename(image, request, *now, &mut plan);
         if answer.number != DONE {

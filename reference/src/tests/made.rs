@@ -1,6 +1,6 @@
 //! The cases of every part, made once for all the tests and read back as a program of the proved library reads them.
 
-use crate::cases::{check, land, rename, repair, walk, Collection};
+use crate::cases::{check, groups, land, rename, repair, walk, Collection};
 use crate::vectors::{read, Case, Landing, Renaming, Repairing, Walking};
 use std::sync::LazyLock;
 
@@ -50,3 +50,15 @@ pub static REPAIRS: LazyLock<Made<Repairing>> = LazyLock::new(|| {
         _ => None,
     })
 });
+
+pub static RENAMES_WITH_GROUPS: LazyLock<Made<Renaming>> = LazyLock::new(|| {
+    made(groups::part::all, |case| match case {
+        Case::RenameWithGroups(renaming) => Some(renaming),
+        _ => None,
+    })
+});
+
+/// The renames of both parts.
+pub fn all_renames() -> impl Iterator<Item = &'static Renaming> {
+    RENAMES.cases.iter().chain(&RENAMES_WITH_GROUPS.cases)
+}

@@ -1,17 +1,18 @@
 //! The files of vectors: what is read back is what was asked, and the document counts it.
 
-use super::made::{CHECKS, LANDINGS, RENAMES, REPAIRS, WALKS};
+use super::made::{Made, CHECKS, LANDINGS, RENAMES, RENAMES_WITH_GROUPS, REPAIRS, WALKS};
 use crate::cases::{land, rename, repair, walk, Collection, PARTS};
 use crate::model::check::check;
 
 /// Every part by its name, in the order of the answers.
-fn collections() -> [(&'static str, &'static Collection); 5] {
+fn collections() -> [(&'static str, &'static Collection); 6] {
     [
         ("check", &CHECKS.collection),
         ("land", &LANDINGS.collection),
         ("walk", &WALKS.collection),
         ("rename", &RENAMES.collection),
         ("repair", &REPAIRS.collection),
+        ("groups", &RENAMES_WITH_GROUPS.collection),
     ]
 }
 
@@ -65,4 +66,10 @@ fn the_stored_renames_have_the_stored_answers() {
 #[test]
 fn the_stored_repairs_have_the_stored_answers() {
     assert_lines(&REPAIRS.cases, &REPAIRS.collection, |repairing| repair::part::answer(repairing).1);
+}
+
+#[test]
+fn the_stored_renames_with_groups_have_the_stored_answers() {
+    let Made { cases, collection } = &*RENAMES_WITH_GROUPS;
+    assert_lines(cases, collection, |renaming| rename::part::answer(renaming).1);
 }

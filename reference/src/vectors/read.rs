@@ -1,8 +1,8 @@
 //! Reads a file of test vectors back, strictly.
 
 use super::{Buffer, Case, Landing, Renaming, Repairing, Scratch, Walking};
-use super::{BASE, CHECK, LAND, RENAME, REPAIR, WALK};
-use super::{LONGEST_BASE, LONGEST_CASE, LONGEST_PATH, LONGEST_PLAN, LONGEST_SCRATCH, MOST_EDITS};
+use super::{BASE, CHECK, LAND, RENAME, RENAME_WITH_GROUPS, REPAIR, WALK};
+use super::{LONGEST_BASE, LONGEST_CASE, LONGEST_PATH, LONGEST_PLAN, LONGEST_SCRATCH, MOST_EDITS, MOST_GROUPS};
 use crate::model::permission::Credentials;
 use crate::model::request::{Operand, Request};
 
@@ -20,8 +20,9 @@ pub fn read(data: &[u8]) -> Option<Vec<Case>> {
             CHECK => cases.push(Case::Check(reader.image(&base)?)),
             WALK => cases.push(Case::Walk(reader.walking(&base)?)),
             LAND => cases.push(Case::Land(reader.landing(&base)?)),
-            RENAME => cases.push(Case::Rename(reader.renaming(&base)?)),
+            RENAME => cases.push(Case::Rename(reader.renaming(&base, Reader::no_groups)?)),
             REPAIR => cases.push(Case::Repair(reader.repairing(&base)?)),
+            RENAME_WITH_GROUPS => cases.push(Case::RenameWithGroups(reader.renaming(&base, Reader::groups)?)),
             _ => return None,
         }
     }
@@ -84,13 +85,24 @@ impl<'a> Reader<'a> {
         Some(Walking { image, request })
     }
 
-    fn renaming(&mut self, base: &[u8]) -> Option<Renaming> {
+    /// The two kinds of rename cases differ in how the groups are told.
+    fn renaming(&mut self, base: &[u8], groups: fn(&mut Self) -> Option<Vec<u32>>) -> Option<Renaming> {
         let image = self.image(base)?;
         let buffer = self.buffer()?;
-        let request = self.caller()?;
+        let mut request = self.caller()?;
         let now = self.u64()?;
+        request.who.further = groups(self)?;
         let request = self.paths(request)?;
         Some(Renaming { image, buffer, request, now })
+    }
+
+    fn no_groups(&mut self) -> Option<Vec<u32>> {
+        Some(vec![])
+    }
+
+    fn groups(&mut self) -> Option<Vec<u32>> {
+        let count = usize::from(self.u16()?);
+        (count <= MOST_GROUPS).then(|| (0..count).map(|_| self.u32()).collect())?
     }
 
     fn repairing(&mut self, base: &[u8]) -> Option<Repairing> {
@@ -107,7 +119,7 @@ impl<'a> Reader<'a> {
 
     /// A request whose paths are still to be read.
     fn caller(&mut self) -> Option<Request> {
-        let who = Credentials { user: self.u32()?, group: self.u32()? };
+        let who = Credentials::new(self.u32()?, self.u32()?);
         let current = self.u16()?;
         let (old, new) = (Operand::new(self.u8()?, b""), Operand::new(self.u8()?, b""));
         Some(Request { who, current, old, new })

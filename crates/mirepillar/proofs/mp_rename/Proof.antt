@@ -6,6 +6,9 @@ use Rattle.mirepillar.specs.Result.{packed}
 use Rattle.mirepillar.proofs.mp_rename.Statement.{statement}
 use Rattle.mirepillar.proofs.mp_rename.Tie as tie
 
+credentials-requires : tie.Need-credentials-requires
+credentials-requires c κs = search needs
+
 rename-requires : tie.Need-rename-requires
 rename-requires c κs = search needs
 
@@ -17,8 +20,10 @@ same-length c = search needs
 
 returns : tie.Need-returns
 returns c =
-    let a = c .before .before .before .rename .ensures in
-    (c .pack .ensures ∙ ap packed (a .is), a .buffer)
+    let ran = c .before .before .before in
+    let who = ran .before .before .credentials .ensures in
+    let a = ran .rename .ensures in
+    rw (← who) (c .pack .ensures ∙ ap packed (a .is), a .buffer)
 
 pub mp-rename-spec : {M : Type 1} → statement M
-mp-rename-spec = tie.close (tie.spec rename-requires pack-requires same-length returns)
+mp-rename-spec = tie.close (tie.spec credentials-requires rename-requires pack-requires same-length returns)

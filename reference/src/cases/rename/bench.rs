@@ -55,7 +55,7 @@ pub fn cases(tree: &Tree) -> RenameCases {
 
 fn line_for(tree: &Tree, id: u32, (start, old, new, line): (u8, &str, &str, Told)) -> RenameCase {
     let mut request = request(old, new);
-    request.who = Credentials { user: id, group: id };
+    request.who = Credentials::new(id, id);
     request.old.start = start;
     let whole = line.steps.is_some_and(|[old, new]| old != 0 && new != 0) && !new.ends_with("h/");
     let one_inode = line.number == 0 && line.rows == 0;

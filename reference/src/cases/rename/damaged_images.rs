@@ -17,7 +17,7 @@ fn requests() -> [Request; 5] {
     let paths = [("/a/f", "/a/k"), ("/a/f\0", "/a/k"), ("nope", "/a/k"), ("/a/f", "/a/d"), ("/a/f", "/b/h")];
     paths.map(|(old, new)| {
         let mut request = request(old, new);
-        request.who = Credentials { user: 0, group: 0 };
+        request.who = Credentials::new(0, 0);
         request.current = if old == "nope" { u16::MAX } else { 0 };
         request
     })

@@ -11,7 +11,7 @@ const CLASS: &str = "link counts";
 
 fn line(tree: &Tree, (old, new): (&str, &str), number: u8, rows: u8) -> RenameCase {
     let mut request = request(old, new);
-    request.who = Credentials { user: SUPERUSER, group: 0 };
+    request.who = Credentials::new(SUPERUSER, 0);
     case(CLASS, tree, request, Told { number, rows, steps: None })
 }
 

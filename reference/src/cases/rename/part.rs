@@ -3,7 +3,7 @@
 use crate::cases::random::Random;
 use crate::cases::rename::{
     bench, buffers, damaged_images, limits, misleading_paths, open_inodes, permissions, random_renames, refused_walks,
-    slots, steps, times, RenameCases, Told,
+    slots, steps, times, RenameCase, RenameCases, Told,
 };
 use crate::cases::trees::bench::{bench_tree, full_bench_tree};
 use crate::cases::trees::builder::Tree;
@@ -68,23 +68,30 @@ impl Collection {
         self.add_renames(&tree, slots::in_a_full_tree(&tree, random));
     }
 
-    /// Cases on images that are near a tree's. Where a case asks for no buffer, some take turns.
+    /// Cases on images that are near a tree's.
     fn add_renames(&mut self, home: &Tree, cases: RenameCases) {
         let home = home.encode();
         for case in cases {
-            let turn = self.lines.len();
-            let any = Buffer { len: LENGTHS[turn % LENGTHS.len()], fill: (37 * turn) as u8 };
-            let buffer = case.buffer.unwrap_or(any);
-            let renaming = Renaming { image: case.image, buffer, request: case.request, now: case.now };
-            let (answer, line) = answer(&renaming);
-            if let Some(Told { number, rows, steps }) = case.told {
-                let told = Answer { number, rows, steps: steps.unwrap_or(answer.steps) };
-                assert_eq!(answer, told, "{}: {:?}", case.class, renaming.request);
-            }
+            let class = case.class;
+            let (renaming, number, line) = played(case, self.lines.len());
             self.writer.rename(&home, &renaming);
-            self.count(case.class, answer.number, line);
+            self.count(class, number, line);
         }
     }
+}
+
+/// What is stored of a case, its number and its line. Where it asks for no buffer, some take turns. It panics where the
+/// case is not answered as its table tells.
+pub fn played(case: RenameCase, turn: usize) -> (Renaming, u8, String) {
+    let any = Buffer { len: LENGTHS[turn % LENGTHS.len()], fill: (37 * turn) as u8 };
+    let buffer = case.buffer.unwrap_or(any);
+    let renaming = Renaming { image: case.image, buffer, request: case.request, now: case.now };
+    let (answer, line) = answer(&renaming);
+    if let Some(Told { number, rows, steps }) = case.told {
+        let told = Answer { number, rows, steps: steps.unwrap_or(answer.steps) };
+        assert_eq!(answer, told, "{}: {:?}", case.class, renaming.request);
+    }
+    (renaming, answer.number, line)
 }
 
 /// The answer, and the line with the checksum of the buffer after it.

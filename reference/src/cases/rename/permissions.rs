@@ -57,7 +57,7 @@ fn write_case(way: &Way, mode: u16, (user, group, bit): (u32, u32, Option<u16>))
     let denied = way.asked && bit.is_some_and(|bit| mode & bit == 0);
     let told = if denied { Told::refused(EACCES) } else { Told { number: 0, rows: way.rows, steps: None } };
     let mut request = request(way.paths.0, way.paths.1);
-    request.who = Credentials { user, group };
+    request.who = Credentials::new(user, group);
     case("write permission", &rename_tree_with(way.inode, mode), request, told)
 }
 
@@ -121,7 +121,7 @@ fn sticky() -> RenameCases {
         for (j, (user, group)) in callers.into_iter().enumerate() {
             for (k, owned) in [None, Some(0), Some(1), Some(2), Some(3)].into_iter().enumerate() {
                 let rename = STICKY_RENAMES[(i + j + k) % STICKY_RENAMES.len()];
-                cases.push(sticky_case(sticky, owned, Credentials { user, group }, rename));
+                cases.push(sticky_case(sticky, owned, Credentials::new(user, group), rename));
             }
         }
     }
@@ -132,7 +132,7 @@ fn sticky() -> RenameCases {
 fn other_high_bits() -> RenameCases {
     let case = |mode: u16| {
         let mut request = request("/w/p/f", "/w/p/new");
-        request.who = Credentials { user: SOMEBODY, group: SOMEBODY };
+        request.who = Credentials::new(SOMEBODY, SOMEBODY);
         let told = match mode & 0o1000 {
             0 => Told { number: 0, rows: 6, steps: None },
             _ => Told::refused(EPERM),

@@ -84,7 +84,7 @@ pub fn before_the_steps() -> RenameCases {
     for (tree, old) in old_sides() {
         for (new, number) in refused_as_new() {
             let mut request = request(old, "");
-            request.who = Credentials { user: 300, group: 300 };
+            request.who = Credentials::new(300, 300);
             request.new = new;
             cases.push(case("new's walk before the steps", &tree, request.clone(), Told::refused(number)));
             request.current = inode_at(&tree, "/w/p/f");

@@ -267,9 +267,9 @@ impl Scene {
     pub fn case(&self, class: &'static str, home: &Tree) -> RenameCase {
         let mut request = request(&self.old_path(), &self.new_path());
         request.who = match self.caller {
-            Caller::Owner => Credentials { user: OWNER, group: GROUP },
-            Caller::Other => Credentials { user: OTHER, group: OTHER },
-            Caller::Superuser => Credentials { user: 0, group: 0 },
+            Caller::Owner => Credentials::new(OWNER, GROUP),
+            Caller::Other => Credentials::new(OTHER, OTHER),
+            Caller::Superuser => Credentials::new(0, 0),
         };
         if self.replaced_use == InUse::Current {
             request.current = inode_at(home, &self.new_path());

@@ -35,7 +35,7 @@ pub fn cases() -> RenameCases {
     for (i, tree) in one.chain(two).enumerate() {
         for (j, (old, new, rows)) in RENAMES.into_iter().enumerate() {
             let mut request = request(old, new);
-            request.who = Credentials { user: if (i + j) % 2 == 0 { 0 } else { 100 }, group: 100 };
+            request.who = Credentials::new(if (i + j) % 2 == 0 { 0 } else { 100 }, 100);
             cases.push(case(CLASS, &tree, request, Told { number: 0, rows, steps: None }));
         }
     }
@@ -77,7 +77,7 @@ pub fn in_a_full_tree(tree: &Tree, random: &mut Random) -> RenameCases {
 fn to_a_free_name(tree: &Tree, random: &mut Random) -> RenameCase {
     let any = || {
         let (old, new) = (straight(tree, false, random), straight(tree, true, random));
-        let request = Request { who: Credentials { user: SUPERUSER, group: 0 }, current: 0, old, new };
+        let request = Request { who: Credentials::new(SUPERUSER, 0), current: 0, old, new };
         RenameCase { class: CLASS, image: tree.encode(), buffer: None, request, now: NOW, told: None }
     };
     std::iter::repeat_with(any).find(has_rows).expect("some rename is not refused")

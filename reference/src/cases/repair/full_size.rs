@@ -18,7 +18,7 @@ pub fn any_rename(tree: &Tree, random: &mut Random) -> PlannedRename {
     let image = tree.encode();
     let any = || {
         let (old, new) = (straight(tree, false, random), straight(tree, false, random));
-        let request = Request { who: Credentials { user: SUPERUSER, group: 0 }, current: 0, old, new };
+        let request = Request { who: Credentials::new(SUPERUSER, 0), current: 0, old, new };
         PlannedRename::new(&image, &request, 1)
     };
     let is_near = |planned: &PlannedRename| edits(&planned.after([0]), &planned.before).is_some();

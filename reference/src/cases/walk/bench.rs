@@ -32,7 +32,7 @@ const LINES: [Line; 15] = [
 const AT_HANDLES: [(u8, u8, [u16; 2]); 2] = [(0, 0, [1, 1]), (9, 9, [0, 0])];
 
 fn case(tree: &Tree, id: u32, old: Operand, new: &str, number: u8, steps: [u16; 2]) -> WalkCase {
-    let who = Credentials { user: id, group: id };
+    let who = Credentials::new(id, id);
     let request = Request { who, ..request(old, from_current(new.as_bytes())) };
     WalkCase { class: CLASS, tree: tree.clone(), request, told: Some(Told { number, steps }) }
 }

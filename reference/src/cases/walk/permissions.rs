@@ -76,7 +76,7 @@ fn case(way: &Way, mode: u16, (user, group, bit): (u32, u32, Option<u16>), as_ol
     };
     let mut tree = walk_tree();
     tree.inodes[usize::from(way.directory)].mode = mode;
-    let request = Request { who: Credentials { user, group }, current: way.current, ..request(old, new) };
+    let request = Request { who: Credentials::new(user, group), current: way.current, ..request(old, new) };
     WalkCase { class: CLASS, tree, request, told: Some(Told { number, steps }) }
 }
 

@@ -126,7 +126,7 @@ fn case(tree: &Tree, random: &mut Random) -> WalkCase {
     for _ in 0..random.below(3) {
         tree.inodes[usize::from(*random.pick(&directories))].mode = *random.pick(&MODES);
     }
-    let who = Credentials { user: *random.pick(&USERS), group: *random.pick(&GROUPS) };
+    let who = Credentials::new(*random.pick(&USERS), *random.pick(&GROUPS));
     WalkCase { class: CLASS, tree, request: Request { who, current, old, new }, told: None }
 }
 

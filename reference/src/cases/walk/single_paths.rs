@@ -293,7 +293,7 @@ pub fn pairs_for_others(count: usize, random: &mut Random) -> WalkCases {
     let users = [0, 0, 200, 300, GROUP];
     let mut other = |_| {
         let mut case = case("other users and directories", random.pick(&probes), random.pick(&probes));
-        case.request.who = Credentials { user: *random.pick(&users), group: *random.pick(&[0, GROUP, 200, 300]) };
+        case.request.who = Credentials::new(*random.pick(&users), *random.pick(&[0, GROUP, 200, 300]));
         case.request.current = *random.pick(&[ROOT, D, E, X, PRIVATE, PQ]);
         WalkCase { told: None, ..case }
     };

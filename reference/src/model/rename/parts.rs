@@ -10,7 +10,7 @@ const NO_INODE: [u8; 32] = [0; 32];
 
 pub struct Parts<'a> {
     pub image: &'a Image<'a>,
-    pub who: Credentials,
+    pub who: &'a Credentials,
     pub current: u16,
     /// The inode that gets another name (S), and the slot of the name that it loses.
     pub moved: Existing,
@@ -27,10 +27,10 @@ pub struct Parts<'a> {
 
 impl<'a> Parts<'a> {
     /// Nothing where old has no end, which no whole walk of old leaves open.
-    pub fn new(image: &'a Image<'a>, request: &Request, [old, new]: [Found; 2]) -> Option<Parts<'a>> {
+    pub fn new(image: &'a Image<'a>, request: &'a Request, [old, new]: [Found; 2]) -> Option<Parts<'a>> {
         Some(Parts {
             image,
-            who: request.who,
+            who: &request.who,
             current: request.current,
             moved: old.existing?,
             replaced: new.existing,

@@ -16,7 +16,7 @@ const NOW: u64 = 500;
 
 fn request(user: u32, start: u8, old: &str, new: &str) -> Request {
     let (old, new) = (Operand::new(start, old.as_bytes()), Operand::new(CURRENT, new.as_bytes()));
-    Request { who: Credentials { user, group: user }, current: 0, old, new }
+    Request { who: Credentials::new(user, user), current: 0, old, new }
 }
 
 fn answer(tree: &Tree, request: &Request) -> (Answer, Vec<u8>) {
@@ -115,7 +115,7 @@ fn any_bytes_are_answered() {
         let mut path = || (0..random.below(9)).map(|_| *random.pick(b"/abdfgs.")).collect::<Vec<u8>>();
         let (old, new) = (path(), path());
         let (start, current) = (random.byte(), random.below(9) as u16);
-        let who = Credentials { user: 100, group: random.below(2) as u32 };
+        let who = Credentials::new(100, random.below(2) as u32);
         let request = Request { who, current, old: Operand::new(start, &old), new: Operand::new(CURRENT, &new) };
         let mut plan: Vec<u8> = vec![random.byte(); 640 + random.below(20)];
         let before = plan.clone();

@@ -7,7 +7,7 @@ use crate::model::rename::call::Call;
 use crate::model::rename::order::{all_that_apply, Place, Test, ORDER};
 use crate::model::walk;
 use crate::model::{numbers::DONE, request};
-use crate::tests::made::RENAMES;
+use crate::tests::made::{all_renames, RENAMES, RENAMES_WITH_GROUPS};
 use crate::vectors::Renaming;
 use std::collections::BTreeSet;
 use std::sync::LazyLock;
@@ -15,7 +15,7 @@ use std::sync::LazyLock;
 type Applying = Vec<(Place, Refusal)>;
 
 /// All that apply to each rename, in their order.
-static APPLYING: LazyLock<Vec<Applying>> = LazyLock::new(|| RENAMES.cases.iter().map(applying).collect());
+static APPLYING: LazyLock<Vec<Applying>> = LazyLock::new(|| all_renames().map(applying).collect());
 
 fn applying(Renaming { image, buffer, request, .. }: &Renaming) -> Applying {
     let view = Image::read(image);
@@ -24,7 +24,8 @@ fn applying(Renaming { image, buffer, request, .. }: &Renaming) -> Applying {
 
 #[test]
 fn the_first_that_applies_is_the_answer() {
-    for (all, line) in APPLYING.iter().zip(&RENAMES.collection.lines) {
+    let lines = [&RENAMES, &RENAMES_WITH_GROUPS].into_iter().flat_map(|made| &made.collection.lines);
+    for (all, line) in APPLYING.iter().zip(lines) {
         let number = all.first().map_or(DONE, |(_, refusal)| refusal.number);
         assert_eq!(line.split(' ').next(), Some(number.to_string().as_str()));
     }
@@ -91,7 +92,7 @@ fn behind_the_first(renaming: &Renaming, all: &Applying) -> Applying {
 /// The pairs of places of which the first is some rename's answer, though the second applies as well.
 fn meeting_places() -> BTreeSet<(Place, Place)> {
     let mut met = BTreeSet::new();
-    for (renaming, all) in RENAMES.cases.iter().zip(APPLYING.iter()) {
+    for (renaming, all) in all_renames().zip(APPLYING.iter()) {
         let Some(&(first, _)) = all.first() else { continue };
         let later = behind_the_first(renaming, all).into_iter().map(|(place, _)| place);
         met.extend(later.filter(|&place| place > first).map(|place| (first, place)));
@@ -114,6 +115,26 @@ fn neighbours_in_the_order_meet() {
     let met = meeting_places();
     for pair in places().windows(2).map(|pair| (pair[0], pair[1])) {
         assert_eq!(met.contains(&pair), !APART.contains(&pair), "{pair:?}");
+    }
+}
+
+/// A list that is too long comes behind everything that is asked of the buffer and the image, and ahead of both walks and
+/// of step 1. No other clause of the request's applies here, since those would be told first.
+#[test]
+fn too_many_groups_meet_what_is_around_them() {
+    let mut met = BTreeSet::new();
+    for (renaming, all) in all_renames().zip(APPLYING.iter()) {
+        let behind = behind_the_first(renaming, all);
+        let both = all.first().into_iter().chain(&behind);
+        if both.clone().any(|(_, refusal)| refusal.clause == "too many groups") {
+            met.extend(both.map(|(place, _)| (all[0].0, *place)));
+        }
+    }
+    for ahead in [Place::Buffer, Place::Layout, Place::Journal, Place::Records] {
+        assert!(met.contains(&(ahead, Place::Request)), "{ahead:?}");
+    }
+    for after in [Place::OldWalk, Place::NewWalk, Place::Step(1)] {
+        assert!(met.contains(&(Place::Request, after)), "{after:?}");
     }
 }
 

@@ -20,13 +20,15 @@ fn refusal(Walking { image, request }: &Walking) -> Option<(Refusal, &'static st
     }
 }
 
-/// New's final name may be missing; all else is asked of both paths.
+/// New's final name may be missing; all else is asked of both paths. Walk cases have no groups of which there could be too
+/// many: that is for the renames to show.
 #[test]
 fn every_refusal_of_a_walk_is_given() {
     let given: BTreeSet<_> = WALKS.cases.iter().filter_map(refusal).collect();
     let of_paths = REFUSALS.iter().flat_map(|&refusal| [(refusal, "old"), (refusal, "new")]);
     let of_requests = request::REFUSALS.iter().map(|&(refusal, _)| (refusal, "both"));
-    let expected: BTreeSet<_> = of_paths.chain(of_requests).filter(|&(it, of)| (it.rule, of) != (59, "new")).collect();
+    let mut expected: BTreeSet<_> = of_paths.chain(of_requests).collect();
+    expected.retain(|&(it, of)| (it.rule, of) != (59, "new") && it.clause != "too many groups");
     assert_eq!(given, expected);
 }
 

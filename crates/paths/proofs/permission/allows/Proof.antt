@@ -1,4 +1,5 @@
 -- `paths::permission::allows` meets its contract. Assumes nothing.
+use mathlib.Core.Path.{sym, _∙_}
 use borrow.Author.Needs.{needs}
 use borrow.Author.Tests.{eq-eqb}
 use Rattle.layout.specs.Fields.{inodeMode, inodeOwner, inodeGroup}
@@ -39,6 +40,9 @@ returns-2 c =
 group-requires : tie.Need-group-requires
 group-requires c κs = search needs
 
+in-group-requires : tie.Need-in-group-requires
+in-group-requires c κs = search needs
+
 mul-result-2 : tie.Need-mul-result-2
 mul-result-2 c = search needs
 
@@ -51,7 +55,7 @@ returns-3 c =
     let reads = c .before .before .before .before .before .before .before .inode .ensures in
     let mode = field-of inodeMode reads (c .before .before .before .before .before .before .mode .ensures .0) in
     let owner = field-of inodeOwner reads (c .before .before .before .before .before .owner .ensures) in
-    by-group _ _ _ _ (c .before .before .before .before .before .before .before .before .if1 .left) mode owner (c .before .before .before .if2 .left) (field-of inodeGroup reads (c .before .before .group .ensures)) (c .if3 .taken)
+    by-group _ _ _ _ (c .before .before .before .before .before .before .before .before .if1 .left) mode owner (c .before .before .before .if2 .left) (field-of inodeGroup reads (c .before .before .group .ensures)) (sym (c .before .in-group .ensures) ∙ c .if3 .taken)
 
 div-result-3 : tie.Need-div-result-3
 div-result-3 c = search needs
@@ -62,7 +66,7 @@ returns-4 c =
     let reads = c .before .before .before .before .before .before .before .inode .ensures in
     let mode = field-of inodeMode reads (c .before .before .before .before .before .before .mode .ensures .0) in
     let owner = field-of inodeOwner reads (c .before .before .before .before .before .owner .ensures) in
-    by-others _ _ _ _ (c .before .before .before .before .before .before .before .before .if1 .left) mode owner (c .before .before .before .if2 .left) (field-of inodeGroup reads (c .before .before .group .ensures)) (c .if3 .left)
+    by-others _ _ _ _ (c .before .before .before .before .before .before .before .before .if1 .left) mode owner (c .before .before .before .if2 .left) (field-of inodeGroup reads (c .before .before .group .ensures)) (sym (c .before .in-group .ensures) ∙ c .if3 .left)
 
 pub allows-spec : {M : Type 1} → statement M
 allows-spec =
@@ -76,6 +80,7 @@ allows-spec =
     div-result
     returns-2
     group-requires
+    in-group-requires
     mul-result-2
     div-result-2
     returns-3

@@ -28,11 +28,17 @@ no-zero-requires-2 c κs = search needs
 
 returns-3 : tie.Need-returns-3
 unfolding requestGood
-returns-3 c =
+returns-3 c = simp (and-false, fails (c .before .no-zero2 .ensures) (c .if3 .taken))
+
+returns-4 : tie.Need-returns-4
+unfolding requestGood
+returns-4 c =
+    let third = c .before .before in
+    let second = third .before .before in
     simp (
-      holds (c .before .before .before .before .is-directory .ensures) (c .before .before .before .if1 .left),
-      holds (c .before .before .no-zero .ensures) (c .before .if2 .left),
-      c .no-zero2 .ensures,
+      holds (second .before .before .is-directory .ensures) (second .before .if1 .left),
+      holds (second .no-zero .ensures) (third .before .if2 .left),
+      holds (third .no-zero2 .ensures) (c .before .if3 .left),
     )
 
 pub good-spec : {M : Type 1} → statement M
@@ -45,4 +51,5 @@ good-spec =
     no-zero-requires
     returns-2
     no-zero-requires-2
-    returns-3)
+    returns-3
+    returns-4)
