@@ -7,6 +7,7 @@ pub mod land;
 pub mod random;
 pub mod rename;
 pub mod repair;
+pub mod sticky;
 pub mod trees;
 pub mod walk;
 
@@ -34,6 +35,8 @@ pub const PARTS: &[Part] = &[
     Part { name: "repair", make: repair::part::all },
     // what a rename has, with further groups: what a rename answers
     Part { name: "groups", make: groups::part::all },
+    // renames about the sticky bit, some with further groups: what a rename answers
+    Part { name: "sticky", make: sticky::part::all },
 ];
 
 /// The cases of one class, by the numbers that answer them.

@@ -5,4 +5,5 @@ mod groups;
 mod made;
 mod model;
 mod rules;
+mod sticky;
 mod vectors;

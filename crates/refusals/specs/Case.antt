@@ -53,6 +53,13 @@ module _ (v : View) where
   unfoldable pub stickyDenied : Credentials → ℕ → ℕ → Bool
   stickyDenied who d i = sticky d && not (eqb (who .user) 0 || owns who i || owns who d)
 
+  -- on the old side it is asked of the moved inode in its parent; rule 70a: on the new side of the replaced one, if there is one, in the new parent
+  abbrev pub movedStuck : Case → Bool
+  movedStuck c = stickyDenied (c .who) (c .from) (c .moved)
+
+  abbrev pub replacedStuck : Case → Bool
+  replacedStuck c = exists c && stickyDenied (c .who) (c .into) (c .replaced)
+
   -- rule 71, step 7: the moved inode is the new parent, or above it
   abbrev pub insideItself : Case → Bool
   insideItself c = reaches v (c .moved) (v .inodes) (c .into)

@@ -6,7 +6,7 @@ use Rattle.layout.specs.View.{View}
 use Rattle.refusals.specs.declared.case.Answer.{Answer}
 use Rattle.refusals.specs.declared.case.Answer.the-variants.{Refused, Same, Planned}
 use Rattle.refusals.specs.declared.case.Case.{Case}
-use Rattle.refusals.specs.Case.{sameFile, readOnlyParent, otherSystem, mounted, parentDenied, stickyDenied, insideItself, movedDenied, notEmpty, busy, fullParent, noSlot}
+use Rattle.refusals.specs.Case.{sameFile, readOnlyParent, otherSystem, mounted, parentDenied, movedStuck, replacedStuck, insideItself, movedDenied, notEmpty, busy, fullParent, noSlot}
 use Rattle.refusals.specs.Kinds.{TypesFit}
 use Rattle.refusals.specs.Steps.{Rule}
 
@@ -31,7 +31,8 @@ pub record Passed (v : View) (c : Case) : Type 0 where
   pub one-system : otherSystem v c ≡ false
   pub unmounted : mounted v c ≡ false
   pub permitted : parentDenied v c ≡ false
-  pub unstuck : stickyDenied v (c .who) (c .from) (c .moved) ≡ false
+  pub unstuck : movedStuck v c ≡ false
+  pub target-unstuck : replacedStuck v c ≡ false
   pub outside : insideItself v c ≡ false
   pub types : TypesFit v c
   pub movable : movedDenied v c ≡ false

@@ -21,7 +21,7 @@ passes (r ∷ rs) each e = go (passes rs (and-right (not (isPlanned (r .answer))
 pub planned-passed : (v : View) (c : Case) → decide (steps v c) ≡ Planned → Passed v c
 planned-passed v c e =
     let p = passes (steps v c) refl e in
-    let q = p .1 .1 .1 .1 .1 .1 .1 in
+    let q = p .1 .1 .1 .1 .1 .1 .1 .1 in
     record {
       other = p .0;
       writable = p .1 .0;
@@ -29,7 +29,8 @@ planned-passed v c e =
       unmounted = p .1 .1 .1 .0;
       permitted = p .1 .1 .1 .1 .0;
       unstuck = p .1 .1 .1 .1 .1 .0;
-      outside = p .1 .1 .1 .1 .1 .1 .0;
+      target-unstuck = p .1 .1 .1 .1 .1 .1 .0;
+      outside = p .1 .1 .1 .1 .1 .1 .1 .0;
       types = record { other = q .0; directory = q .1 .0; slashed = q .1 .1 .0 };
       movable = q .1 .1 .1 .0;
       empty = q .1 .1 .1 .1 .0;

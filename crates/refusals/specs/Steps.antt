@@ -8,7 +8,7 @@ use Rattle.layout.specs.View.{View}
 use Rattle.refusals.specs.declared.case.Answer.{Answer}
 use Rattle.refusals.specs.declared.case.Answer.the-variants.{Refused, Same, Planned}
 use Rattle.refusals.specs.declared.case.Case.{Case}
-use Rattle.refusals.specs.Case.{sameFile, readOnlyParent, otherSystem, mounted, parentDenied, stickyDenied, insideItself, replacesOther, replacesDirectory, slashedFile, movedDenied, notEmpty, busy, fullParent, noSlot}
+use Rattle.refusals.specs.Case.{sameFile, readOnlyParent, otherSystem, mounted, parentDenied, movedStuck, replacedStuck, insideItself, replacesOther, replacesDirectory, slashedFile, movedDenied, notEmpty, busy, fullParent, noSlot}
 
 -- the number of each answer
 abbrev pub numberOf : Answer → ℕ
@@ -37,7 +37,8 @@ module _ (v : View) (c : Case) where
       ∷ refuse (otherSystem v c) EXDEV
       ∷ refuse (mounted v c) EBUSY
       ∷ refuse (parentDenied v c) EACCES
-      ∷ refuse (stickyDenied v (c .who) (c .from) (c .moved)) EPERM
+      ∷ refuse (movedStuck v c) EPERM
+      ∷ refuse (replacedStuck v c) EPERM
       ∷ refuse (insideItself v c) EINVAL
       ∷ []
 

@@ -13,4 +13,5 @@ case-within h s c f = record {
   moved = isUsed-below h s (c .moved) (f .moved);
   from = isKind-below h s (c .from) 2 (f .from);
   into = isKind-below h s (c .into) 2 (f .into);
+  replaced = λ n. isUsed-below h s (c .replaced) (f .replaced n);
 }

@@ -9,7 +9,7 @@ ghost use mathlib.Core.Path.{_≡_};
 ghost use Prim.Native.Nat.{_<_};
 ghost use Rattle.layout.specs.Facts.{Laid};
 ghost use Rattle.layout.specs.View.{viewOf};
-ghost use Rattle.refusals.specs.Case.{readOnlyParent, otherSystem, mountedIn, mounted, parentDenied, sticky, owns, stickyDenied, insideItself};
+ghost use Rattle.refusals.specs.Case.{readOnlyParent, otherSystem, mountedIn, mounted, parentDenied, sticky, owns, stickyDenied, replacedStuck, insideItself};
 ghost use Rattle.refusals.specs.Within.{Within};
 ghost use Rattle.refusals.specs.Steps.{numberOf, decide, parentRules};
 
@@ -109,6 +109,17 @@ fn sticky_denied(image: &[u8], h: Shape, who: Credentials, d: usize, i: usize) -
     !owns(image, h, who, d)
 }
 
+// Step 6 on the new side: whether the sticky bit of the new parent keeps the caller from what is replaced.
+fn replaced_stuck(image: &[u8], h: Shape, c: Case) -> bool
+    requires { ⌜ Laid h (now image) × Within h c ⌝ }
+    ensures { λ r. ⌜ r ≡ replacedStuck (viewOf h (now (image .entry))) c ⌝ }
+{
+    if c.replaced == limits::ABSENT {
+        return false;
+    }
+    sticky_denied(image, h, c.who, c.into, c.replaced)
+}
+
 // Step 7: the moved inode is the new parent, or above it.
 fn inside_itself(image: &[u8], h: Shape, c: Case) -> bool
     requires { ⌜ Laid h (now image) × Within h c ⌝ }
@@ -135,6 +146,9 @@ pub fn number(image: &[u8], h: Shape, c: Case) -> u8
         return errno::EACCES;
     }
     if sticky_denied(image, h, c.who, c.from, c.moved) {
+        return errno::EPERM;
+    }
+    if replaced_stuck(image, h, c) {
         return errno::EPERM;
     }
     if inside_itself(image, h, c) {

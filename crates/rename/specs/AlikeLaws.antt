@@ -84,6 +84,7 @@ module _ (v : View) (q : Request) {b : Credentials} (alike : Alike (q .who) b) w
         allows-alike v alike (directoryOf (e .new .found)) writeBit,
         allows-alike v alike (inodeOf (e .old .found)) writeBit,
         sticky-alike (directoryOf (e .old .found)) (inodeOf (e .old .found)),
+        sticky-alike (directoryOf (e .new .found)) (inodeOf (e .new .found)),
       )
 
   move-alike : (e : Ends) → moveOf v (caseOf v q e) (q .now) ≡ moveOf v (caseOf v (askedBy q b) e) (q .now)

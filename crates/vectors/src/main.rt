@@ -113,4 +113,5 @@ fn main() {
     run(b"rename");
     run(b"repair");
     run(b"groups");
+    run(b"sticky");
 }

@@ -65,6 +65,6 @@ pub(super) fn case(class: &'static str, tree: &Tree, request: Request, told: Tol
 }
 
 /// The components of a path that leads through no symlink.
-fn components(path: &str) -> u16 {
+pub(super) fn components(path: &str) -> u16 {
     path.split('/').filter(|name| !name.is_empty()).count() as u16
 }

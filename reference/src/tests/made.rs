@@ -1,6 +1,6 @@
 //! The cases of every part, made once for all the tests and read back as a program of the proved library reads them.
 
-use crate::cases::{check, groups, land, rename, repair, walk, Collection};
+use crate::cases::{check, groups, land, rename, repair, sticky, walk, Collection};
 use crate::vectors::{read, Case, Landing, Renaming, Repairing, Walking};
 use std::sync::LazyLock;
 
@@ -58,7 +58,22 @@ pub static RENAMES_WITH_GROUPS: LazyLock<Made<Renaming>> = LazyLock::new(|| {
     })
 });
 
-/// The renames of both parts.
+pub static STICKY_RENAMES: LazyLock<Made<Renaming>> = LazyLock::new(|| {
+    made(sticky::part::all, |case| match case {
+        Case::Rename(renaming) | Case::RenameWithGroups(renaming) => Some(renaming),
+        _ => None,
+    })
+});
+
+/// The parts that have renames.
+const PARTS_OF_RENAMES: [&LazyLock<Made<Renaming>>; 3] = [&RENAMES, &RENAMES_WITH_GROUPS, &STICKY_RENAMES];
+
+/// The renames of every part.
 pub fn all_renames() -> impl Iterator<Item = &'static Renaming> {
-    RENAMES.cases.iter().chain(&RENAMES_WITH_GROUPS.cases)
+    PARTS_OF_RENAMES.into_iter().flat_map(|made| &made.cases)
+}
+
+/// Their lines, in the same order.
+pub fn all_rename_lines() -> impl Iterator<Item = &'static String> {
+    PARTS_OF_RENAMES.into_iter().flat_map(|made| &made.collection.lines)
 }

@@ -1,11 +1,11 @@
 //! The files of vectors: what is read back is what was asked, and the document counts it.
 
-use super::made::{Made, CHECKS, LANDINGS, RENAMES, RENAMES_WITH_GROUPS, REPAIRS, WALKS};
+use super::made::{Made, CHECKS, LANDINGS, RENAMES, RENAMES_WITH_GROUPS, REPAIRS, STICKY_RENAMES, WALKS};
 use crate::cases::{land, rename, repair, walk, Collection, PARTS};
 use crate::model::check::check;
 
 /// Every part by its name, in the order of the answers.
-fn collections() -> [(&'static str, &'static Collection); 6] {
+fn collections() -> [(&'static str, &'static Collection); 7] {
     [
         ("check", &CHECKS.collection),
         ("land", &LANDINGS.collection),
@@ -13,6 +13,7 @@ fn collections() -> [(&'static str, &'static Collection); 6] {
         ("rename", &RENAMES.collection),
         ("repair", &REPAIRS.collection),
         ("groups", &RENAMES_WITH_GROUPS.collection),
+        ("sticky", &STICKY_RENAMES.collection),
     ]
 }
 
@@ -71,5 +72,11 @@ fn the_stored_repairs_have_the_stored_answers() {
 #[test]
 fn the_stored_renames_with_groups_have_the_stored_answers() {
     let Made { cases, collection } = &*RENAMES_WITH_GROUPS;
+    assert_lines(cases, collection, |renaming| rename::part::answer(renaming).1);
+}
+
+#[test]
+fn the_stored_sticky_renames_have_the_stored_answers() {
+    let Made { cases, collection } = &*STICKY_RENAMES;
     assert_lines(cases, collection, |renaming| rename::part::answer(renaming).1);
 }

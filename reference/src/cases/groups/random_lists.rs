@@ -2,12 +2,13 @@
 
 use super::{with, MOST};
 use crate::cases::random::Random;
-use crate::cases::rename::random_renames::straight;
+use crate::cases::rename::random_renames::{stopped_by, straight};
 use crate::cases::rename::{RenameCase, RenameCases, NOW};
 use crate::cases::trees::builder::Tree;
 use crate::cases::walk::random_walks::{operand, set_modes_and_texts};
+use crate::model::numbers::DONE;
 use crate::model::plan::PLAN_LEN;
-use crate::model::rename::{rename, Answer};
+use crate::model::rename::rename;
 use crate::model::request::Request;
 use crate::model::walk::PATH_MAX;
 
@@ -22,7 +23,7 @@ const MODES: [u16; 8] = [0o770, 0o777, 0o707, 0o1770, 0o731, 0o713, 0o075, 0o757
 const LONGEST: usize = MOST + 2;
 
 /// Every other request is taken as it comes. For one in four tries are made until the list decides, and for one in four
-/// until it also lets a rename have rows.
+/// until it also lets a rename go through.
 const TRIES: usize = 400;
 
 fn list(random: &mut Random) -> Vec<u32> {
@@ -63,8 +64,10 @@ fn without_list(case: &RenameCase) -> RenameCase {
     without
 }
 
-fn answer(case: &RenameCase) -> Answer {
-    rename(&case.image, &case.request, case.now, &mut [0; PLAN_LEN])
+/// The number and both counts, as far as the choice goes by them.
+fn answer(case: &RenameCase) -> (u8, [u16; 2]) {
+    let steps = rename(&case.image, &case.request, case.now, &mut [0; PLAN_LEN]).steps;
+    (stopped_by(case).map_or(DONE, |refusal| refusal.number), steps)
 }
 
 fn list_decides(case: &RenameCase) -> bool {
@@ -72,7 +75,7 @@ fn list_decides(case: &RenameCase) -> bool {
 }
 
 fn list_lets_rename(case: &RenameCase) -> bool {
-    list_decides(case) && answer(case).rows != 0
+    list_decides(case) && stopped_by(case).is_none()
 }
 
 /// Paths are stored whole, so none is let be longer than any that can be walked.

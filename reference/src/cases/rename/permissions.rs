@@ -106,14 +106,17 @@ fn sticky_case(
     if let Some(&inode) = owned.and_then(|owned| inodes.get(owned)) {
         tree.inodes[inode].owner = SOMEBODY;
     }
-    let allowed = who.user == 0 || matches!((who.user, owned), (SOMEBODY, Some(0 | 1)) | (OWNER, _));
-    let told = if sticky[0] && !allowed { Told::refused(EPERM) } else { Told { number: 0, rows, steps: None } };
+    let may_take = who.user == 0 || matches!((who.user, owned), (SOMEBODY, Some(0 | 1)) | (OWNER, _));
+    let may_replace = who.user == 0 || matches!((who.user, owned), (SOMEBODY, Some(2 | 3)) | (OWNER, _));
+    let replaces = inodes.len() == 4;
+    let refused = sticky[0] && !may_take || sticky[1] && replaces && !may_replace;
+    let told = if refused { Told::refused(EPERM) } else { Told { number: 0, rows, steps: None } };
     let mut request = request(old, new);
     request.who = who;
     case("sticky bit", &tree, request, told)
 }
 
-/// The owner of the tree has lost one inode at most, and so owns the moved one or its parent.
+/// The owner of the tree has lost one inode at most, and so owns the moved one or its parent, and the replaced one or its.
 fn sticky() -> RenameCases {
     let callers = [(SOMEBODY, SOMEBODY), (SOMEBODY, GROUP), (SOMEBODY, 0), (OWNER, GROUP), (0, 0), (0, SOMEBODY)];
     let mut cases = vec![];

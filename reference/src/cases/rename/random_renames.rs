@@ -5,17 +5,19 @@ use crate::cases::random::Random;
 use crate::cases::trees::builder::{Handle, Tree};
 use crate::cases::walk::lookups::way_to;
 use crate::cases::walk::random_walks::operand;
-use crate::model::image::FREE;
+use crate::model::image::{Image, FREE};
 use crate::model::permission::Credentials;
 use crate::model::plan::PLAN_LEN;
-use crate::model::rename::rename;
+use crate::model::refusal::Refusal;
+use crate::model::rename::call::Call;
+use crate::model::rename::order::all_that_apply;
 use crate::model::request::{Operand, Request, CURRENT};
 use crate::model::walk::PATH_MAX;
 
 const USERS: [u32; 6] = [0, 0, 100, 100, 200, 300];
 const MODES: [u16; 6] = [0o777, 0o1777, 0o1777, 0o555, 0o755, 0o700];
 
-/// Half of the requests are taken as they come; for the others tries are made until one has rows.
+/// Half of the requests are taken as they come; for the others tries are made until nothing stops one.
 const TRIES: usize = 60;
 
 /// A path straight from root to an entry, or to a name that is free.
@@ -70,8 +72,12 @@ fn attempt(tree: &Tree, random: &mut Random) -> RenameCase {
     RenameCase { class: "random renames", image: tree.encode(), buffer: None, request, now: time(random), told: None }
 }
 
-pub fn has_rows(case: &RenameCase) -> bool {
-    rename(&case.image, &case.request, case.now, &mut [0; PLAN_LEN]).rows != 0
+/// What stops a rename, by which random ones are chosen. The new side of step 6 does not: it came to be asked after these
+/// renames were chosen, and they stay what they are.
+pub fn stopped_by(case: &RenameCase) -> Option<Refusal> {
+    let image = Image::read(&case.image);
+    let all = all_that_apply(&Call::new(&case.image, image.as_ref(), &case.request, PLAN_LEN));
+    all.into_iter().map(|(_, refusal)| refusal).find(|refusal| refusal.clause != "into is sticky")
 }
 
 /// Paths are stored whole, so few of them are let be longer than any that can be walked.
@@ -85,7 +91,7 @@ pub fn cases(tree: &Tree, count: usize, random: &mut Random) -> RenameCases {
         let tries = if cases.len() % 2 == 0 { 1 } else { TRIES };
         let mut best = attempt(tree, random);
         for _ in 1..tries {
-            if is_short(&best) && has_rows(&best) {
+            if is_short(&best) && stopped_by(&best).is_none() {
                 break;
             }
             best = attempt(tree, random);

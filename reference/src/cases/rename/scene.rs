@@ -161,7 +161,8 @@ impl Scene {
         place && replaced && one_area && in_use && slash && owned
     }
 
-    /// The steps that apply, with the number of each; none does where the rename has rows.
+    /// The steps that apply, with the number of each, but for the new side of step 6: scenes were chosen by these steps
+    /// before that side was asked, and stay chosen.
     pub fn steps(&self) -> Vec<(u8, u8)> {
         let (moved, replaced) = (self.moves_a_directory(), self.replaces_a_directory());
         let in_mount = self.place == BelowMount || (self.place, self.moved) == (Itself, Mount);
@@ -192,6 +193,21 @@ impl Scene {
             (13, self.replaced == Nothing && self.no_free_slot, ENOSPC),
         ];
         steps.into_iter().filter(|(_, applies, _)| *applies).map(|(step, _, number)| (step, number)).collect()
+    }
+
+    /// The new side of step 6: the sticky directory is into as well, and holds replaced.
+    fn into_is_sticky(&self) -> bool {
+        let owns_replaced = self.is_one_inode() && self.owned[0];
+        let kept = self.caller == Caller::Other && !owns_replaced && !self.owned[1];
+        self.sticky && self.place == SameParent && self.replaced != Nothing && kept
+    }
+
+    /// The number of the first step that applies; none does where the rename has rows.
+    fn refusal(&self) -> Option<u8> {
+        let steps = self.steps();
+        let is_ahead = |step: u8| step <= 6 || !self.into_is_sticky();
+        let first = steps.first().filter(|(step, _)| is_ahead(*step)).map(|(_, number)| *number);
+        first.or(self.into_is_sticky().then_some(EPERM))
     }
 
     fn old_path(&self) -> String {
@@ -275,8 +291,8 @@ impl Scene {
             request.current = inode_at(home, &self.new_path());
         }
         let steps = Some([components(&self.old_path()), components(&self.new_path())]);
-        let told = match self.steps().first() {
-            Some(&(_, number)) => Told { number, rows: 0, steps },
+        let told = match self.refusal() {
+            Some(number) => Told { number, rows: 0, steps },
             None => Told { number: 0, rows: self.rows(), steps },
         };
         case(class, &self.tree(home), request, told)

@@ -1,6 +1,6 @@
 //! Where the new name goes: the lowest slot that is free.
 
-use super::random_renames::{has_rows, straight};
+use super::random_renames::{stopped_by, straight};
 use super::{case, request, RenameCase, RenameCases, Told, NOW};
 use crate::cases::damage::subject::spread;
 use crate::cases::random::Random;
@@ -80,7 +80,7 @@ fn to_a_free_name(tree: &Tree, random: &mut Random) -> RenameCase {
         let request = Request { who: Credentials::new(SUPERUSER, 0), current: 0, old, new };
         RenameCase { class: CLASS, image: tree.encode(), buffer: None, request, now: NOW, told: None }
     };
-    std::iter::repeat_with(any).find(has_rows).expect("some rename is not refused")
+    std::iter::repeat_with(any).find(|case| stopped_by(case).is_none()).expect("some rename is not refused")
 }
 
 #[cfg(test)]

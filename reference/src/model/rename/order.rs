@@ -9,7 +9,7 @@ use crate::model::numbers::{
     INCONSISTENT, JOURNAL_PENDING,
 };
 use crate::model::plan::PLAN_LEN;
-use crate::model::refusal::Refusal;
+use crate::model::refusal::{Refusal, Rule};
 
 /// The places in the order; step 1 is the one behind new's walk.
 #[derive(Clone, Copy, Debug, PartialEq, Eq, PartialOrd, Ord)]
@@ -33,11 +33,16 @@ pub enum Test {
 }
 
 const fn step(rule: u8, clause: &'static str, number: u8, applies: fn(&Parts) -> bool) -> (Place, Test) {
-    (Place::Step(rule - 64), Test::Parts(Refusal::new(rule, clause, number), applies))
+    step_of(Rule::new(rule), clause, number, applies)
+}
+
+/// A rule with a letter belongs to the step of the rule that it stands behind.
+const fn step_of(rule: Rule, clause: &'static str, number: u8, applies: fn(&Parts) -> bool) -> (Place, Test) {
+    (Place::Step(rule.number - 64), Test::Parts(Refusal { rule, clause, number }, applies))
 }
 
 /// Every test in its order. A step that has several clauses is several tests; step 1 is no refusal but stops there too.
-pub const ORDER: [(Place, Test); 27] = [
+pub const ORDER: [(Place, Test); 28] = [
     (Place::Buffer, Test::Call(short_buffer)),
     (Place::Layout, Test::Call(bad_layout)),
     (Place::Journal, Test::Call(pending_journal)),
@@ -53,7 +58,8 @@ pub const ORDER: [(Place, Test); 27] = [
     step(68, "replaced is a mount point", EBUSY, steps::replaced_is_a_mount_point),
     step(69, "write denied on from", EACCES, steps::write_denied_on_from),
     step(69, "write denied on into", EACCES, steps::write_denied_on_into),
-    step(70, "sticky directory", EPERM, steps::sticky_directory),
+    step(70, "from is sticky", EPERM, steps::from_is_sticky),
+    step_of(Rule::behind(70, 'a'), "into is sticky", EPERM, steps::into_is_sticky),
     step(71, "moved is into", EINVAL, steps::moved_is_into),
     step(71, "moved is above into", EINVAL, steps::moved_is_above_into),
     step(72, "a directory onto none", ENOTDIR, steps::directory_onto_none),

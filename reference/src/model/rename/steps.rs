@@ -7,7 +7,7 @@ use crate::model::permission::{may_write, SUPERUSER};
 /// The lowest of the file systems that are read-only.
 const READ_ONLY: u8 = 128;
 
-/// The mode bit of a directory in which only owners may rename.
+/// The mode bit of a directory in which names are taken from their inodes by owners only.
 const STICKY: u16 = 512;
 
 /// Old and new are names of one inode, and both stay.
@@ -52,10 +52,20 @@ pub fn write_denied_on_into(parts: &Parts) -> bool {
     !may_write(parts.who, parts.inode(parts.new_parent))
 }
 
-pub fn sticky_directory(parts: &Parts) -> bool {
-    let parent = parts.inode(parts.old_parent);
-    let allowed = [SUPERUSER, parts.inode(parts.moved.inode).owner(), parent.owner()];
-    parent.mode() & STICKY != 0 && !allowed.contains(&parts.who.user)
+/// Whether the sticky bit of a directory keeps an inode that it holds from the user.
+fn is_kept_by_sticky_bit(parts: &Parts, inode: u16, holder: u16) -> bool {
+    let holder = parts.inode(holder);
+    let allowed = [SUPERUSER, parts.inode(inode).owner(), holder.owner()];
+    holder.mode() & STICKY != 0 && !allowed.contains(&parts.who.user)
+}
+
+pub fn from_is_sticky(parts: &Parts) -> bool {
+    is_kept_by_sticky_bit(parts, parts.moved.inode, parts.old_parent)
+}
+
+/// A name that is free keeps nothing from anybody.
+pub fn into_is_sticky(parts: &Parts) -> bool {
+    parts.replaced.is_some_and(|replaced| is_kept_by_sticky_bit(parts, replaced.inode, parts.new_parent))
 }
 
 pub fn moved_is_into(parts: &Parts) -> bool {

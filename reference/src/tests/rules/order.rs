@@ -1,13 +1,13 @@
-//! The order of refusal, rules 63 to 77: each clause is some rename's answer, and neighbours meet.
+//! The order of refusal, rules 63 to 77 with 70a: each clause is some rename's answer, and neighbours meet.
 
 use crate::model::image::Image;
 use crate::model::layout::{Layout, CONTENTS_LEN, ROW_LEN, SECTIONS};
-use crate::model::refusal::Refusal;
+use crate::model::refusal::{Refusal, Rule};
 use crate::model::rename::call::Call;
 use crate::model::rename::order::{all_that_apply, Place, Test, ORDER};
 use crate::model::walk;
 use crate::model::{numbers::DONE, request};
-use crate::tests::made::{all_renames, RENAMES, RENAMES_WITH_GROUPS};
+use crate::tests::made::{all_rename_lines, all_renames};
 use crate::vectors::Renaming;
 use std::collections::BTreeSet;
 use std::sync::LazyLock;
@@ -24,8 +24,7 @@ fn applying(Renaming { image, buffer, request, .. }: &Renaming) -> Applying {
 
 #[test]
 fn the_first_that_applies_is_the_answer() {
-    let lines = [&RENAMES, &RENAMES_WITH_GROUPS].into_iter().flat_map(|made| &made.collection.lines);
-    for (all, line) in APPLYING.iter().zip(lines) {
+    for (all, line) in APPLYING.iter().zip(all_rename_lines()) {
         let number = all.first().map_or(DONE, |(_, refusal)| refusal.number);
         assert_eq!(line.split(' ').next(), Some(number.to_string().as_str()));
     }
@@ -80,7 +79,7 @@ fn behind_the_first(renaming: &Renaming, all: &Applying) -> Applying {
             Some(image) => mended.image = image,
             None => return vec![],
         },
-        Some((Place::NewWalk, refusal)) if refusal.rule == 60 => {
+        Some((Place::NewWalk, refusal)) if refusal.rule == Rule::new(60) => {
             let end = mended.request.new.path.iter().rposition(|&byte| byte != b'/').map_or(0, |last| last + 1);
             mended.request.new.path.truncate(end);
         }

@@ -1,7 +1,7 @@
 //! Rules 42 and 46 to 60: each refuses some request, as old and as new.
 
 use crate::model::image::Image;
-use crate::model::refusal::Refusal;
+use crate::model::refusal::{Refusal, Rule};
 use crate::model::request;
 use crate::model::walk::{walk, Role, REFUSALS};
 use crate::tests::made::WALKS;
@@ -28,7 +28,7 @@ fn every_refusal_of_a_walk_is_given() {
     let of_paths = REFUSALS.iter().flat_map(|&refusal| [(refusal, "old"), (refusal, "new")]);
     let of_requests = request::REFUSALS.iter().map(|&(refusal, _)| (refusal, "both"));
     let mut expected: BTreeSet<_> = of_paths.chain(of_requests).collect();
-    expected.retain(|&(it, of)| (it.rule, of) != (59, "new") && it.clause != "too many groups");
+    expected.retain(|&(it, of)| (it.rule, of) != (Rule::new(59), "new") && it.clause != "too many groups");
     assert_eq!(given, expected);
 }
 

@@ -49,7 +49,13 @@ abbrev start-6 : tie.Else6 → tie.Start
 start-6 c = start-5 (c .before .before)
 
 past-6 : (c : tie.Else6) → decide (rules (start-6 c)) ≡ decide (drop 6 (rules (start-6 c)))
-past-6 c = past-5 (c .before .before) ∙ rw (sym (c .before .inside-itself .ensures) ∙ c .if6 .left)
+past-6 c = past-5 (c .before .before) ∙ rw (sym (c .before .replaced-stuck .ensures) ∙ c .if6 .left)
+
+abbrev start-7 : tie.Else7 → tie.Start
+start-7 c = start-6 (c .before .before)
+
+past-7 : (c : tie.Else7) → decide (rules (start-7 c)) ≡ decide (drop 7 (rules (start-7 c)))
+past-7 c = past-6 (c .before .before) ∙ rw (sym (c .before .inside-itself .ensures) ∙ c .if7 .left)
 
 read-only-requires : tie.Need-read-only-requires
 read-only-requires c κs = search needs
@@ -81,14 +87,20 @@ sticky-denied-requires c κs = search needs
 returns-5 : tie.Need-returns-5
 returns-5 c = rw (past-4 (c .before .before), sym (c .before .sticky-denied .ensures) ∙ c .if5 .taken)
 
+replaced-stuck-requires : tie.Need-replaced-stuck-requires
+replaced-stuck-requires c κs = search needs
+
+returns-6 : tie.Need-returns-6
+returns-6 c = rw (past-5 (c .before .before), sym (c .before .replaced-stuck .ensures) ∙ c .if6 .taken)
+
 inside-itself-requires : tie.Need-inside-itself-requires
 inside-itself-requires c κs = search needs
 
-returns-6 : tie.Need-returns-6
-returns-6 c = rw (past-5 (c .before .before), sym (c .before .inside-itself .ensures) ∙ c .if6 .taken)
-
 returns-7 : tie.Need-returns-7
-returns-7 c = rw (past-6 c)
+returns-7 c = rw (past-6 (c .before .before), sym (c .before .inside-itself .ensures) ∙ c .if7 .taken)
+
+returns-8 : tie.Need-returns-8
+returns-8 c = rw (past-7 c)
 
 pub number-spec : {M : Type 1} → statement M
 number-spec =
@@ -104,6 +116,8 @@ number-spec =
     returns-4
     sticky-denied-requires
     returns-5
-    inside-itself-requires
+    replaced-stuck-requires
     returns-6
-    returns-7)
+    inside-itself-requires
+    returns-7
+    returns-8)
