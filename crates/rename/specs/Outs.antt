@@ -104,7 +104,7 @@ module _ (s plan : List ℕ) (q : Request) (old new : List ℕ) where
           refused-same n = sym (ap (λ (b : Bool). cond b (newWalk (viewOf h s) q new) (halt (ends .old .number)) .number) (ne-eqb (ends .old .number) 0 n))
 
           -- the answer that the late part gives
-          abbrev pub answerWith : Answer → Renamed
+          abbrev answerWith : Answer → Renamed
           answerWith a = record { number = numberOf a; rows = rowsBy s plan q old new a; old = ends .old .steps; new = ends .new .steps }
 
           late-answered : (a : Answer) → decide (late s plan q old new) ≡ a → RenameAnswers s plan q old new (answerWith a) (planBy s plan q old new a)
