@@ -2,13 +2,11 @@
 
 use crate::cases::groups::{group_numbers, handles, one_class, places, random_lists, sticky, too_many, ways};
 use crate::cases::random::Random;
-use crate::cases::rename::part::played;
-use crate::cases::rename::RenameCases;
-use crate::cases::trees::builder::Tree;
 use crate::cases::trees::for_renames::rename_tree;
 use crate::cases::trees::generated::{generate, small_aim};
 use crate::cases::trees::samples::every_state;
 use crate::cases::Collection;
+use crate::vectors::Writer;
 
 const SMALL_TREES: u64 = 5;
 const ON_A_TREE: usize = 24;
@@ -26,24 +24,12 @@ pub fn all() -> Collection {
         handles::cases(),
         sticky::cases(),
     ];
-    collection.add_with_groups(&rename_tree(), on_the_rename_tree.concat());
+    collection.add_played(&rename_tree(), on_the_rename_tree.concat(), Writer::rename_with_groups);
     let small = (0..SMALL_TREES).map(|seed| generate(small_aim(&mut Random::new(400 + seed)), seed));
     for tree in std::iter::once(every_state()).chain(small) {
         let tree = random_lists::arranged(tree, random);
-        collection.add_with_groups(&tree, random_lists::cases(&tree, ON_A_TREE, random));
+        let cases = random_lists::cases(&tree, ON_A_TREE, random);
+        collection.add_played(&tree, cases, Writer::rename_with_groups);
     }
     collection
-}
-
-impl Collection {
-    /// Cases on images that are near a tree's.
-    fn add_with_groups(&mut self, home: &Tree, cases: RenameCases) {
-        let home = home.encode();
-        for case in cases {
-            let class = case.class;
-            let (renaming, number, line) = played(case, self.lines.len());
-            self.writer.rename_with_groups(&home, &renaming);
-            self.count(class, number, line);
-        }
-    }
 }

@@ -2,10 +2,10 @@
 
 use super::{with, MOST};
 use crate::cases::random::Random;
-use crate::cases::rename::random_renames::{stopped_by, straight};
+use crate::cases::rename::random_renames::{stopped_by, two_paths};
 use crate::cases::rename::{RenameCase, RenameCases, NOW};
 use crate::cases::trees::builder::Tree;
-use crate::cases::walk::random_walks::{operand, set_modes_and_texts};
+use crate::cases::walk::random_walks::set_modes_and_texts;
 use crate::model::numbers::DONE;
 use crate::model::plan::PLAN_LEN;
 use crate::model::rename::rename;
@@ -50,9 +50,7 @@ fn attempt(tree: &Tree, random: &mut Random) -> RenameCase {
     for _ in 0..random.below(4) {
         tree.inodes[usize::from(*random.pick(&directories))].mode = *random.pick(&MODES);
     }
-    let old = if random.one_in(3) { operand(&tree, current, 4, random) } else { straight(&tree, false, random) };
-    let fresh = random.one_in(2);
-    let new = if random.one_in(3) { operand(&tree, current, 4, random) } else { straight(&tree, fresh, random) };
+    let (old, new) = two_paths(&tree, current, 3, random);
     let who = with(*random.pick(&USERS), *random.pick(&GROUPS), &list(random));
     let request = Request { who, current, old, new };
     RenameCase { class: "random lists", image: tree.encode(), buffer: None, request, now: NOW, told: None }

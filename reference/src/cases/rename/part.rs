@@ -13,7 +13,7 @@ use crate::cases::trees::generated::{generate, small_aim, FULL, SPARSE};
 use crate::cases::trees::samples::{every_state, many_names};
 use crate::cases::{walk, Collection};
 use crate::model::rename::{rename, Answer};
-use crate::vectors::{checksum, Buffer, Renaming};
+use crate::vectors::{checksum, Buffer, Renaming, Writer};
 
 const SMALL_TREES: u64 = 10;
 
@@ -68,13 +68,17 @@ impl Collection {
         self.add_renames(&tree, slots::in_a_full_tree(&tree, random));
     }
 
-    /// Cases on images that are near a tree's.
     fn add_renames(&mut self, home: &Tree, cases: RenameCases) {
+        self.add_played(home, cases, Writer::rename);
+    }
+
+    /// Cases on images that are near a tree's, in the form in which they are to be stored.
+    pub fn add_played(&mut self, home: &Tree, cases: RenameCases, store: fn(&mut Writer, &[u8], &Renaming)) {
         let home = home.encode();
         for case in cases {
             let class = case.class;
             let (renaming, number, line) = played(case, self.lines.len());
-            self.writer.rename(&home, &renaming);
+            store(&mut self.writer, &home, &renaming);
             self.count(class, number, line);
         }
     }
@@ -82,7 +86,7 @@ impl Collection {
 
 /// What is stored of a case, its number and its line. Where it asks for no buffer, some take turns. It panics where the
 /// case is not answered as its table tells.
-pub fn played(case: RenameCase, turn: usize) -> (Renaming, u8, String) {
+fn played(case: RenameCase, turn: usize) -> (Renaming, u8, String) {
     let any = Buffer { len: LENGTHS[turn % LENGTHS.len()], fill: (37 * turn) as u8 };
     let buffer = case.buffer.unwrap_or(any);
     let renaming = Renaming { image: case.image, buffer, request: case.request, now: case.now };

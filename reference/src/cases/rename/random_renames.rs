@@ -44,6 +44,14 @@ fn time(random: &mut Random) -> u64 {
     }
 }
 
+/// Old and new: of so many one is a path of any kind, and the others lead straight; half of the new names are free.
+pub fn two_paths(tree: &Tree, current: u16, any_of: usize, random: &mut Random) -> (Operand, Operand) {
+    let old = if random.one_in(any_of) { operand(tree, current, 4, random) } else { straight(tree, false, random) };
+    let fresh = random.one_in(2);
+    let new = if random.one_in(any_of) { operand(tree, current, 4, random) } else { straight(tree, fresh, random) };
+    (old, new)
+}
+
 /// Opens some handle, if the tree has any, on some inode.
 fn open_one(tree: &mut Tree, random: &mut Random) {
     let used: Vec<u16> = (0..tree.inodes.len() as u16).filter(|&inode| tree.kind(inode) != FREE).collect();

@@ -1,14 +1,12 @@
 //! All cases about the sticky bit: which images, and how many requests of each kind on them.
 
 use crate::cases::random::Random;
-use crate::cases::rename::part::played;
-use crate::cases::rename::RenameCases;
 use crate::cases::sticky::{exempt, modes, nearly_exempt, one_directory, order, random_trees, replaced, sides};
-use crate::cases::trees::builder::Tree;
 use crate::cases::trees::for_renames::rename_tree;
 use crate::cases::trees::generated::{generate, small_aim};
 use crate::cases::trees::samples::every_state;
 use crate::cases::Collection;
+use crate::vectors::{Renaming, Writer};
 
 /// Generated trees with some directories, so that there is much to rename.
 const SMALL_TREES: usize = 5;
@@ -28,29 +26,21 @@ pub fn all() -> Collection {
         modes::cases(),
         order::cases(),
     ];
-    collection.add_sticky(&rename_tree(), on_the_rename_tree.concat());
+    collection.add_played(&rename_tree(), on_the_rename_tree.concat(), store);
     let random = &mut Random::new(14);
     let generated = (0..).map(|seed| generate(small_aim(&mut Random::new(500 + seed)), seed));
     let small = generated.filter(|tree| tree.directories().len() >= FEWEST_DIRECTORIES).take(SMALL_TREES);
     for tree in std::iter::once(every_state()).chain(small) {
         let tree = random_trees::arranged(tree, random);
-        collection.add_sticky(&tree, random_trees::cases(&tree, ON_A_TREE, random));
+        collection.add_played(&tree, random_trees::cases(&tree, ON_A_TREE, random), store);
     }
     collection
 }
 
-impl Collection {
-    /// Cases on images that are near a tree's. Only those whose caller has further groups are stored with a list.
-    fn add_sticky(&mut self, home: &Tree, cases: RenameCases) {
-        let home = home.encode();
-        for case in cases {
-            let class = case.class;
-            let (renaming, number, line) = played(case, self.lines.len());
-            match renaming.request.who.further.is_empty() {
-                true => self.writer.rename(&home, &renaming),
-                false => self.writer.rename_with_groups(&home, &renaming),
-            }
-            self.count(class, number, line);
-        }
+/// Only where the caller has further groups is a list stored.
+fn store(writer: &mut Writer, home: &[u8], renaming: &Renaming) {
+    match renaming.request.who.further.is_empty() {
+        true => writer.rename(home, renaming),
+        false => writer.rename_with_groups(home, renaming),
     }
 }

@@ -2,10 +2,10 @@
 
 use super::STICKY;
 use crate::cases::random::Random;
-use crate::cases::rename::random_renames::straight;
+use crate::cases::rename::random_renames::two_paths;
 use crate::cases::rename::{RenameCase, RenameCases, NOW};
 use crate::cases::trees::builder::Tree;
-use crate::cases::walk::random_walks::{operand, set_modes_and_texts};
+use crate::cases::walk::random_walks::set_modes_and_texts;
 use crate::model::image::{Image, FREE};
 use crate::model::permission::Credentials;
 use crate::model::plan::PLAN_LEN;
@@ -49,9 +49,7 @@ fn attempt(tree: &Tree, random: &mut Random) -> RenameCase {
             tree.inodes[any].owner = *random.pick(&OWNERS);
         }
     }
-    let old = if random.one_in(4) { operand(&tree, current, 4, random) } else { straight(&tree, false, random) };
-    let fresh = random.one_in(2);
-    let new = if random.one_in(4) { operand(&tree, current, 4, random) } else { straight(&tree, fresh, random) };
+    let (old, new) = two_paths(&tree, current, 4, random);
     let who = Credentials::new(*random.pick(&USERS), *random.pick(&GROUPS));
     let request = Request { who, current, old, new };
     RenameCase { class: CLASS, image: tree.encode(), buffer: None, request, now: NOW, told: None }
