@@ -45,8 +45,6 @@ module _ {𝓢 : Store} (𝓒 : Change 𝓢) where
   step-phase s (crash b) n = absurd n
 
 module _ {𝓢 : Store} {recover : RecoverOf 𝓢} where
-  -- ---- the claim
-
   -- ---- the proof
 
   none-left : {X : 𝓢 .Img} (c : Chain 𝓢 recover X) → ChainEnded c → calls c ≡ 0

@@ -19,8 +19,6 @@ use Rattle.crash_theorem.specs.Chain.{Last, ChainEnded}
 use Rattle.crash_theorem.specs.ChainLaws.{queue, chain-along}
 use Rattle.crash_theorem.specs.QueuePlaces.{Item, numbered, precedes, unblocked, permits, permitted, comes, eventCounts, laterRows, stillQueued, PlacesAgree}
 
--- ---- the rule
-
 -- ---- tests
 
 same-test : (a b : Bool) → (T a → T b) → (T b → T a) → a ≡ b

@@ -1,4 +1,4 @@
--- What a number names in a view: facts from tests, and one from another. Assumes nothing.
+-- What a number names in a view: one fact from another, and facts that can be decided. Assumes nothing.
 use mathlib.Core.Logic.{_⊎_, inl, inr, ⊎-elim, Dec·and, Dec·not}
 use Prim.Native.Nat.{ℕ}
 use native.Mathlib.Decide.{ℕ-discrete, decLt}

@@ -1,4 +1,4 @@
--- What follows at once from an allowed rename over views. Assumes nothing.
+-- Whether an inode is replaced, and whether it is gone, can be decided. Assumes nothing.
 use mathlib.Core.Logic.{Dec·and}
 use Prim.Native.Nat.{ℕ}
 use native.Mathlib.Decide.{ℕ-discrete}

@@ -27,7 +27,7 @@ fn pack(r: Renamed) -> u64
     (r.number as u64) + 256 * (r.rows as u64) + 65536 * (r.old as u64) + 4294967296 * (r.new as u64)
 }
 
-// The job rename. Further groups beside the effective one are given as a list, of which none is read where it is too long. The starts of old and new are from and into.
+// The job rename. The groups are those beside the effective one; of a list that is too long none is read. The starts of old and new are from and into.
 #[no_mangle]
 pub extern "C" fn mp_rename(
     image: &[u8],

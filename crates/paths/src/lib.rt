@@ -1,4 +1,4 @@
-// Requests, permission, names looked up, and the components of a path.
+// Requests, the groups of a caller, permission, names looked up, and the components of a path.
 pub mod find;
 pub mod groups;
 pub mod path;
