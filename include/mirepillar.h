@@ -43,7 +43,7 @@ enum {
     MP_EMLINK = 31,
     MP_ENAMETOOLONG = 36,
     MP_ENOTEMPTY = 39,
-    MP_ELOOP = 40,
+    MP_ELOOP = 40,           /* a path leads through more than 40 symlinks */
     MP_UNSOUND = 201,        /* the image is not consistent */
     MP_WRONG_REQUEST = 202,  /* the current directory is none, a path has a byte 0, or too many groups */
     MP_PENDING = 203,        /* the journal record is not zero: repair first */

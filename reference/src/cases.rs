@@ -4,6 +4,7 @@ pub mod check;
 pub mod damage;
 pub mod groups;
 pub mod land;
+pub mod links;
 pub mod random;
 pub mod rename;
 pub mod repair;
@@ -37,6 +38,8 @@ pub const PARTS: &[Part] = &[
     Part { name: "groups", make: groups::part::all },
     // renames about the sticky bit, some with further groups: what a rename answers
     Part { name: "sticky", make: sticky::part::all },
+    // walks and renames through many symlinks: what a walk and what a rename answers
+    Part { name: "links", make: links::part::all },
 ];
 
 /// The cases of one class, by the numbers that answer them.

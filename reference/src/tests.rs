@@ -2,6 +2,7 @@
 
 mod effects;
 mod groups;
+mod links;
 mod made;
 mod model;
 mod rules;

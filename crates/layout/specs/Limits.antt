@@ -84,7 +84,7 @@ pathBytes = 256
 
 -- rule 56: how many symlinks one path may lead through
 abbrev pub symlinkLimit : ℕ
-symlinkLimit = 8
+symlinkLimit = 40
 
 -- how many components a path can have: each has a byte and, but for the last, a slash
 abbrev pub pathComponents : ℕ

@@ -54,4 +54,4 @@ pub const PATH_LIMIT: usize = 255;
 pub const PATH_BYTES: usize = 256;
 
 // The symlinks that one path may lead through.
-pub const SYMLINK_LIMIT: usize = 8;
+pub const SYMLINK_LIMIT: usize = 40;

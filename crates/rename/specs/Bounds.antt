@@ -1,4 +1,4 @@
--- The parts of the job's answer are small: no more rows than a plan holds, and no walk of more than 1,152 component checks (rule 61). Assumes nothing.
+-- The parts of the job's answer are small: no more rows than a plan holds, and no walk of more than 5,248 component checks (rule 61). Assumes nothing.
 use mathlib.Core.Path.{sym, subst}
 use mathlib.Core.List.{List, [], _∷_}
 use Prim.Native.Nat.{ℕ, _≤_, zero-le}

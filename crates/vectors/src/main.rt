@@ -114,4 +114,5 @@ fn main() {
     run(b"repair");
     run(b"groups");
     run(b"sticky");
+    run(b"links");
 }

@@ -21,7 +21,7 @@ use Rattle.walk.specs.WalkLaws.{by-walk}
 use Rattle.walk.specs.Budget.{Goes, After, budget, Ready, Leads, ending, going}
 
 -- rule 61 in a number: it moves with `symlinkLimit`, and stands in no other definition or law
-pub step-limit : stepLimit ≡ 1152
+pub step-limit : stepLimit ≡ 5248
 step-limit = refl
 
 -- every step counts, and goes on so if it does

@@ -9,7 +9,7 @@ use super::request::{Operand, Request, CURRENT};
 pub const PATH_MAX: usize = 255;
 
 /// Symlinks that one path may lead through.
-pub const FOLLOWED_MAX: usize = 8;
+pub const FOLLOWED_MAX: usize = 40;
 
 /// What a walk is refused for, in the order in which it is asked: of the path, of each component, of a name that is
 /// passed through, and of the final one.
@@ -22,7 +22,7 @@ const NO_SEARCH: Refusal = Refusal::new(51, "search denied", EACCES);
 const LONG_NAME: Refusal = Refusal::new(52, "long component", ENAMETOOLONG);
 const FINAL_DOT: Refusal = Refusal::new(53, "final dot", EINVAL);
 const MISSING: Refusal = Refusal::new(54, "missing before the final one", ENOENT);
-const NINTH_SYMLINK: Refusal = Refusal::new(56, "ninth symlink", ELOOP);
+const TOO_MANY_SYMLINKS: Refusal = Refusal::new(56, "too many symlinks", ELOOP);
 const LONG_JOIN: Refusal = Refusal::new(57, "long joined path", ENAMETOOLONG);
 const FINAL_MISSING: Refusal = Refusal::new(59, "final one missing", ENOENT);
 const SLASH_BEHIND: Refusal = Refusal::new(60, "slash behind no directory", ENOTDIR);
@@ -38,7 +38,7 @@ pub const REFUSALS: [Refusal; 13] = [
     LONG_NAME,
     FINAL_DOT,
     MISSING,
-    NINTH_SYMLINK,
+    TOO_MANY_SYMLINKS,
     LONG_JOIN,
     FINAL_MISSING,
     SLASH_BEHIND,
@@ -68,10 +68,12 @@ pub struct Found {
     pub slash: bool,
 }
 
-/// A walk's end or refusal, and the component checks begun by then (rule 61).
+/// A walk's end or refusal, the component checks begun by then (rule 61), and the symlinks met before the final name (rule 55),
+/// the one that was too many among them.
 #[derive(Clone, Debug, PartialEq, Eq)]
 pub struct Walk {
     pub steps: u16,
+    pub followed: usize,
     pub end: Result<Found, Refusal>,
 }
 
@@ -111,9 +113,9 @@ pub fn walk(image: &Image, request: &Request, role: Role) -> Walk {
     match Walker::start(image, request, operand) {
         Ok(mut walker) => {
             let end = walker.run(role);
-            Walk { steps: walker.steps, end }
+            Walk { steps: walker.steps, followed: walker.followed, end }
         }
-        Err(refusal) => Walk { steps: 0, end: Err(refusal) },
+        Err(refusal) => Walk { steps: 0, followed: 0, end: Err(refusal) },
     }
 }
 
@@ -230,7 +232,7 @@ impl<'a> Walker<'a> {
     fn follow(&mut self, text: &[u8], after: &[u8]) -> Result<(), Refusal> {
         self.followed += 1;
         if self.followed > FOLLOWED_MAX {
-            return Err(NINTH_SYMLINK);
+            return Err(TOO_MANY_SYMLINKS);
         }
         if text.len() + after.len() > PATH_MAX {
             return Err(LONG_JOIN);

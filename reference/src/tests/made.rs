@@ -1,6 +1,6 @@
 //! The cases of every part, made once for all the tests and read back as a program of the proved library reads them.
 
-use crate::cases::{check, groups, land, rename, repair, sticky, walk, Collection};
+use crate::cases::{check, groups, land, links, rename, repair, sticky, walk, Collection};
 use crate::vectors::{read, Case, Landing, Renaming, Repairing, Walking};
 use std::sync::LazyLock;
 
@@ -65,15 +65,37 @@ pub static STICKY_RENAMES: LazyLock<Made<Renaming>> = LazyLock::new(|| {
     })
 });
 
-/// The parts that have renames.
+/// Walks and renames in one part.
+pub static THROUGH_SYMLINKS: LazyLock<Made<Case>> = LazyLock::new(|| made(links::part::all, Some));
+
+fn renaming(case: &Case) -> Option<&Renaming> {
+    match case {
+        Case::Rename(renaming) => Some(renaming),
+        _ => None,
+    }
+}
+
+/// The parts that have renames alone.
 const PARTS_OF_RENAMES: [&LazyLock<Made<Renaming>>; 3] = [&RENAMES, &RENAMES_WITH_GROUPS, &STICKY_RENAMES];
 
 /// The renames of every part.
 pub fn all_renames() -> impl Iterator<Item = &'static Renaming> {
-    PARTS_OF_RENAMES.into_iter().flat_map(|made| &made.cases)
+    let through_symlinks = THROUGH_SYMLINKS.cases.iter().filter_map(renaming);
+    PARTS_OF_RENAMES.into_iter().flat_map(|made| &made.cases).chain(through_symlinks)
 }
 
 /// Their lines, in the same order.
 pub fn all_rename_lines() -> impl Iterator<Item = &'static String> {
-    PARTS_OF_RENAMES.into_iter().flat_map(|made| &made.collection.lines)
+    let Made { cases, collection } = &*THROUGH_SYMLINKS;
+    let through_symlinks = cases.iter().zip(&collection.lines).filter(|(case, _)| renaming(case).is_some());
+    PARTS_OF_RENAMES.into_iter().flat_map(|made| &made.collection.lines).chain(through_symlinks.map(|(_, line)| line))
+}
+
+/// The walks of both parts that have some.
+pub fn all_walks() -> impl Iterator<Item = &'static Walking> {
+    let walking = |case: &'static Case| match case {
+        Case::Walk(walking) => Some(walking),
+        _ => None,
+    };
+    WALKS.cases.iter().chain(THROUGH_SYMLINKS.cases.iter().filter_map(walking))
 }

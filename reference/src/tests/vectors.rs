@@ -1,11 +1,14 @@
 //! The files of vectors: what is read back is what was asked, and the document counts it.
 
-use super::made::{Made, CHECKS, LANDINGS, RENAMES, RENAMES_WITH_GROUPS, REPAIRS, STICKY_RENAMES, WALKS};
+use super::made::{
+    Made, CHECKS, LANDINGS, RENAMES, RENAMES_WITH_GROUPS, REPAIRS, STICKY_RENAMES, THROUGH_SYMLINKS, WALKS,
+};
 use crate::cases::{land, rename, repair, walk, Collection, PARTS};
 use crate::model::check::check;
+use crate::vectors::Case;
 
 /// Every part by its name, in the order of the answers.
-fn collections() -> [(&'static str, &'static Collection); 7] {
+fn collections() -> [(&'static str, &'static Collection); 8] {
     [
         ("check", &CHECKS.collection),
         ("land", &LANDINGS.collection),
@@ -14,6 +17,7 @@ fn collections() -> [(&'static str, &'static Collection); 7] {
         ("repair", &REPAIRS.collection),
         ("groups", &RENAMES_WITH_GROUPS.collection),
         ("sticky", &STICKY_RENAMES.collection),
+        ("links", &THROUGH_SYMLINKS.collection),
     ]
 }
 
@@ -79,4 +83,14 @@ fn the_stored_renames_with_groups_have_the_stored_answers() {
 fn the_stored_sticky_renames_have_the_stored_answers() {
     let Made { cases, collection } = &*STICKY_RENAMES;
     assert_lines(cases, collection, |renaming| rename::part::answer(renaming).1);
+}
+
+#[test]
+fn the_stored_walks_and_renames_through_symlinks_have_the_stored_answers() {
+    let Made { cases, collection } = &*THROUGH_SYMLINKS;
+    assert_lines(cases, collection, |case| match case {
+        Case::Walk(walking) => walk::part::line(&walk::part::walks_of(walking)),
+        Case::Rename(renaming) => rename::part::answer(renaming).1,
+        other => panic!("{other:?} is neither"),
+    });
 }

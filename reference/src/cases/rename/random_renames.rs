@@ -3,6 +3,7 @@
 use super::{RenameCase, RenameCases};
 use crate::cases::random::Random;
 use crate::cases::trees::builder::{Handle, Tree};
+use crate::cases::walk::few_are_followed;
 use crate::cases::walk::lookups::way_to;
 use crate::cases::walk::random_walks::operand;
 use crate::model::image::{Image, FREE};
@@ -99,7 +100,7 @@ pub fn cases(tree: &Tree, count: usize, random: &mut Random) -> RenameCases {
         let tries = if cases.len() % 2 == 0 { 1 } else { TRIES };
         let mut best = attempt(tree, random);
         for _ in 1..tries {
-            if is_short(&best) && stopped_by(&best).is_none() {
+            if is_short(&best) && stopped_by(&best).is_none() && few_are_followed(&best.image, &best.request) {
                 break;
             }
             best = attempt(tree, random);

@@ -4,7 +4,7 @@ use super::{case, request, RenameCase, RenameCases, Told, NOW};
 use crate::cases::random::Random;
 use crate::cases::trees::builder::Tree;
 use crate::cases::trees::for_renames::{inode_at, rename_tree, rename_tree_with};
-use crate::cases::walk::{requests, single_paths, WalkCase};
+use crate::cases::walk::{few_are_followed, requests, single_paths, WalkCase};
 use crate::model::numbers::{BAD_REQUEST, EBADF, EBUSY, EINVAL, ENAMETOOLONG, ENOENT, ENOTDIR};
 use crate::model::permission::Credentials;
 use crate::model::request::Operand;
@@ -16,7 +16,7 @@ const WRONG: usize = 100;
 const PAIRS: usize = 120;
 
 /// A walk case as a rename. Where both walks are whole, what the rename makes of them is for the model to say.
-fn renamed(class: &'static str, case: WalkCase) -> RenameCase {
+pub fn renamed(class: &'static str, case: WalkCase) -> RenameCase {
     let refused = case.told.filter(|told| told.number != 0);
     let told = refused.map(|told| Told { number: told.number, rows: 0, steps: Some(told.steps) });
     RenameCase { class, image: case.tree.encode(), buffer: None, request: case.request, now: NOW, told }
@@ -26,14 +26,27 @@ fn is_refused(case: &WalkCase) -> bool {
     case.told.is_some_and(|told| told.number != 0)
 }
 
+/// Refused, or so at the time when these were chosen.
+fn was_refused(case: &WalkCase) -> bool {
+    is_refused(case) || !few_are_followed(&case.tree.encode(), &case.request)
+}
+
+/// What was chosen as a refused walk may be whole since then.
+fn class_of(chosen_as: &'static str, case: &WalkCase) -> &'static str {
+    match chosen_as {
+        "refused walks" if !is_refused(case) => "whole walks",
+        _ => chosen_as,
+    }
+}
+
 fn is_wrong(case: &WalkCase) -> bool {
     case.told.is_some_and(|told| told.number == BAD_REQUEST)
 }
 
 /// Those of the walk's own cases that lead through the walk tree.
 pub fn in_the_walk_tree(random: &mut Random) -> RenameCases {
-    let (refused, whole) = single_paths::single().into_iter().partition(is_refused);
-    let pairs = single_paths::pairs(3 * PAIRS, random).into_iter().filter(is_refused).collect();
+    let (refused, whole) = single_paths::single().into_iter().partition(was_refused);
+    let pairs = single_paths::pairs(3 * PAIRS, random).into_iter().filter(was_refused).collect();
     let wrong = requests::cases().into_iter().filter(is_wrong).collect();
     let tables: [(&str, usize, Vec<WalkCase>); 4] = [
         ("refused walks", REFUSED, refused),
@@ -43,7 +56,7 @@ pub fn in_the_walk_tree(random: &mut Random) -> RenameCases {
     ];
     let mut some = |(class, count, mut cases): (&'static str, usize, Vec<WalkCase>)| -> RenameCases {
         random.shuffle(&mut cases);
-        cases.into_iter().take(count).map(|case| renamed(class, case)).collect()
+        cases.into_iter().take(count).map(|case| renamed(class_of(class, &case), case)).collect()
     };
     tables.into_iter().flat_map(&mut some).collect()
 }

@@ -65,7 +65,7 @@ impl Collection {
     }
 
     /// Cases on variants of one tree.
-    fn add_on(&mut self, home: &Tree, cases: WalkCases) {
+    pub fn add_on(&mut self, home: &Tree, cases: WalkCases) {
         let home = home.encode();
         for case in cases {
             let walking = Walking { image: case.tree.encode(), request: case.request };

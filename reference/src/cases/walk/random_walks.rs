@@ -1,7 +1,7 @@
 //! Random requests on trees that can be walked through.
 
 use super::lookups::way_to;
-use super::{WalkCase, WalkCases};
+use super::{few_are_followed, WalkCase, WalkCases};
 use crate::cases::random::Random;
 use crate::cases::trees::builder::Tree;
 use crate::model::image::{Image, DIRECTORY, FILE, SYMLINK, TEXT_MAX};
@@ -136,7 +136,8 @@ fn is_short(case: &WalkCase) -> bool {
 
 fn is_whole(case: &WalkCase) -> bool {
     let bytes = case.tree.encode();
-    Image::read(&bytes).is_some_and(|image| walk_both(&image, &case.request).number == DONE)
+    let whole = Image::read(&bytes).is_some_and(|image| walk_both(&image, &case.request).number == DONE);
+    whole && few_are_followed(&bytes, &case.request)
 }
 
 /// Half of the requests are taken as they come; for the other half some tries are made to find two whole walks.

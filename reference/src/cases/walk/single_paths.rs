@@ -1,6 +1,7 @@
 //! Single paths through the walk tree, each with its number as old and as new and the count of its walk.
 
-use super::{from_current, request, Told, WalkCase, WalkCases};
+use super::probes::{self, joined, Probe, Table};
+use super::{WalkCase, WalkCases};
 use crate::cases::random::Random;
 use crate::cases::trees::for_walks::{
     walk_tree, CLOSED, D, E, GROUP, HANDLES, LONGEST_NAME, ON_D, ON_FILE, ON_PRIVATE, ON_ROOT, PQ, PRIVATE, ROOT,
@@ -8,52 +9,7 @@ use crate::cases::trees::for_walks::{
 };
 use crate::model::numbers::{DONE, EACCES, EBADF, EBUSY, EINVAL, ELOOP, ENAMETOOLONG, ENOENT, ENOTDIR};
 use crate::model::permission::Credentials;
-use crate::model::request::{Operand, CURRENT};
-
-#[derive(Clone)]
-struct Probe {
-    class: &'static str,
-    operand: Operand,
-    as_old: u8,
-    as_new: u8,
-    steps: u16,
-}
-
-type Path<'a> = &'a [u8];
-
-/// Probes of one class, under construction.
-struct Table {
-    class: &'static str,
-    probes: Vec<Probe>,
-}
-
-impl Table {
-    fn new(class: &'static str) -> Table {
-        Table { class, probes: vec![] }
-    }
-
-    fn add(&mut self, start: u8, path: Path, [as_old, as_new]: [u8; 2], steps: u16) {
-        self.probes.push(Probe { class: self.class, operand: Operand::new(start, path), as_old, as_new, steps });
-    }
-
-    /// The same number for either path.
-    fn at(&mut self, start: u8, number: u8, steps: u16, paths: &[Path]) {
-        paths.iter().for_each(|path| self.add(start, path, [number; 2], steps));
-    }
-
-    fn all(&mut self, number: u8, steps: u16, paths: &[Path]) {
-        self.at(CURRENT, number, steps, paths);
-    }
-
-    /// The final name is missing, which old alone is refused for.
-    fn missing(&mut self, start: u8, steps: u16, paths: &[Path]) {
-        paths.iter().for_each(|path| self.add(start, path, [ENOENT, DONE], steps));
-    }
-}
-
-fn joined(parts: &[(&str, usize)]) -> Vec<u8> {
-    parts.iter().flat_map(|(part, times)| part.as_bytes().repeat(*times)).collect()
-}
+use crate::model::request::CURRENT;
 
 fn before_the_walk() -> Table {
     let mut table = Table::new("before the walk");
@@ -206,16 +162,20 @@ fn symlinks() -> Table {
     table
 }
 
-fn too_many_symlinks() -> Table {
+fn eight_and_nine_symlinks() -> Table {
     let mut table = Table::new("eight and nine symlinks");
-    table.all(ELOOP, 9, &[b"loop/x", b"loop/.", b"/loop//x", b"ping/x", b"pong/x", b"c1/f", b"c1/nope/x"]);
+    table.all(ELOOP, 41, &[b"loop/x", b"loop/.", b"/loop//x", b"ping/x", b"pong/x"]);
+    table.all(DONE, 11, &[b"c1/f"]);
+    table.all(ENOENT, 11, &[b"c1/nope/x"]);
     table.all(DONE, 10, &[b"c2/f", b"c2/h", b"c2/e/"]);
     table.all(DONE, 9, &[b"c3/f", b"/c3/x/"]);
     table.all(ENOTDIR, 10, &[b"c2/h/", b"c2/f/"]);
-    table.all(ELOOP, 10, &[b"c2/h/x", b"c2/h/."]);
+    table.missing(CURRENT, 12, &[b"c2/h/x"]);
+    table.all(EINVAL, 12, &[b"c2/h/."]);
     table.missing(CURRENT, 11, &[b"c3/h/y"]);
     table.all(DONE, 17, &[&joined(&[("here/", 8), ("f", 1)]), &joined(&[("here/", 8), ("here", 1)])]);
-    table.all(ELOOP, 17, &[&joined(&[("here/", 9), ("f", 1)]), &joined(&[("here//", 9), (".", 1)])]);
+    table.all(DONE, 19, &[&joined(&[("here/", 9), ("f", 1)])]);
+    table.all(EINVAL, 19, &[&joined(&[("here//", 9), (".", 1)])]);
     table.all(ENOTDIR, 17, &[&joined(&[("here/", 9)])]);
     let most = joined(&[("./", 31), ("w/", 8), ("./", 88), ("f", 1)]);
     table.all(DONE, 384, &[&most]);
@@ -241,7 +201,8 @@ fn joined_lengths() -> Table {
     let links = |times: usize, slashes: usize| joined(&[("here/", times), ("wide", 1), ("/", slashes), ("f", 1)]);
     table.all(DONE, 48, &[&links(7, 191)]);
     table.all(ENAMETOOLONG, 15, &[&links(7, 192)]);
-    table.all(ELOOP, 17, &[&links(8, 191), &links(8, 192)]);
+    table.all(DONE, 50, &[&links(8, 191)]);
+    table.all(ENAMETOOLONG, 17, &[&links(8, 192)]);
     let deep = |slashes: usize| joined(&[("d/tox", 1), ("/", slashes), ("y", 1)]);
     table.missing(CURRENT, 5, &[&deep(246), &deep(249)]);
     table
@@ -259,26 +220,19 @@ fn probes() -> Vec<Probe> {
         missing_names(),
         trailing_slashes(),
         symlinks(),
-        too_many_symlinks(),
+        eight_and_nine_symlinks(),
         joined_lengths(),
     ];
     tables.into_iter().flat_map(|table| table.probes).collect()
 }
 
 fn case(class: &'static str, old: &Probe, new: &Probe) -> WalkCase {
-    let told = match (old.as_old, new.as_new) {
-        (DONE, number) => Told { number, steps: [old.steps, new.steps] },
-        (number, _) => Told { number, steps: [old.steps, 0] },
-    };
-    let request = request(old.operand.clone(), new.operand.clone());
-    WalkCase { class, tree: walk_tree(), request, told: Some(told) }
+    probes::case(class, &walk_tree(), old, new)
 }
 
 /// Every probe as old and as new, beside a path that walks.
 pub fn single() -> WalkCases {
-    let good = |path: &[u8]| Probe { class: "", operand: from_current(path), as_old: 0, as_new: 0, steps: 2 };
-    let (old, new) = (good(b"/d/f"), good(b"/x/new"));
-    probes().iter().flat_map(|probe| [case(probe.class, probe, &new), case(probe.class, &old, probe)]).collect()
+    probes::single(&walk_tree(), &probes())
 }
 
 /// Any two probes: where both are refused, old's number counts.

@@ -4,7 +4,7 @@ use crate::model::image::Image;
 use crate::model::refusal::{Refusal, Rule};
 use crate::model::request;
 use crate::model::walk::{walk, Role, REFUSALS};
-use crate::tests::made::WALKS;
+use crate::tests::made::all_walks;
 use crate::vectors::Walking;
 use std::collections::BTreeSet;
 
@@ -24,17 +24,10 @@ fn refusal(Walking { image, request }: &Walking) -> Option<(Refusal, &'static st
 /// many: that is for the renames to show.
 #[test]
 fn every_refusal_of_a_walk_is_given() {
-    let given: BTreeSet<_> = WALKS.cases.iter().filter_map(refusal).collect();
+    let given: BTreeSet<_> = all_walks().filter_map(refusal).collect();
     let of_paths = REFUSALS.iter().flat_map(|&refusal| [(refusal, "old"), (refusal, "new")]);
     let of_requests = request::REFUSALS.iter().map(|&(refusal, _)| (refusal, "both"));
     let mut expected: BTreeSet<_> = of_paths.chain(of_requests).collect();
     expected.retain(|&(it, of)| (it.rule, of) != (Rule::new(59), "new") && it.clause != "too many groups");
     assert_eq!(given, expected);
-}
-
-/// The most that is possible: 128 components, and eight texts of 32.
-#[test]
-fn a_walk_has_at_most_384_steps() {
-    let steps = |line: &String| line.split(' ').nth(1).and_then(|steps| steps.parse::<u16>().ok());
-    assert_eq!(WALKS.collection.lines.iter().filter_map(steps).max(), Some(384));
 }
