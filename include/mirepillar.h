@@ -107,7 +107,9 @@ enum { MP_MOST_GROUPS = 16 };
  *   203  its layout is right and its journal record is not all zero: recovery has to come first;
  *   202  the current directory is none, a path has a byte 0 in it, or there are more than 16 groups
  *        beside the effective one;
- *  else  an errno of Linux, by which a walk or the rename itself is refused, such as 2 (ENOENT).
+ *  else  an errno of Linux, by which a walk or the rename itself is refused, such as 2 (ENOENT), or
+ *        1 (EPERM) for a last name of the new path that has a byte other than A to Z, a to z, 0 to 9,
+ *        dot, underscore and hyphen. Any other name may have any byte but 0 and the slash.
  *
  * The first of these that applies is given, the walk of the old path coming before that of the new
  * one, and both before the rename itself. After any but 0 the buffer is as it was, and there are no

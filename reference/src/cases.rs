@@ -5,9 +5,11 @@ pub mod damage;
 pub mod groups;
 pub mod land;
 pub mod links;
+pub mod portable;
 pub mod random;
 pub mod rename;
 pub mod repair;
+pub mod stand_in;
 pub mod sticky;
 pub mod trees;
 pub mod walk;
@@ -40,6 +42,8 @@ pub const PARTS: &[Part] = &[
     Part { name: "sticky", make: sticky::part::all },
     // walks and renames through many symlinks: what a walk and what a rename answers
     Part { name: "links", make: links::part::all },
+    // walks and renames about new's final name: what each of them answers
+    Part { name: "portable", make: portable::part::all },
 ];
 
 /// The cases of one class, by the numbers that answer them.

@@ -5,6 +5,7 @@ mod groups;
 mod links;
 mod made;
 mod model;
+mod portable;
 mod rules;
 mod sticky;
 mod vectors;

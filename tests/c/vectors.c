@@ -314,10 +314,10 @@ static unsigned long run(const char *path, struct input *answers)
             fail(path, "an item has an unknown tag");
         }
     }
+    if (count > 0)
+        printf("%s: %lu cases, %lu differences\n", path, count, differences);
     if (skipped > 0)
         printf("%s: %lu cases passed over, the walk is no job of its own\n", path, skipped);
-    else
-        printf("%s: %lu cases, %lu differences\n", path, count, differences);
     free(cases.bytes);
     return differences;
 }

@@ -6,8 +6,7 @@ use Rattle.layout.specs.View.{View, isSymlink}
 use Rattle.paths.specs.declared.request.Credentials.{Credentials}
 use Rattle.paths.specs.Path.{empty, isDot, isDotDot}
 use Rattle.component.specs.declared.state.Final.{Final}
-use Rattle.component.specs.declared.state.Final.the-variants.{MustExist, MayBeMissing}
-use Rattle.component.specs.Step.{Position, nameAt, unread, isFinal, symlinksSpent, inDirectory, overlong, slotAt, targetAt, atDirectory, joinedOverlong, searchDenied, walkStep}
+use Rattle.component.specs.Step.{Position, nameAt, unread, isFinal, symlinksSpent, unportable, inDirectory, overlong, slotAt, targetAt, atDirectory, joinedOverlong, searchDenied, walkStep}
 use Rattle.component.specs.Decisions.{decision}
 
 -- a test, whichever way it falls
@@ -43,21 +42,25 @@ module _ (v : View) (who : Credentials) (last : Final) (w : Position) where
           either (isSymlink v (targetAt v w)) (λ k. symlink f g k) (λ k. rw (place, may, short, a, b, f, g, k))) (λ g. rw (place, may, short, a, b, f, g))
 
       -- the final name
-      lacked : (l : Final) → last ≡ l → isFinal w ≡ true → ltb (slotAt v w) (v .entries) ≡ false → Decides
+      lacked : unportable last w ≡ false → isFinal w ≡ true → ltb (slotAt v w) (v .entries) ≡ false → Decides
       unfolding walkStep
-      lacked MustExist e f g = rw (place, may, short, a, b, f, g, e)
-      lacked MayBeMissing e f g = rw (place, may, short, a, b, f, g, e)
+      lacked p f g =
+          either (last .present) (λ e. rw (place, may, short, a, b, p, f, g, e)) (λ e. rw (place, may, short, a, b, p, f, g, e))
 
-      held : isFinal w ≡ true → ltb (slotAt v w) (v .entries) ≡ true → Decides
+      held : unportable last w ≡ false → isFinal w ≡ true → ltb (slotAt v w) (v .entries) ≡ true → Decides
       unfolding walkStep
-      held f g =
-          either (empty (unread w)) (λ z. rw (place, may, short, a, b, f, g, z)) (λ z.
-          either (atDirectory v w) (λ d. rw (place, may, short, a, b, f, g, z, d)) (λ d. rw (place, may, short, a, b, f, g, z, d)))
+      held p f g =
+          either (empty (unread w)) (λ z. rw (place, may, short, a, b, p, f, g, z)) (λ z.
+          either (atDirectory v w) (λ d. rw (place, may, short, a, b, p, f, g, z, d)) (λ d. rw (place, may, short, a, b, p, f, g, z, d)))
+
+      last-name : isFinal w ≡ true → Decides
+      unfolding walkStep
+      last-name f =
+          either (unportable last w) (λ p. rw (place, may, short, a, b, p, f)) (λ p.
+          either (ltb (slotAt v w) (v .entries)) (λ g. held p f g) (λ g. lacked p f g))
 
       looked-up : Decides
-      looked-up =
-          either (isFinal w) (λ f.
-          either (ltb (slotAt v w) (v .entries)) (λ g. held f g) (λ g. lacked last refl f g)) (λ f. ahead f)
+      looked-up = either (isFinal w) (λ f. last-name f) (λ f. ahead f)
 
   pub step-decides : Decides
   unfolding walkStep

@@ -1,18 +1,18 @@
 -- What is asked of a component as decisions within decisions, one for each function of the code: `DecisionLaws` shows them to be `step`. Assumes nothing.
-use mathlib.Core.Bool.{_&&_, _||_, not, cond}
+use mathlib.Core.Bool.{Bool, _&&_, _||_, not, cond}
 use mathlib.Core.List.{List}
 use Prim.Native.Nat.{ℕ, _+_}
 use lib.Dec.{ltb, leb}
 use lib.ListN.{length}
 use Rattle.layout.specs.Limits.{symlinkLimit, pathLimit}
-use Rattle.layout.specs.Errno.{EACCES, EINVAL, ELOOP, ENAMETOOLONG, ENOENT, ENOTDIR}
+use Rattle.layout.specs.Errno.{EPERM, EACCES, EINVAL, ELOOP, ENAMETOOLONG, ENOENT, ENOTDIR}
 use Rattle.layout.specs.View.{View, isDirectory, isSymlink}
 use Rattle.paths.specs.declared.request.Credentials.{Credentials}
 use Rattle.paths.specs.Path.{component, behind, empty, bare, isDot, isDotDot}
+use Rattle.paths.specs.Portable.{isPortable}
 use Rattle.paths.specs.Permission.{searchBit, allows}
 use Rattle.paths.specs.Lookup.{lookup}
 use Rattle.component.specs.declared.state.Final.{Final}
-use Rattle.component.specs.declared.state.Final.the-variants.{MustExist, MayBeMissing}
 use Rattle.component.specs.Step.{Position, existing, missing, Step, refusedBy, names, goTo, splice}
 
 -- rules 56 and 57: one symlink too many, and then a joined path that is too long
@@ -23,12 +23,15 @@ follow w text rest =
 
 -- rule 59: the final name is missing
 abbrev pub lack : Final → Position → List ℕ → List ℕ → Step
-lack MustExist w name rest = refusedBy ENOENT w
-lack MayBeMissing w name rest = names w (missing (w .directory) name (not (empty rest)))
+lack last w name rest = cond (last .present) (refusedBy ENOENT w) (names w (missing (w .directory) name (not (empty rest))))
 
 -- rule 54: a name that is missing ahead of others
 abbrev pub miss : Final → Position → List ℕ → List ℕ → Step
 miss last w name rest = cond (not (bare rest)) (refusedBy ENOENT w) (lack last w name rest)
+
+-- rule 53a: a final name that has to be portable, and is not
+abbrev pub barred : Final → List ℕ → List ℕ → Bool
+barred last name rest = last .portable && bare rest && not (isPortable name)
 
 module _ (v : View) where
   -- a name ahead of others: a symlink is followed, anything else is gone into
@@ -50,6 +53,10 @@ module _ (v : View) where
   seek last w name rest =
       cond (ltb (lookup v (w .directory) name) (v .entries)) (hit w rest (lookup v (w .directory) name)) (miss last w name rest)
 
+  -- rule 53a: a name that has to be portable and is not is not looked up
+  abbrev pub named : Final → Position → List ℕ → List ℕ → Step
+  named last w name rest = cond (barred last name rest) (refusedBy EPERM w) (seek last w name rest)
+
   -- rule 53: a final dot or dot-dot is refused; else the one stays and the other goes up
   abbrev pub dots : Position → List ℕ → List ℕ → Step
   dots w name rest =
@@ -59,7 +66,7 @@ module _ (v : View) where
   abbrev pub read : Final → Position → List ℕ → List ℕ → Step
   read last w name rest =
       cond (ltb (v .room) (length name)) (refusedBy ENAMETOOLONG w)
-      (cond (isDot name || isDotDot name) (dots w name rest) (seek last w name rest))
+      (cond (isDot name || isDotDot name) (dots w name rest) (named last w name rest))
 
 module _ (v : View) (who : Credentials) (last : Final) where
   -- rule 51: search permission on the directory, asked of every component that it is not waived for

@@ -6,14 +6,14 @@ use Prim.Native.Nat.{ℕ, _+_}
 use lib.Dec.{ltb, leb}
 use lib.ListN.{length}
 use Rattle.layout.specs.Limits.{symlinkLimit, pathLimit}
-use Rattle.layout.specs.Errno.{EACCES, EINVAL, ELOOP, ENAMETOOLONG, ENOENT, ENOTDIR}
+use Rattle.layout.specs.Errno.{EPERM, EACCES, EINVAL, ELOOP, ENAMETOOLONG, ENOENT, ENOTDIR}
 use Rattle.layout.specs.View.{View, isDirectory, isSymlink}
 use Rattle.paths.specs.declared.request.Credentials.{Credentials}
 use Rattle.paths.specs.Path.{component, behind, empty, bare, absolute, isDot, isDotDot}
+use Rattle.paths.specs.Portable.{isPortable}
 use Rattle.paths.specs.Permission.{searchBit, allows}
 use Rattle.paths.specs.Lookup.{lookup}
 use Rattle.component.specs.declared.state.Final.{Final}
-use Rattle.component.specs.declared.state.Final.the-variants.{MustExist, MayBeMissing}
 
 -- Where a walk stands: the rest of the path that is still unread, the directory it is read from, the symlinks followed, the component
 -- checks begun, and whether the next component's search permission is waived (rule 51).
@@ -112,10 +112,9 @@ module _ (v : View) where
 abbrev pub symlinksSpent : Position → Bool
 symlinksSpent w = leb symlinkLimit (w .links)
 
--- rule 59: whether the last name of the path must exist
-abbrev pub mustExist : Final → Bool
-mustExist MustExist = true
-mustExist MayBeMissing = false
+-- rule 53a: a final name that has to be portable, and is not
+abbrev pub unportable : Final → Position → Bool
+unportable last w = last .portable && isFinal w && not (isPortable (nameAt w))
 
 -- A test, and how the component leaves the walk where that test is the first that holds.
 pub record Guarded : Type 0 where
@@ -145,6 +144,8 @@ module _ (v : View) (who : Credentials) (last : Final) where
       ∷ (isFinal w && (isDot (nameAt w) || isDotDot (nameAt w))) ⇒ refusedBy EINVAL w
       ∷ isDot (nameAt w) ⇒ goTo w (unread w) (w .directory)
       ∷ isDotDot (nameAt w) ⇒ goTo w (unread w) (v .field (w .directory))
+      -- rule 53a: a final name is not portable where it has to be, whether it is there or not
+      ∷ unportable last w ⇒ refusedBy EPERM w
       -- rule 54: a name that is missing and not final
       ∷ (isMissing v w && not (isFinal w)) ⇒ refusedBy ENOENT w
       -- rules 56, 57 and 55: a symlink that is not final is one too many, or joins to too long a path, or is replaced by its text
@@ -154,7 +155,7 @@ module _ (v : View) (who : Credentials) (last : Final) where
       -- any other name that is not final is gone into: rule 50 asks of the next component whether it is a directory
       ∷ not (isFinal w) ⇒ goTo w (unread w) (targetAt v w)
       -- rule 59: a final name that is missing is refused where it must exist; else it is what the path names
-      ∷ (isMissing v w && mustExist last) ⇒ refusedBy ENOENT w
+      ∷ (isMissing v w && last .present) ⇒ refusedBy ENOENT w
       ∷ isMissing v w ⇒ names w (missing (w .directory) (nameAt w) (slashBehind w))
       -- rule 60: a slash stands behind a final name that is not a directory
       ∷ (slashBehind w && not (atDirectory v w)) ⇒ refusedBy ENOTDIR w

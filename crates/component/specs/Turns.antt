@@ -9,17 +9,16 @@ use borrow.Author.Tests.{lt-ltb, le-ltb, lt-leb, le-leb}
 use Rattle.seq.specs.Bytes.{part}
 use Rattle.seq.specs.BytesLaws.{part-take, part-drop}
 use Rattle.layout.specs.Limits.{symlinkLimit, pathLimit}
-use Rattle.layout.specs.Errno.{EACCES, EINVAL, ELOOP, ENAMETOOLONG, ENOENT, ENOTDIR}
+use Rattle.layout.specs.Errno.{EPERM, EACCES, EINVAL, ELOOP, ENAMETOOLONG, ENOENT, ENOTDIR}
 use Rattle.layout.specs.View.{View, isSymlink, isDirectory}
 use Rattle.paths.specs.declared.request.Credentials.{Credentials}
 use Rattle.paths.specs.Path.{slashes, untilSlash, skip, component, behind, empty, bare, isDot, isDotDot}
 use Rattle.paths.specs.Permission.{searchBit, allows}
 use Rattle.paths.specs.Lookup.{lookup}
 use Rattle.component.specs.declared.state.Final.{Final}
-use Rattle.component.specs.declared.state.Final.the-variants.{MustExist, MayBeMissing}
 use Rattle.component.specs.declared.state.Turn.{Turn}
 use Rattle.component.specs.Step.{Position, existing, missing, refusedBy, names, goTo, splice, walkStep}
-use Rattle.component.specs.Decisions.{follow, lack, miss, enter, arrive, hit, seek, dots, read, inside, decision}
+use Rattle.component.specs.Decisions.{follow, lack, miss, enter, arrive, hit, seek, barred, named, dots, read, inside, decision}
 use Rattle.component.specs.DecisionLaws.{step-decides}
 use Rattle.component.specs.State.{Turned}
 
@@ -36,13 +35,12 @@ module _ (r : Turn) (w : Position) (text rest : List ℕ) where
     follows-short short turned = rw (lt-leb _ _ few, ← is, le-ltb _ _ short) turned
 
 module _ (r : Turn) (w : Position) (last : Final) (name rest : List ℕ) where
-  pub lacks-refused : last ≡ MustExist → Turned r (refusedBy ENOENT w) → Turned r (lack last w name rest)
-  lacks-refused e turned = subst (λ (f : Final). Turned r (lack f w name rest)) (sym e) turned
+  pub lacks-refused : last .present ≡ true → Turned r (refusedBy ENOENT w) → Turned r (lack last w name rest)
+  lacks-refused e turned = rw e turned
 
-  pub lacks-found : (slash : Bool) → last ≡ MayBeMissing → slash ≡ not (empty rest) → Turned r (names w (missing (w .directory) name slash))
+  pub lacks-found : (slash : Bool) → last .present ≡ false → slash ≡ not (empty rest) → Turned r (names w (missing (w .directory) name slash))
       → Turned r (lack last w name rest)
-  lacks-found slash e is turned =
-      subst (λ (f : Final). Turned r (lack f w name rest)) (sym e) (subst (λ (b : Bool). Turned r (names w (missing (w .directory) name b))) is turned)
+  lacks-found slash e is turned = rw (e, ← is) turned
 
   pub misses-last : bare rest ≡ true → Turned r (lack last w name rest) → Turned r (miss last w name rest)
   misses-last b turned = rw b turned
@@ -90,6 +88,12 @@ module _ (v : View) (r : Turn) (w : Position) (last : Final) (name rest : List �
   pub seeks-miss : (j : ℕ) → j ≡ lookup v (w .directory) name → v .entries ≤ j → Turned r (miss last w name rest) → Turned r (seek v last w name rest)
   seeks-miss j e above turned = rw (← e, le-ltb _ _ above) turned
 
+  pub named-refused : barred last name rest ≡ true → Turned r (refusedBy EPERM w) → Turned r (named v last w name rest)
+  named-refused b turned = rw b turned
+
+  pub named-sought : barred last name rest ≡ false → Turned r (seek v last w name rest) → Turned r (named v last w name rest)
+  named-sought b turned = rw b turned
+
   pub reads-long : v .room < length name → Turned r (refusedBy ENAMETOOLONG w) → Turned r (read v last w name rest)
   reads-long l turned = rw (lt-ltb _ _ l) turned
 
@@ -97,7 +101,7 @@ module _ (v : View) (r : Turn) (w : Position) (last : Final) (name rest : List �
     pub reads-dots : (isDot name || isDotDot name) ≡ true → Turned r (dots v w name rest) → Turned r (read v last w name rest)
     reads-dots d turned = rw (le-ltb _ _ short, d) turned
 
-    pub reads-name : isDot name ≡ false → isDotDot name ≡ false → Turned r (seek v last w name rest) → Turned r (read v last w name rest)
+    pub reads-name : isDot name ≡ false → isDotDot name ≡ false → Turned r (named v last w name rest) → Turned r (read v last w name rest)
     reads-name d e turned = rw (le-ltb _ _ short, d, e) turned
 
 module _ (v : View) (who : Credentials) (last : Final) (r : Turn) (w : Position) where

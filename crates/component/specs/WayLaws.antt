@@ -8,16 +8,16 @@ use lib.ListN.{length}
 use borrow.Author.Tests.{ltb-true, ltb-false, leb-false, not-true, not-false}
 use Rattle.seq.specs.Truth.{by-test}
 use Rattle.layout.specs.Limits.{symlinkLimit, pathLimit}
-use Rattle.layout.specs.Errno.{EACCES, EINVAL, ELOOP, ENAMETOOLONG, ENOENT, ENOTDIR}
+use Rattle.layout.specs.Errno.{EPERM, EACCES, EINVAL, ELOOP, ENAMETOOLONG, ENOENT, ENOTDIR}
 use Rattle.layout.specs.View.{View, isDirectory, isSymlink}
 use Rattle.paths.specs.declared.request.Credentials.{Credentials}
 use Rattle.paths.specs.Path.{component, behind, empty, bare, isDot, isDotDot}
 use Rattle.paths.specs.Permission.{searchBit, allows}
+use Rattle.paths.specs.Portable.{isPortable}
 use Rattle.paths.specs.Lookup.{lookup}
 use Rattle.component.specs.declared.state.Final.{Final}
-use Rattle.component.specs.declared.state.Final.the-variants.{MustExist, MayBeMissing}
 use Rattle.component.specs.Step.{Position, refusedBy, walkStep}
-use Rattle.component.specs.Decisions.{follow, lack, enter, arrive, hit, seek, dots, read, decision}
+use Rattle.component.specs.Decisions.{follow, lack, enter, arrive, hit, seek, barred, named, dots, read, decision}
 use Rattle.component.specs.DecisionLaws.{step-decides}
 use Rattle.component.specs.Ways.{componentNumber, Way, refuses, moves, follows, exists, lacks}
 
@@ -26,6 +26,13 @@ slash-asks : (a d : Bool) → (a && not d) ≡ false → a ≡ true → d ≡ tr
 slash-asks true true e h = refl
 slash-asks true false e h = sym e
 slash-asks false d e h = absurd (false≢true h)
+
+-- a final name that is not refused is portable where it has to be
+portable-asked : (wanted final good : Bool) → (wanted && final && not good) ≡ false → final ≡ true → wanted ≡ true → good ≡ true
+portable-asked true true true e f h = refl
+portable-asked true true false e f h = sym e
+portable-asked true false good e f h = absurd (false≢true f)
+portable-asked false final good e f h = absurd (false≢true h)
 
 module _ (v : View) (who : Credentials) (last : Final) (w : Position) where
   abbrev name : List ℕ
@@ -60,14 +67,19 @@ module _ (v : View) (who : Credentials) (last : Final) (w : Position) where
         by-test (Way v last w) (not (bare rest)) _ _ (λ more. way-enter (v .target slot) (not-true (bare rest) more)) (λ e. way-arrive below)
 
     module _ (short : length name ≤ v .room) (plain : (isDot name || isDotDot name) ≡ false) where
-      way-lack : (f : Final) → last ≡ f → v .entries ≤ slot → Way v last w (lack f w name rest)
-      way-lack MustExist is none = way-refuse ENOENT refl
-      way-lack MayBeMissing is none = lacks (not (empty rest)) is place none short plain refl
+      way-lack : (last .portable ≡ true → isPortable name ≡ true) → v .entries ≤ slot → Way v last w (lack last w name rest)
+      way-lack portable none =
+          by-test (Way v last w) (last .present) _ _ (λ e. way-refuse ENOENT refl) (λ may.
+          lacks (not (empty rest)) may portable place none short plain refl)
 
-      way-seek : Way v last w (seek v last w name rest)
-      way-seek =
+      way-seek : barred last name rest ≡ false → Way v last w (seek v last w name rest)
+      way-seek free =
           by-test (Way v last w) (ltb slot (v .entries)) _ _ (λ hit-one. way-hit (ltb-true _ _ hit-one)) (λ none.
-          by-test (Way v last w) (not (bare rest)) _ _ (λ e. way-refuse ENOENT refl) (λ e. way-lack last refl (ltb-false _ _ none)))
+          by-test (Way v last w) (not (bare rest)) _ _ (λ e. way-refuse ENOENT refl) (λ final.
+          way-lack (portable-asked (last .portable) (bare rest) (isPortable name) free (not-false (bare rest) final)) (ltb-false _ _ none)))
+
+      way-named : Way v last w (named v last w name rest)
+      way-named = by-test (Way v last w) (barred last name rest) _ _ (λ e. way-refuse EPERM refl) (λ free. way-seek free)
 
     way-dots : Way v last w (dots v w name rest)
     way-dots = by-test (Way v last w) (bare rest) _ _ (λ e. way-refuse EINVAL refl) (λ more. moves _ more refl)
@@ -75,7 +87,7 @@ module _ (v : View) (who : Credentials) (last : Final) (w : Position) where
     way-read : Way v last w (read v last w name rest)
     way-read =
         by-test (Way v last w) (ltb (v .room) (length name)) _ _ (λ e. way-refuse ENAMETOOLONG refl) (λ short.
-        by-test (Way v last w) (isDot name || isDotDot name) _ _ (λ e. way-dots) (λ plain. way-seek (ltb-false _ _ short) plain))
+        by-test (Way v last w) (isDot name || isDotDot name) _ _ (λ e. way-dots) (λ plain. way-named (ltb-false _ _ short) plain))
 
   way-decision : Way v last w (decision v who last w)
   way-decision =

@@ -5,17 +5,17 @@ use Prim.Native.Nat.{ℕ, _+_, _≤_, _<_}
 use lib.Dec.{eqb}
 use lib.ListN.{length}
 use Rattle.layout.specs.Limits.{symlinkLimit, pathLimit}
-use Rattle.layout.specs.Errno.{EACCES, EINVAL, ELOOP, ENAMETOOLONG, ENOENT, ENOTDIR}
+use Rattle.layout.specs.Errno.{EPERM, EACCES, EINVAL, ELOOP, ENAMETOOLONG, ENOENT, ENOTDIR}
 use Rattle.layout.specs.View.{View, isDirectory, isSymlink}
 use Rattle.paths.specs.Path.{component, behind, bare, isDot, isDotDot}
+use Rattle.paths.specs.Portable.{isPortable}
 use Rattle.paths.specs.Lookup.{lookup}
 use Rattle.component.specs.declared.state.Final.{Final}
-use Rattle.component.specs.declared.state.Final.the-variants.{MayBeMissing}
 use Rattle.component.specs.Step.{Position, Step, existing, missing, refusedBy, names, goTo, splice}
 
 -- the numbers that a component is refused by
 abbrev pub componentNumber : ℕ → Bool
-componentNumber n = eqb n ENOENT || eqb n EACCES || eqb n ENOTDIR || eqb n EINVAL || eqb n ENAMETOOLONG || eqb n ELOOP
+componentNumber n = eqb n EPERM || eqb n ENOENT || eqb n EACCES || eqb n ENOTDIR || eqb n EINVAL || eqb n ENAMETOOLONG || eqb n ELOOP
 
 -- How the component that stands first at w leaves the walk by x.
 pub data Way (v : View) (last : Final) (w : Position) (x : Step) : Type 0 where
@@ -29,7 +29,7 @@ pub data Way (v : View) (last : Final) (w : Position) (x : Step) : Type 0 where
       → (slash ≡ true → isDirectory v (v .target (lookup v (w .directory) (component (w .rest)))) ≡ true)
       → x ≡ names w (existing (w .directory) (lookup v (w .directory) (component (w .rest))) (v .target (lookup v (w .directory) (component (w .rest)))) slash)
       → Way v last w x
-  lacks : (slash : Bool) → last ≡ MayBeMissing → isDirectory v (w .directory) ≡ true
+  lacks : (slash : Bool) → last .present ≡ false → (last .portable ≡ true → isPortable (component (w .rest)) ≡ true) → isDirectory v (w .directory) ≡ true
       → v .entries ≤ lookup v (w .directory) (component (w .rest))
       → length (component (w .rest)) ≤ v .room
       → (isDot (component (w .rest)) || isDotDot (component (w .rest))) ≡ false

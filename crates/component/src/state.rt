@@ -21,10 +21,10 @@ pub struct Walk {
     pub waived: bool,
 }
 
-// What the last name of a path must be: that of old exists, that of new may be missing.
-pub enum Final {
-    MustExist,
-    MayBeMissing,
+// What the last name of a path must be: whether a missing one is refused, and whether one that is not portable is.
+pub struct Final {
+    pub present: bool,
+    pub portable: bool,
 }
 
 // What a path names: an entry, or a name that its directory lacks, or nothing where the walk was refused. A missing name is a range of

@@ -9,6 +9,7 @@ use layout::errno;
 use layout::limits;
 use paths::path;
 use paths::permission;
+use paths::portable;
 use paths::request::Credentials;
 ghost use mathlib.Core.Path.{_≡_};
 ghost use mathlib.Core.Bool.{false, true, _||_};
@@ -20,7 +21,7 @@ ghost use Rattle.paths.specs.Permission.{allows, searchBit};
 ghost use Rattle.paths.specs.Path.{bare};
 ghost use Rattle.component.specs.Step.{splice, walkStep};
 ghost use Rattle.layout.specs.Limits.{symlinkLimit, pathLimit, stepLimit};
-ghost use Rattle.component.specs.Decisions.{follow, enter, arrive, hit, lack, miss, seek, dots, read, inside};
+ghost use Rattle.component.specs.Decisions.{follow, enter, arrive, hit, lack, miss, seek, barred, named, dots, read, inside};
 ghost use Rattle.component.specs.State.{positionOf, nameIn, restFrom, ReadUpTo, Fit, Turned};
 
 // The working path becomes a symlink's text and the unread rest from index e on.
@@ -114,10 +115,10 @@ fn lack(last: Final, w: Walk, a: usize, e: usize) -> Turn
     requires { ⌜ ReadUpTo w e × (a ≤ e) ⌝ }
     ensures { λ r. ⌜ Turned r (lack last (positionOf w) (nameIn w a e) (restFrom w e)) ⌝ }
 {
-    match last {
-        Final::MustExist => state::refuse(w, errno::ENOENT),
-        Final::MayBeMissing => state::lacks(w, a, e, e < w.len),
+    if last.present {
+        return state::refuse(w, errno::ENOENT);
     }
+    state::lacks(w, a, e, e < w.len)
 }
 
 // The name from index a up to e is not there.
@@ -144,6 +145,34 @@ fn seek(image: &[u8], h: Shape, last: Final, w: Walk, a: usize, e: usize) -> Tur
         return hit(image, h, w, e, slot);
     }
     miss(last, w, a, e)
+}
+
+// Whether the name from index a up to e is final, has to be portable, and is not.
+fn is_barred(last: Final, w: Walk, a: usize, e: usize) -> bool
+    requires { ⌜ ReadUpTo w e × (a ≤ e) ⌝ }
+    ensures { λ r. ⌜ r ≡ barred last (nameIn w a e) (restFrom w e) ⌝ }
+{
+    if !last.portable {
+        return false;
+    }
+    let path = w.path;
+    let len = w.len;
+    let is_final = path::is_bare(&path[e..len]);
+    if is_final {
+        return !portable::is_portable(&path[a..e]);
+    }
+    false
+}
+
+// The component from index a up to e is a name.
+fn name(image: &[u8], h: Shape, last: Final, w: Walk, a: usize, e: usize) -> Turn
+    requires { ⌜ Readable h (now image) × ReadUpTo w e × (a ≤ e) ⌝ }
+    ensures { λ r. ⌜ Turned r (named (viewOf h (now (image .entry))) last (positionOf w) (nameIn w a e) (restFrom w e)) ⌝ }
+{
+    if is_barred(last, w, a, e) {
+        return state::refuse(w, errno::EPERM);
+    }
+    seek(image, h, last, w, a, e)
 }
 
 // The component from index a up to e is a dot or two.
@@ -179,7 +208,7 @@ fn component(image: &[u8], h: Shape, last: Final, w: Walk, a: usize, e: usize) -
     if path::is_dot_dot(&path[a..e]) {
         return dots(image, h, w, a, e);
     }
-    seek(image, h, last, w, a, e)
+    name(image, h, last, w, a, e)
 }
 
 // Whether the directory may be searched.

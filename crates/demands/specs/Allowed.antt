@@ -6,6 +6,7 @@ use Prim.Native.Nat.{ℕ}
 use Rattle.layout.specs.Limits.{absent}
 use Rattle.layout.specs.View.{View, entryUsed}
 use Rattle.edits.specs.Moved.{Allowed}
+use Rattle.walk.specs.Both.{newFinal}
 use Rattle.walk.specs.Ends.{Missing}
 use Rattle.refusals.specs.declared.case.Case.{Case}
 use Rattle.refusals.specs.Case.{exists}
@@ -20,4 +21,4 @@ pub record Granted (v : View) (c : Case) (called : List ℕ) : Type 0 where
   -- the replaced inode is what slot new names, if that slot is in use
   pub replaced : c .replaced ≡ cond (entryUsed v (c .new)) (v .target (c .new)) absent
   -- and else the name was missing
-  pub missing : c .replaced ≡ absent → (called ≡ newName v c called) × Missing v (c .into) called
+  pub missing : c .replaced ≡ absent → (called ≡ newName v c called) × Missing v newFinal (c .into) called

@@ -20,9 +20,8 @@ use Rattle.edits.specs.Refusals.{missing-of, not-above-of, empty-of, unopened-o
 use Rattle.paths.specs.declared.request.Request.{Request}
 use Rattle.paths.specs.Lookup.{isNamed}
 use Rattle.paths.specs.LookupLaws.{lookup-misses}
-use Rattle.component.specs.declared.state.Final.the-variants.{MustExist, MayBeMissing}
 use Rattle.walk.specs.Ends.{Existing, Missing, Facts}
-use Rattle.walk.specs.Both.{Ends}
+use Rattle.walk.specs.Both.{Ends, oldFinal, newFinal}
 use Rattle.refusals.specs.declared.case.Case.{Case}
 use Rattle.refusals.specs.Case.{exists, hasEntries, isOpened}
 use Rattle.refusals.specs.Passed.{Passed}
@@ -101,7 +100,7 @@ module _ (v : View) (good : ConsistentView v) (few : v .inodes ≤ inodeLimit) (
     }
 
   -- where it is missing
-  module _ (none : c .replaced ≡ absent) (free : c .new ≡ freeSlot v) (new : Missing v (c .into) called) where
+  module _ (none : c .replaced ≡ absent) (free : c .new ≡ freeSlot v) (new : Missing v newFinal (c .into) called) where
     pub named-missing : exists c ≡ false
     named-missing = rw (eq-eqb (c .replaced) absent none)
 
@@ -142,7 +141,7 @@ module _ (v : View) (good : ConsistentView v) (few : v .inodes ≤ inodeLimit) (
     missing-granted = record { allowed = missing-allowed; replaced = none ∙ rw free-entry; missing = λ _. (sym made-name, new) }
 
 -- Both walks whole, and no step that holds.
-pub granted : (v : View) → ConsistentView v → v .inodes ≤ inodeLimit → (q : Request) (e : Ends) → Facts v MustExist (e .old) → Facts v MayBeMissing (e .new)
+pub granted : (v : View) → ConsistentView v → v .inodes ≤ inodeLimit → (q : Request) (e : Ends) → Facts v oldFinal (e .old) → Facts v newFinal (e .new)
     → e .old .number ≡ 0 → e .new .number ≡ 0 → Passed v (caseOf v q e) → Granted v (caseOf v q e) (nameOf (e .new .found))
 granted v good few q e old new walked also p = go (new-found v (e .new .found) (e .new .number) (new .known) (new .numbered) also)
   where

@@ -20,11 +20,10 @@ use Rattle.consistency.specs.FactLaws.{bodies-readable}
 use Rattle.paths.specs.declared.request.Request.{Request}
 use Rattle.paths.specs.Request.{requestGood}
 use Rattle.paths.specs.RequestLaws.{good-old, good-new}
-use Rattle.component.specs.declared.state.Final.the-variants.{MustExist, MayBeMissing}
 use Rattle.walk.specs.Walk.{halt}
 use Rattle.walk.specs.Ends.{Facts}
 use Rattle.walk.specs.EndLaws.{walk-facts}
-use Rattle.walk.specs.Both.{walksOf, oldWalk, newWalk, newAfter}
+use Rattle.walk.specs.Both.{oldFinal, newFinal, oldWalk, newWalk, newAfter, walksOf}
 use Rattle.refusals.specs.declared.case.Answer.the-variants.{Planned}
 use Rattle.refusals.specs.Steps.{decide}
 use Rattle.refusals.specs.Passed.{Passes}
@@ -61,21 +60,21 @@ module _ (s plan : List ℕ) (q : Request) (old new : List ℕ) (begun : decide 
   texts = readable-text h s (bodies-readable h s (begun-read .laid) bodies)
 
   -- the facts of both walks
-  first-facts : Facts v MustExist (oldWalk v q old)
-  first-facts = walk-facts v MustExist texts (q .who) (q .current) (q .starts .old) old (good-old v q old new request)
+  first-facts : Facts v oldFinal (oldWalk v q old)
+  first-facts = walk-facts v oldFinal texts (q .who) (q .current) (q .starts .old) old (good-old v q old new request)
 
-  pub old-facts : Facts v MustExist (walks s plan q old new .old)
+  pub old-facts : Facts v oldFinal (walks s plan q old new .old)
   unfolding walksOf
   old-facts = first-facts
 
-  pub new-facts : Facts v MayBeMissing (walks s plan q old new .new)
+  pub new-facts : Facts v newFinal (walks s plan q old new .new)
   unfolding walksOf
   new-facts = go (ℕ-discrete (oldWalk v q old .number) 0)
     where
-      go : Dec (oldWalk v q old .number ≡ 0) → Facts v MayBeMissing (newAfter v q (oldWalk v q old .number) new)
+      go : Dec (oldWalk v q old .number ≡ 0) → Facts v newFinal (newAfter v q (oldWalk v q old .number) new)
       go (yes z) =
-          subst (λ (b : Bool). Facts v MayBeMissing (cond b (newWalk v q new) (halt (oldWalk v q old .number)))) (sym (eq-eqb _ 0 z))
-          (walk-facts v MayBeMissing texts (q .who) (q .current) (q .starts .new) new (good-new v q old new request))
+          subst (λ (b : Bool). Facts v newFinal (cond b (newWalk v q new) (halt (oldWalk v q old .number)))) (sym (eq-eqb _ 0 z))
+          (walk-facts v newFinal texts (q .who) (q .current) (q .starts .new) new (good-new v q old new request))
       go (no n) =
-          subst (λ (b : Bool). Facts v MayBeMissing (cond b (newWalk v q new) (halt (oldWalk v q old .number)))) (sym (ne-eqb _ 0 n))
+          subst (λ (b : Bool). Facts v newFinal (cond b (newWalk v q new) (halt (oldWalk v q old .number)))) (sym (ne-eqb _ 0 n))
           (record { known = tt; numbered = n; listed = first-facts .listed })

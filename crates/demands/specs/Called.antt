@@ -22,9 +22,9 @@ use Rattle.consistency.specs.RecordFacts.{Bodies}
 use Rattle.edits.specs.Kinds.{EntryUsed}
 use Rattle.edits.specs.Bodies.{bodies-consistent, bodies-formed}
 use Rattle.paths.specs.declared.request.Request.{Request}
-use Rattle.component.specs.declared.state.Final.the-variants.{MayBeMissing}
 use Rattle.component.specs.Step.{existing}
 use Rattle.walk.specs.Ends.{Existing, Known}
+use Rattle.walk.specs.Both.{newFinal}
 use Rattle.refusals.specs.declared.case.Answer.the-variants.{Planned}
 use Rattle.refusals.specs.declared.case.Case.{Case}
 use Rattle.refusals.specs.Case.{exists}
@@ -137,7 +137,7 @@ module _ (s plan : List ℕ) (q : Request) (old new : List ℕ) (planned : answe
 
   -- Where new's walk found an entry, it is there.
   pub planned-new : (d n t : ℕ) (slash : Bool) → walks s plan q old new .new .found ≡ existing d n t slash → Existing v d n t slash
-  planned-new d n t slash e = subst (Known v MayBeMissing) e (new-facts s plan q old new begun .known)
+  planned-new d n t slash e = subst (Known v newFinal) e (new-facts s plan q old new begun .known)
 
   -- All that the outcome of the rename rests on.
   pub planned-called : q .now < span 8 → Called h s (move s plan q old new) (called s plan q old new)

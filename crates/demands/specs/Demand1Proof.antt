@@ -77,10 +77,11 @@ walk-listed n e =
     split (eqb n 0 || haltNumber n) (componentNumber n)
     (split (eqb n 0) (haltNumber n) (is 0 refl)
     (split (eqb n 2 || eqb n 36 || eqb n 9) (eqb n 16) (split (eqb n 2 || eqb n 36) (eqb n 9) (split (eqb n 2) (eqb n 36) (is 2 refl) (is 36 refl)) (is 9 refl)) (is 16 refl)))
-    (split (eqb n 2 || eqb n 13 || eqb n 20 || eqb n 22 || eqb n 36) (eqb n 40)
-    (split (eqb n 2 || eqb n 13 || eqb n 20 || eqb n 22) (eqb n 36)
-    (split (eqb n 2 || eqb n 13 || eqb n 20) (eqb n 22)
-    (split (eqb n 2 || eqb n 13) (eqb n 20) (split (eqb n 2) (eqb n 13) (is 2 refl) (is 13 refl)) (is 20 refl)) (is 22 refl)) (is 36 refl)) (is 40 refl)) e
+    (split (eqb n 1 || eqb n 2 || eqb n 13 || eqb n 20 || eqb n 22 || eqb n 36) (eqb n 40)
+    (split (eqb n 1 || eqb n 2 || eqb n 13 || eqb n 20 || eqb n 22) (eqb n 36)
+    (split (eqb n 1 || eqb n 2 || eqb n 13 || eqb n 20) (eqb n 22)
+    (split (eqb n 1 || eqb n 2 || eqb n 13) (eqb n 20)
+    (split (eqb n 1 || eqb n 2) (eqb n 13) (split (eqb n 1) (eqb n 2) (is 1 refl) (is 2 refl)) (is 13 refl)) (is 20 refl)) (is 22 refl)) (is 36 refl)) (is 40 refl)) e
   where
     is : (k : ℕ) → among renameNumbers k ≡ true → eqb n k ≡ true → among renameNumbers n ≡ true
     is k here f = rw (eqb-true n k f) here

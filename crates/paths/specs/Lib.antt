@@ -1,6 +1,7 @@
 pub mod Request
 pub mod RequestLaws
 pub mod Path
+pub mod Portable
 pub mod Groups
 pub mod GroupLaws
 pub mod Permission

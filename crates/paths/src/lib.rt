@@ -1,6 +1,7 @@
-// Requests, the groups of a caller, permission, names looked up, and the components of a path.
+// Requests, the groups of a caller, permission, names looked up, portable names, and the components of a path.
 pub mod find;
 pub mod groups;
 pub mod path;
 pub mod permission;
+pub mod portable;
 pub mod request;

@@ -16,12 +16,11 @@ use Rattle.paths.specs.Groups.{inGroup}
 use Rattle.paths.specs.GroupLaws.{alone, further-same}
 use Rattle.paths.specs.Permission.{searchBit, writeBit, allows}
 use Rattle.component.specs.declared.state.Final.{Final}
-use Rattle.component.specs.declared.state.Final.the-variants.{MustExist, MayBeMissing}
 use Rattle.component.specs.Step.{Position, End, Step, goes, ends, walkStep}
 use Rattle.walk.specs.declared.start.Start.{Start}
 use Rattle.walk.specs.declared.start.Start.the-variants.{Closed, At}
 use Rattle.walk.specs.Walk.{startOf, startAt, walkFrom, begun, walk}
-use Rattle.walk.specs.Both.{Ends, walksOf}
+use Rattle.walk.specs.Both.{Ends, oldFinal, newFinal, walksOf}
 use Rattle.refusals.specs.declared.case.Answer.{Answer}
 use Rattle.refusals.specs.declared.case.Answer.the-variants.{Refused, Same, Planned}
 use Rattle.refusals.specs.Case.{stickyDenied}
@@ -71,7 +70,7 @@ module _ (v : View) (q : Request) {b : Credentials} (alike : Alike (q .who) b) w
   walks-alike : (old new : List ℕ) → walksOf v q old new ≡ walksOf v (askedBy q b) old new
   unfolding walksOf
   walks-alike old new =
-      rw (walk-alike v alike MustExist (q .current) (q .starts .old) old, walk-alike v alike MayBeMissing (q .current) (q .starts .new) new)
+      rw (walk-alike v alike oldFinal (q .current) (q .starts .old) old, walk-alike v alike newFinal (q .current) (q .starts .new) new)
 
   sticky-alike : (d i : ℕ) → stickyDenied v (q .who) d i ≡ stickyDenied v b d i
   unfolding stickyDenied

@@ -14,7 +14,7 @@ use Rattle.paths.specs.Request.{requestGood}
 use Rattle.component.specs.Step.{Finding}
 use Rattle.walk.specs.declared.both.Walks.{Walks}
 use Rattle.walk.specs.Ends.{Existing, Missing}
-use Rattle.walk.specs.Both.{Ends}
+use Rattle.walk.specs.Both.{Ends, newFinal}
 use Rattle.walk.specs.Answer.{endOf}
 use Rattle.plan.specs.Form.{planBytes, planRows}
 use Rattle.rename.specs.declared.Renamed.{Renamed}
@@ -50,4 +50,4 @@ pub record Small (r : Renamed) : Type 0 where
 -- New's walk has found an entry, or a name that is missing.
 pub data NewFound (v : View) (f : Finding) : Type 0 where
   by-entry : Existing v (directoryOf f) (slotOf v f) (inodeOf f) (slashOf f) → length (nameOf f) ≡ 0 → NewFound v f
-  by-name : inodeOf f ≡ absent → slotOf v f ≡ freeSlot v → Missing v (directoryOf f) (nameOf f) → NewFound v f
+  by-name : inodeOf f ≡ absent → slotOf v f ≡ freeSlot v → Missing v newFinal (directoryOf f) (nameOf f) → NewFound v f

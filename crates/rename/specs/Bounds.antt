@@ -11,10 +11,9 @@ use Rattle.layout.specs.Limits.{stepLimit}
 use Rattle.layout.specs.Contents.{shapeOf}
 use Rattle.layout.specs.View.{View}
 use Rattle.paths.specs.declared.request.Request.{Request}
-use Rattle.component.specs.declared.state.Final.the-variants.{MustExist, MayBeMissing}
 use Rattle.component.specs.Step.{End}
 use Rattle.walk.specs.Bound.{walk-bound}
-use Rattle.walk.specs.Both.{walksOf, oldWalk}
+use Rattle.walk.specs.Both.{oldFinal, newFinal, oldWalk, walksOf}
 use Rattle.refusals.specs.declared.case.Answer.{Answer}
 use Rattle.refusals.specs.declared.case.Answer.the-variants.{Refused, Same, Planned}
 use Rattle.refusals.specs.Steps.{decide}
@@ -34,13 +33,13 @@ rows-le h s m name = omega (arith, results-le h s m, length-append (results h s 
 
 old-bound : (v : View) (q : Request) (old new : List ℕ) → walksOf v q old new .old .steps ≤ stepLimit
 unfolding walksOf
-old-bound v q old new = walk-bound v (q .who) MustExist (q .current) (q .starts .old) old
+old-bound v q old new = walk-bound v (q .who) oldFinal (q .current) (q .starts .old) old
 
 new-bound : (v : View) (q : Request) (old new : List ℕ) → walksOf v q old new .new .steps ≤ stepLimit
 unfolding walksOf
 new-bound v q old new =
     by-test (λ (e : End). e .steps ≤ stepLimit) (eqb (oldWalk v q old .number) 0) _ _
-    (λ z. walk-bound v (q .who) MayBeMissing (q .current) (q .starts .new) new) (λ z. zero-le)
+    (λ z. walk-bound v (q .who) newFinal (q .current) (q .starts .new) new) (λ z. zero-le)
 
 module _ (s plan : List ℕ) (q : Request) (old new : List ℕ) where
   answered-rows : (a : Answer) → rowsBy s plan q old new a ≤ planRows

@@ -15,10 +15,9 @@ use Rattle.layout.specs.Facts.{Readable}
 use Rattle.layout.specs.View.{View, viewOf, isKind, isUsed, isSymlink}
 use Rattle.layout.specs.ViewLaws.{isUsed-below, isKind-below}
 use Rattle.paths.specs.declared.request.Request.{Request}
-use Rattle.component.specs.declared.state.Final.the-variants.{MustExist, MayBeMissing}
 use Rattle.component.specs.Step.{Finding, existing, missing, nothing}
 use Rattle.walk.specs.Ends.{Existing, Known, Numbered, Facts}
-use Rattle.walk.specs.Both.{Ends}
+use Rattle.walk.specs.Both.{Ends, oldFinal, newFinal}
 use Rattle.refusals.specs.declared.case.Case.{Case}
 use Rattle.refusals.specs.Case.{exists, noSlot}
 use Rattle.refusals.specs.CaseIn.{CaseIn}
@@ -29,12 +28,12 @@ use Rattle.rename.specs.Order.{directoryOf, slotOf, inodeOf, slashOf, na
 use Rattle.rename.specs.Answers.{NewFound, by-entry, by-name}
 
 -- old's walk has found an entry
-pub old-found : (v : View) (f : Finding) (n : ℕ) → Known v MustExist f → Numbered n f → n ≡ 0 → Existing v (directoryOf f) (slotOf v f) (inodeOf f) (slashOf f)
+pub old-found : (v : View) (f : Finding) (n : ℕ) → Known v oldFinal f → Numbered n f → n ≡ 0 → Existing v (directoryOf f) (slotOf v f) (inodeOf f) (slashOf f)
 old-found v (existing d j i slash) n known numbered z = known
-old-found v (missing d name slash) n known numbered z = absurd known
+old-found v (missing d name slash) n known numbered z = absurd (not-both true refl (known .may))
 old-found v nothing n known numbered z = absurd (numbered z)
 
-pub new-found : (v : View) (f : Finding) (n : ℕ) → Known v MayBeMissing f → Numbered n f → n ≡ 0 → NewFound v f
+pub new-found : (v : View) (f : Finding) (n : ℕ) → Known v newFinal f → Numbered n f → n ≡ 0 → NewFound v f
 new-found v (existing d j i slash) n known numbered z = by-entry known refl
 new-found v (missing d name slash) n known numbered z = by-name refl refl known
 new-found v nothing n known numbered z = absurd (numbered z)
@@ -54,8 +53,8 @@ freed-link v c time some = go (isSymlink v (c .replaced)) (eqb (entriesAfter v (
     go true false e f = absurd (some (rw (e, f)))
     go false b e f = absurd (some (rw e))
 
-module _ (h : Shape) (s : List ℕ) (r : Readable h s) (q : Request) (e : Ends) (old : Facts (viewOf h s) MustExist (e .old))
-    (new : Facts (viewOf h s) MayBeMissing (e .new)) (walked : e .old .number ≡ 0) (also : e .new .number ≡ 0) where
+module _ (h : Shape) (s : List ℕ) (r : Readable h s) (q : Request) (e : Ends) (old : Facts (viewOf h s) oldFinal (e .old))
+    (new : Facts (viewOf h s) newFinal (e .new)) (walked : e .old .number ≡ 0) (also : e .new .number ≡ 0) where
   abbrev v : View
   v = viewOf h s
 

@@ -34,6 +34,28 @@ T = 84
 abbrev pub X : ℕ
 X = 88
 
+abbrev pub Z : ℕ
+Z = 90
+
+abbrev pub a : ℕ
+a = 97
+
+abbrev pub z : ℕ
+z = 122
+
+-- the digits from first to last
+abbrev pub nought : ℕ
+nought = 48
+
+abbrev pub nine : ℕ
+nine = 57
+
+abbrev pub hyphen : ℕ
+hyphen = 45
+
+abbrev pub underscore : ℕ
+underscore = 95
+
 -- a dot, and a slash
 abbrev pub dot : ℕ
 dot = 46

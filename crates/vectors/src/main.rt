@@ -115,4 +115,5 @@ fn main() {
     run(b"groups");
     run(b"sticky");
     run(b"links");
+    run(b"portable");
 }

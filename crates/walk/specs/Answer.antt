@@ -4,7 +4,6 @@ use Prim.Native.Nat.{ℕ, _≤_}
 use Rattle.layout.specs.Limits.{stepLimit}
 use Rattle.layout.specs.View.{View}
 use Rattle.component.specs.declared.state.Final.{Final}
-use Rattle.component.specs.declared.state.Final.the-variants.{MustExist, MayBeMissing}
 use Rattle.component.specs.declared.state.Found.{Found}
 use Rattle.component.specs.declared.state.Walk.{Walk}
 use Rattle.component.specs.Step.{End, Step, ends}
@@ -12,7 +11,7 @@ use Rattle.component.specs.State.{findingOf, Ranged}
 use Rattle.walk.specs.declared.both.Walks.{Walks}
 use Rattle.walk.specs.declared.resolve.Walked.{Walked}
 use Rattle.walk.specs.Ends.{Facts}
-use Rattle.walk.specs.Both.{Ends}
+use Rattle.walk.specs.Both.{Ends, oldFinal, newFinal}
 
 -- a walk that ends in this state
 abbrev pub answerOf : Walk → ℕ → Found → Walked
@@ -40,5 +39,5 @@ pub record Answered (v : View) (last : Final) (r : Walked) (e : End) : Type 0 wh
 
 -- Both answers, with all that a caller may rely on.
 pub record BothAnswered (v : View) (r : Walks) (e : Ends) : Type 0 where
-  pub old : Answered v MustExist (r .old) (e .old)
-  pub new : Answered v MayBeMissing (r .new) (e .new)
+  pub old : Answered v oldFinal (r .old) (e .old)
+  pub new : Answered v newFinal (r .new) (e .new)

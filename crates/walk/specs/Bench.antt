@@ -14,11 +14,12 @@ use Rattle.layout.specs.BenchTree.{bench}
 use Rattle.paths.specs.Path.{slashes, untilSlash}
 use Rattle.paths.specs.Groups.{credentialsOf, inFurther, inGroup}
 use Rattle.paths.specs.Permission.{allows}
+use Rattle.paths.specs.Portable.{isPortableByte, isPortable}
 use Rattle.paths.specs.Lookup.{isNamed, lookup}
 use Rattle.component.specs.declared.state.Final.{Final}
-use Rattle.component.specs.declared.state.Final.the-variants.{MustExist, MayBeMissing}
 use Rattle.component.specs.Step.{Finding, End, existing, missing, nothing, walkStep}
 use Rattle.walk.specs.Walk.{halt, walkFrom, walk}
+use Rattle.walk.specs.Both.{oldFinal, newFinal}
 
 abbrev pub benchView : View
 benchView = viewOf (shapeOf bench) bench
@@ -30,17 +31,19 @@ benchWalk last start path = walk benchView (credentialsOf 100 100 []) last 0 sta
 abbrev pub found : ℕ → Finding → End
 found steps f = record { number = 0; steps = steps; found = f }
 
--- the paths in turn: /a/f as old; /a/k, and then as old; /s/f, /k, g at handle 0 and at handle 9, /, and none at all
+-- the paths in turn: /a/f as old; /a/k, and then as old; /s/f, /k, g at handle 0 and at handle 9, /, none at all, and one space, and then as old
 pub walks :
-    benchWalk MustExist noHandle (47 ∷ 97 ∷ 47 ∷ 102 ∷ [])
-    ∷ benchWalk MayBeMissing noHandle (47 ∷ 97 ∷ 47 ∷ 107 ∷ [])
-    ∷ benchWalk MustExist noHandle (47 ∷ 97 ∷ 47 ∷ 107 ∷ [])
-    ∷ benchWalk MustExist noHandle (47 ∷ 115 ∷ 47 ∷ 102 ∷ [])
-    ∷ benchWalk MayBeMissing noHandle (47 ∷ 107 ∷ [])
-    ∷ benchWalk MustExist 0 (103 ∷ [])
-    ∷ benchWalk MustExist 9 (103 ∷ [])
-    ∷ benchWalk MayBeMissing noHandle (47 ∷ [])
-    ∷ benchWalk MayBeMissing noHandle []
+    benchWalk oldFinal noHandle (47 ∷ 97 ∷ 47 ∷ 102 ∷ [])
+    ∷ benchWalk newFinal noHandle (47 ∷ 97 ∷ 47 ∷ 107 ∷ [])
+    ∷ benchWalk oldFinal noHandle (47 ∷ 97 ∷ 47 ∷ 107 ∷ [])
+    ∷ benchWalk oldFinal noHandle (47 ∷ 115 ∷ 47 ∷ 102 ∷ [])
+    ∷ benchWalk newFinal noHandle (47 ∷ 107 ∷ [])
+    ∷ benchWalk oldFinal 0 (103 ∷ [])
+    ∷ benchWalk oldFinal 9 (103 ∷ [])
+    ∷ benchWalk newFinal noHandle (47 ∷ [])
+    ∷ benchWalk newFinal noHandle []
+    ∷ benchWalk newFinal noHandle (32 ∷ [])
+    ∷ benchWalk oldFinal noHandle (32 ∷ [])
     ∷ []
     ≡ found 2 (existing 1 3 3 false)
     ∷ found 2 (missing 1 (107 ∷ []) false)
@@ -51,6 +54,8 @@ pub walks :
     ∷ halt 9
     ∷ halt 16
     ∷ halt 2
+    ∷ record { number = 1; steps = 1; found = nothing }
+    ∷ record { number = 2; steps = 1; found = nothing }
     ∷ []
-unfolding bench any all first part sameBytes numberAt bytesOf shapeOf recordAt viewOf credentialsOf inFurther inGroup allows slashes untilSlash isNamed lookup walkStep walkFrom walk
+unfolding bench any all first part sameBytes numberAt bytesOf shapeOf recordAt viewOf credentialsOf inFurther inGroup allows slashes untilSlash isPortableByte isPortable isNamed lookup walkStep walkFrom walk
 walks = refl

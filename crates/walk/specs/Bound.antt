@@ -35,7 +35,7 @@ after-way v last w x (follows i link more few short e) =
       way = inr (refl, few, rw length-append short);
     })
 after-way v last w x (exists slash place below slashed e) = subst (After w) (sym e) refl
-after-way v last w x (lacks slash may place none short plain e) = subst (After w) (sym e) refl
+after-way v last w x (lacks slash may portable place none short plain e) = subst (After w) (sym e) refl
 
 pub after-is : (v : View) (who : Credentials) (last : Final) (w : Position) (x : Step) → walkStep v who last w ≡ x → After w x
 after-is v who last w x e = subst (After w) e (after-way v last w _ (step-way v who last w))

@@ -17,15 +17,14 @@ use Rattle.paths.specs.Lookup.{lookup}
 use Rattle.paths.specs.LookupLaws.{lookup-held, lookup-none}
 use Rattle.paths.specs.Plain.{component-plain, behind-plain, joined-plain, component-slash, component-some}
 use Rattle.component.specs.declared.state.Final.{Final}
-use Rattle.component.specs.declared.state.Final.the-variants.{MayBeMissing}
-use Rattle.component.specs.Step.{Position, missing, nothing, End, Step, goes, ends, walkStep}
+use Rattle.component.specs.Step.{Position, nothing, End, Step, goes, ends, walkStep}
 use Rattle.component.specs.Ways.{componentNumber, Way, refuses, moves, follows, exists, lacks}
 use Rattle.component.specs.WayLaws.{step-way}
 use Rattle.walk.specs.Walk.{haltNumber, walk}
 use Rattle.walk.specs.WalkLaws.{by-walk}
 use Rattle.walk.specs.Budget.{Leads, ending, going}
 use Rattle.walk.specs.Bound.{after-is, start-leads}
-use Rattle.walk.specs.Ends.{Existing, Missing, Known, walkNumber, Facts}
+use Rattle.walk.specs.Ends.{Existing, walkNumber, Facts}
 
 -- a refusal, by a number of either list
 refusal-facts : (v : View) (last : Final) (n steps : ℕ) (p : ℕ → Bool) → p 0 ≡ false → p n ≡ true → walkNumber n ≡ true
@@ -60,9 +59,6 @@ module _ (v : View) (last : Final) (texts : (i : ℕ) → isSymlink v i ≡ true
         slashed = slashed;
       }
 
-  missing-known : (l : Final) → l ≡ MayBeMissing → (d : ℕ) (name : List ℕ) (slash : Bool) → Missing v d name → Known v l (missing d name slash)
-  missing-known l may d name slash m = subst (λ (f : Final). Known v f (missing d name slash)) (sym may) m
-
   hands-way : (w : Position) (x : Step) → bare (w .rest) ≡ false → noZero (w .rest) ≡ true → Way v last w x → Hands x
   hands-way w x more plain (refuses n listed e) =
       subst Hands (sym e) (refusal-facts v last n _ componentNumber refl listed (or-right (eqb n 0 || haltNumber n) (componentNumber n) listed))
@@ -71,15 +67,17 @@ module _ (v : View) (last : Final) (texts : (i : ℕ) → isSymlink v i ≡ true
       subst Hands (sym e) (joined-plain (v .text (v .field i)) (behind (w .rest)) (texts i link) (behind-plain (w .rest) plain))
   hands-way w x more plain (exists slash place below slashed e) =
       subst Hands (sym e) (record { known = existing-facts (w .directory) (component (w .rest)) slash place below slashed; numbered = refl; listed = refl })
-  hands-way w x more plain (lacks slash may place none short dots e) =
+  hands-way w x more plain (lacks slash may portable place none short dots e) =
       subst Hands (sym e) (record {
-        known = missing-known last may (w .directory) (component (w .rest)) slash (record {
+        known = record {
+          may = may;
+          portable = portable;
           directory = place;
           lacks = lookup-none v (w .directory) (component (w .rest)) none;
           some = component-some (w .rest) more;
           short = short;
           good = good-component (w .rest) plain dots;
-        });
+        };
         numbered = refl;
         listed = refl;
       })

@@ -1,16 +1,16 @@
 -- What is known where a walk has ended: an entry that holds the name in a directory, or a good name that the directory lacks. Assumes nothing.
 use mathlib.Core.Path.{_≡_}
 use mathlib.Core.Logic.{_≢_}
-use mathlib.Core.Bool.{Bool, true, _||_}
+use mathlib.Core.Bool.{Bool, true, false, _||_}
 use mathlib.Core.List.{List}
 use Prim.Native.Nat.{ℕ, _≤_, _<_}
 use lib.Dec.{eqb}
 use lib.ListN.{length}
 use Rattle.layout.specs.View.{View, entryUsed, isDirectory}
 use Rattle.names.specs.NameTests.{nameGood}
+use Rattle.paths.specs.Portable.{isPortable}
 use Rattle.paths.specs.Lookup.{lookup}
 use Rattle.component.specs.declared.state.Final.{Final}
-use Rattle.component.specs.declared.state.Final.the-variants.{MustExist, MayBeMissing}
 use Rattle.component.specs.Step.{Finding, existing, missing, nothing, End}
 use Rattle.component.specs.Ways.{componentNumber}
 use Rattle.walk.specs.Walk.{haltNumber}
@@ -25,19 +25,20 @@ pub record Existing (v : View) (d j i : ℕ) (slash : Bool) : Type 0 where
   pub target : v .target j ≡ i
   pub slashed : slash ≡ true → isDirectory v i ≡ true
 
--- A path whose last name directory d lacks: it has room in an entry, and is a name that an entry may have (rules 24 to 26).
-pub record Missing (v : View) (d : ℕ) (name : List ℕ) : Type 0 where
+-- A path whose last name directory d lacks: it has room in an entry, is a name that an entry may have (rules 24 to 26), and portable where it has to be.
+pub record Missing (v : View) (last : Final) (d : ℕ) (name : List ℕ) : Type 0 where
+  pub may : last .present ≡ false
+  pub portable : last .portable ≡ true → isPortable name ≡ true
   pub directory : isDirectory v d ≡ true
   pub lacks : lookup v d name ≡ v .entries
   pub some : 1 ≤ length name
   pub short : length name ≤ v .room
   pub good : nameGood name ≡ true
 
--- what is known of what a path names; one that must name something never ends at a missing name
+-- what is known of what a path names
 abbrev pub Known : View → Final → Finding → Type 0
 Known v last (existing d j i slash) = Existing v d j i slash
-Known v MayBeMissing (missing d name slash) = Missing v d name
-Known v MustExist (missing d name slash) = ⊥
+Known v last (missing d name slash) = Missing v last d name
 Known v last nothing = Unit {0}
 
 -- the number is 0 exactly where the path names something

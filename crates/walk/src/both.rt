@@ -17,7 +17,7 @@ pub struct Walks {
     pub new: Walked,
 }
 
-// Old must name something, new need not. Where old's walk is refused, new's does not begin, and ends with the same number: so the number
+// Old must name something, new need not, but its last name must be portable. Where old's walk is refused, new's does not begin, and ends with the same number: so the number
 // of new's is that of both.
 pub fn both(image: &[u8], h: Shape, q: Request, old: &[u8], new: &[u8]) -> Walks
     requires { ⌜ Readable h (now image) × (requestGood (viewOf h (now image)) q (now old) (now new) ≡ true) ⌝ }
@@ -28,7 +28,10 @@ pub fn both(image: &[u8], h: Shape, q: Request, old: &[u8], new: &[u8]) -> Walks
         image,
         h,
         q.who,
-        Final::MustExist,
+        Final {
+            present: true,
+            portable: false,
+        },
         current,
         q.starts.old as usize,
         old,
@@ -44,7 +47,10 @@ pub fn both(image: &[u8], h: Shape, q: Request, old: &[u8], new: &[u8]) -> Walks
         image,
         h,
         q.who,
-        Final::MayBeMissing,
+        Final {
+            present: false,
+            portable: true,
+        },
         current,
         q.starts.new as usize,
         new,

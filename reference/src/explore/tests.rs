@@ -5,6 +5,7 @@ mod wrong;
 use super::*;
 use crate::cases::random::Random;
 use crate::cases::rename::{limits, random_renames, steps, RenameCase};
+use crate::cases::stand_in::with_stand_in;
 use crate::cases::trees::bench::{bench_tree, full_bench_tree};
 use crate::cases::trees::builder::Tree;
 use crate::cases::trees::for_crashes::{crash_tree, NEW, OLD, OWNER};
@@ -44,8 +45,12 @@ fn explore_all(name: &str, all: impl IntoIterator<Item = PlannedRename>) -> usiz
     states
 }
 
+/// New's final name is made portable, so that more of them have rows.
 fn of_cases(cases: impl IntoIterator<Item = RenameCase>) -> impl Iterator<Item = PlannedRename> {
-    cases.into_iter().filter_map(|case| PlannedRename::new(&case.image, &case.request, case.now))
+    cases.into_iter().filter_map(|case| {
+        let (image, request) = with_stand_in(&case.image, &case.request);
+        PlannedRename::new(&image, &request, case.now)
+    })
 }
 
 #[test]

@@ -1,9 +1,9 @@
 //! The walks of a request's two paths, from the directory each starts in to its final name (rules 44 to 61).
 
 use super::image::{Image, NAME_MAX, OPENED_FOR_SEARCH, SYMLINK};
-use super::numbers::{DONE, EACCES, EBADF, EBUSY, EINVAL, ELOOP, ENAMETOOLONG, ENOENT, ENOTDIR};
+use super::numbers::{DONE, EACCES, EBADF, EBUSY, EINVAL, ELOOP, ENAMETOOLONG, ENOENT, ENOTDIR, EPERM};
 use super::permission::{may_search, Credentials};
-use super::refusal::Refusal;
+use super::refusal::{Refusal, Rule};
 use super::request::{Operand, Request, CURRENT};
 
 pub const PATH_MAX: usize = 255;
@@ -21,6 +21,7 @@ const NO_DIRECTORY: Refusal = Refusal::new(50, "component in no directory", ENOT
 const NO_SEARCH: Refusal = Refusal::new(51, "search denied", EACCES);
 const LONG_NAME: Refusal = Refusal::new(52, "long component", ENAMETOOLONG);
 const FINAL_DOT: Refusal = Refusal::new(53, "final dot", EINVAL);
+const UNPORTABLE: Refusal = Refusal { rule: Rule::behind(53, 'a'), clause: "unportable final name", number: EPERM };
 const MISSING: Refusal = Refusal::new(54, "missing before the final one", ENOENT);
 const TOO_MANY_SYMLINKS: Refusal = Refusal::new(56, "too many symlinks", ELOOP);
 const LONG_JOIN: Refusal = Refusal::new(57, "long joined path", ENAMETOOLONG);
@@ -28,7 +29,7 @@ const FINAL_MISSING: Refusal = Refusal::new(59, "final one missing", ENOENT);
 const SLASH_BEHIND: Refusal = Refusal::new(60, "slash behind no directory", ENOTDIR);
 
 /// Every one of them.
-pub const REFUSALS: [Refusal; 13] = [
+pub const REFUSALS: [Refusal; 14] = [
     EMPTY,
     LONG_PATH,
     NO_HANDLE,
@@ -37,6 +38,7 @@ pub const REFUSALS: [Refusal; 13] = [
     NO_SEARCH,
     LONG_NAME,
     FINAL_DOT,
+    UNPORTABLE,
     MISSING,
     TOO_MANY_SYMLINKS,
     LONG_JOIN,
@@ -44,7 +46,7 @@ pub const REFUSALS: [Refusal; 13] = [
     SLASH_BEHIND,
 ];
 
-/// The two paths differ in one point: new's final name may be missing.
+/// The two paths differ in two points: new's final name may be missing, and has to be portable.
 #[derive(Clone, Copy, Debug, PartialEq, Eq)]
 pub enum Role {
     Old,
@@ -136,6 +138,11 @@ fn is_slash(byte: &u8) -> bool {
     *byte == b'/'
 }
 
+/// Rule 53a: the bytes that new's final name may hold. Letters of any other alphabet are not among them.
+pub fn is_portable(byte: &u8) -> bool {
+    matches!(byte, b'A'..=b'Z' | b'a'..=b'z' | b'0'..=b'9' | b'.' | b'_' | b'-')
+}
+
 impl<'a> Walker<'a> {
     /// Rules 46 to 49, before any component is looked at.
     fn start(image: &'a Image<'a>, request: &'a Request, operand: &Operand) -> Result<Walker<'a>, Refusal> {
@@ -193,10 +200,14 @@ impl<'a> Walker<'a> {
         named.next().map(|(slot, entry)| Existing { slot, inode: entry.target() })
     }
 
-    /// Rules 53, 59 and 60; and rule 58, since a final symlink is like any other name here.
+    /// Rules 53, 53a, 59 and 60; and rule 58, since a final symlink is like any other name here. Whether a name is
+    /// portable is asked ahead of the lookup, so that it does not matter whether new exists.
     fn finish(&self, role: Role, name: Vec<u8>, slash: bool) -> Result<Found, Refusal> {
         if name == b"." || name == b".." {
             return Err(FINAL_DOT);
+        }
+        if role == Role::New && !name.iter().all(is_portable) {
+            return Err(UNPORTABLE);
         }
         let existing = self.look_up(&name);
         match existing {

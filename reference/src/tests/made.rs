@@ -1,6 +1,6 @@
 //! The cases of every part, made once for all the tests and read back as a program of the proved library reads them.
 
-use crate::cases::{check, groups, land, links, rename, repair, sticky, walk, Collection};
+use crate::cases::{check, groups, land, links, portable, rename, repair, sticky, walk, Collection};
 use crate::vectors::{read, Case, Landing, Renaming, Repairing, Walking};
 use std::sync::LazyLock;
 
@@ -65,37 +65,48 @@ pub static STICKY_RENAMES: LazyLock<Made<Renaming>> = LazyLock::new(|| {
     })
 });
 
-/// Walks and renames in one part.
 pub static THROUGH_SYMLINKS: LazyLock<Made<Case>> = LazyLock::new(|| made(links::part::all, Some));
 
-fn renaming(case: &Case) -> Option<&Renaming> {
-    match case {
-        Case::Rename(renaming) => Some(renaming),
-        _ => None,
+pub static PORTABLE_NAMES: LazyLock<Made<Case>> = LazyLock::new(|| made(portable::part::all, Some));
+
+impl Made<Case> {
+    /// The walks of a part that has walks and renames, with their lines.
+    pub fn walks(&self) -> impl Iterator<Item = (&Walking, &String)> {
+        self.cases.iter().zip(&self.collection.lines).filter_map(|(case, line)| match case {
+            Case::Walk(walking) => Some((walking, line)),
+            _ => None,
+        })
+    }
+
+    /// Its renames with their lines.
+    pub fn renames(&self) -> impl Iterator<Item = (&Renaming, &String)> {
+        self.cases.iter().zip(&self.collection.lines).filter_map(|(case, line)| match case {
+            Case::Rename(renaming) | Case::RenameWithGroups(renaming) => Some((renaming, line)),
+            _ => None,
+        })
     }
 }
+
+/// The parts that have walks and renames.
+const MIXED_PARTS: [&LazyLock<Made<Case>>; 2] = [&THROUGH_SYMLINKS, &PORTABLE_NAMES];
 
 /// The parts that have renames alone.
 const PARTS_OF_RENAMES: [&LazyLock<Made<Renaming>>; 3] = [&RENAMES, &RENAMES_WITH_GROUPS, &STICKY_RENAMES];
 
 /// The renames of every part.
 pub fn all_renames() -> impl Iterator<Item = &'static Renaming> {
-    let through_symlinks = THROUGH_SYMLINKS.cases.iter().filter_map(renaming);
-    PARTS_OF_RENAMES.into_iter().flat_map(|made| &made.cases).chain(through_symlinks)
+    let mixed = MIXED_PARTS.into_iter().flat_map(|made| made.renames().map(|(renaming, _)| renaming));
+    PARTS_OF_RENAMES.into_iter().flat_map(|made| &made.cases).chain(mixed)
 }
 
 /// Their lines, in the same order.
 pub fn all_rename_lines() -> impl Iterator<Item = &'static String> {
-    let Made { cases, collection } = &*THROUGH_SYMLINKS;
-    let through_symlinks = cases.iter().zip(&collection.lines).filter(|(case, _)| renaming(case).is_some());
-    PARTS_OF_RENAMES.into_iter().flat_map(|made| &made.collection.lines).chain(through_symlinks.map(|(_, line)| line))
+    let mixed = MIXED_PARTS.into_iter().flat_map(|made| made.renames().map(|(_, line)| line));
+    PARTS_OF_RENAMES.into_iter().flat_map(|made| &made.collection.lines).chain(mixed)
 }
 
-/// The walks of both parts that have some.
+/// The walks of every part.
 pub fn all_walks() -> impl Iterator<Item = &'static Walking> {
-    let walking = |case: &'static Case| match case {
-        Case::Walk(walking) => Some(walking),
-        _ => None,
-    };
-    WALKS.cases.iter().chain(THROUGH_SYMLINKS.cases.iter().filter_map(walking))
+    let mixed = MIXED_PARTS.into_iter().flat_map(|made| made.walks().map(|(walking, _)| walking));
+    WALKS.cases.iter().chain(mixed)
 }

@@ -2,6 +2,7 @@
 
 use super::made::{all_rename_lines, all_renames, STICKY_RENAMES};
 use crate::cases::rename::part::answer;
+use crate::cases::stand_in::with_stand_in;
 use crate::model::image::{Image, Inode};
 use crate::model::layout::{Layout, INODES};
 use crate::model::numbers::EPERM;
@@ -120,7 +121,8 @@ fn clear_the_bit(image: &mut [u8], inode: u16) {
     image[record + 3] &= !2;
 }
 
-/// Without the sticky bit on both directories no number but that of the bit goes away, and none is 1.
+/// Where both walks are whole: without the sticky bit on both directories no number but that of the bit goes away, and
+/// none is 1.
 #[test]
 fn only_the_sticky_bit_answers_1() {
     let mut freed = 0;
@@ -167,14 +169,18 @@ fn groups_do_not_matter_to_the_bit() {
     }
 }
 
-/// About half of the random renames replace something.
+/// About half of the random renames replace something, or would if new's final name were portable.
 #[test]
 fn random_renames_replace_and_do_not() {
     let class = STICKY_RENAMES.collection.classes.last().expect("there are classes");
     assert_eq!(class.name, "random renames");
     let count = class.numbers.len();
     let random = &STICKY_RENAMES.cases[STICKY_RENAMES.cases.len() - count..];
-    let replaces = |renaming: &&Renaming| with_parts(renaming, |parts, _| parts.replaced.is_some()) == Some(true);
+    let replaces = |renaming: &&Renaming| {
+        let (image, request) = with_stand_in(&renaming.image, &renaming.request);
+        let portable = Renaming { image, request, ..(**renaming).clone() };
+        with_parts(&portable, |parts, _| parts.replaced.is_some()) == Some(true)
+    };
     let replacing = random.iter().filter(replaces).count();
     assert!((count / 3..=2 * count / 3).contains(&replacing), "{replacing} of {count}");
 }

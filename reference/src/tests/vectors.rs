@@ -1,14 +1,14 @@
 //! The files of vectors: what is read back is what was asked, and the document counts it.
 
 use super::made::{
-    Made, CHECKS, LANDINGS, RENAMES, RENAMES_WITH_GROUPS, REPAIRS, STICKY_RENAMES, THROUGH_SYMLINKS, WALKS,
+    Made, CHECKS, LANDINGS, PORTABLE_NAMES, RENAMES, RENAMES_WITH_GROUPS, REPAIRS, STICKY_RENAMES, THROUGH_SYMLINKS,
+    WALKS,
 };
 use crate::cases::{land, rename, repair, walk, Collection, PARTS};
 use crate::model::check::check;
-use crate::vectors::Case;
 
 /// Every part by its name, in the order of the answers.
-fn collections() -> [(&'static str, &'static Collection); 8] {
+fn collections() -> [(&'static str, &'static Collection); 9] {
     [
         ("check", &CHECKS.collection),
         ("land", &LANDINGS.collection),
@@ -18,6 +18,7 @@ fn collections() -> [(&'static str, &'static Collection); 8] {
         ("groups", &RENAMES_WITH_GROUPS.collection),
         ("sticky", &STICKY_RENAMES.collection),
         ("links", &THROUGH_SYMLINKS.collection),
+        ("portable", &PORTABLE_NAMES.collection),
     ]
 }
 
@@ -85,12 +86,12 @@ fn the_stored_sticky_renames_have_the_stored_answers() {
     assert_lines(cases, collection, |renaming| rename::part::answer(renaming).1);
 }
 
+/// Both kinds, and nothing else, make up such a part.
 #[test]
-fn the_stored_walks_and_renames_through_symlinks_have_the_stored_answers() {
-    let Made { cases, collection } = &*THROUGH_SYMLINKS;
-    assert_lines(cases, collection, |case| match case {
-        Case::Walk(walking) => walk::part::line(&walk::part::walks_of(walking)),
-        Case::Rename(renaming) => rename::part::answer(renaming).1,
-        other => panic!("{other:?} is neither"),
-    });
+fn the_stored_walks_and_renames_of_one_part_have_the_stored_answers() {
+    for made in [&THROUGH_SYMLINKS, &PORTABLE_NAMES] {
+        made.walks().for_each(|(walking, line)| assert_eq!(walk::part::line(&walk::part::walks_of(walking)), *line));
+        made.renames().for_each(|(renaming, line)| assert_eq!(rename::part::answer(renaming).1, *line));
+        assert_eq!(made.walks().count() + made.renames().count(), made.collection.lines.len());
+    }
 }

@@ -2,6 +2,7 @@
 
 use super::{RenameCase, RenameCases};
 use crate::cases::random::Random;
+use crate::cases::stand_in::with_stand_in;
 use crate::cases::trees::builder::{Handle, Tree};
 use crate::cases::walk::few_are_followed;
 use crate::cases::walk::lookups::way_to;
@@ -81,11 +82,12 @@ fn attempt(tree: &Tree, random: &mut Random) -> RenameCase {
     RenameCase { class: "random renames", image: tree.encode(), buffer: None, request, now: time(random), told: None }
 }
 
-/// What stops a rename, by which random ones are chosen. The new side of step 6 does not: it came to be asked after these
-/// renames were chosen, and they stay what they are.
+/// What stops a rename, by which random ones are chosen. Neither the new side of step 6 nor new's final name does: they
+/// came to be asked after these renames were chosen, and those stay what they are.
 pub fn stopped_by(case: &RenameCase) -> Option<Refusal> {
-    let image = Image::read(&case.image);
-    let all = all_that_apply(&Call::new(&case.image, image.as_ref(), &case.request, PLAN_LEN));
+    let (bytes, request) = with_stand_in(&case.image, &case.request);
+    let image = Image::read(&bytes);
+    let all = all_that_apply(&Call::new(&bytes, image.as_ref(), &request, PLAN_LEN));
     all.into_iter().map(|(_, refusal)| refusal).find(|refusal| refusal.clause != "into is sticky")
 }
 

@@ -5,7 +5,7 @@ use crate::cases::random::Random;
 use crate::cases::trees::builder::Tree;
 use crate::cases::trees::for_renames::{inode_at, rename_tree, rename_tree_with};
 use crate::cases::walk::{few_are_followed, requests, single_paths, WalkCase};
-use crate::model::numbers::{BAD_REQUEST, EBADF, EBUSY, EINVAL, ENAMETOOLONG, ENOENT, ENOTDIR};
+use crate::model::numbers::{BAD_REQUEST, EBADF, EBUSY, EINVAL, ENAMETOOLONG, ENOENT, ENOTDIR, EPERM};
 use crate::model::permission::Credentials;
 use crate::model::request::Operand;
 
@@ -22,8 +22,9 @@ pub fn renamed(class: &'static str, case: WalkCase) -> RenameCase {
     RenameCase { class, image: case.tree.encode(), buffer: None, request: case.request, now: NOW, told }
 }
 
+/// But for names that are not portable: these cases were taken before that was asked, and stay what they are.
 fn is_refused(case: &WalkCase) -> bool {
-    case.told.is_some_and(|told| told.number != 0)
+    case.told.is_some_and(|told| told.number != 0 && told.number != EPERM)
 }
 
 /// Refused, or so at the time when these were chosen.

@@ -86,6 +86,7 @@ fn to_a_free_name(tree: &Tree, random: &mut Random) -> RenameCase {
 #[cfg(test)]
 mod tests {
     use super::*;
+    use crate::cases::stand_in::with_stand_in;
     use crate::cases::trees::generated::{generate, FULL};
     use crate::model::layout::{Layout, ENTRIES};
     use crate::model::plan::{Row, PLAN_LEN};
@@ -100,7 +101,8 @@ mod tests {
             let entries = case.image[layout.section(ENTRIES)].chunks_exact(32);
             let lowest = entries.into_iter().position(|entry| entry[4] == 0).expect("a slot is free");
             let mut plan = [0; PLAN_LEN];
-            rename(&case.image, &case.request, case.now, &mut plan);
+            let (image, request) = with_stand_in(&case.image, &case.request);
+            rename(&image, &request, case.now, &mut plan);
             assert_eq!(usize::from(Row::read(&plan, 1).offset), layout.position(ENTRIES, lowest));
         }
     }

@@ -5,9 +5,11 @@ use crate::cases::damage::random_changes;
 use crate::cases::damage::subject::Subject;
 use crate::cases::random::Random;
 use crate::cases::rename::random_renames::straight;
+use crate::cases::stand_in::{final_name, with_stand_in};
 use crate::cases::trees::builder::Tree;
 use crate::explore::PlannedRename;
 use crate::model::permission::{Credentials, SUPERUSER};
+use crate::model::plan::Row;
 use crate::model::request::Request;
 use crate::vectors::edits;
 
@@ -19,10 +21,23 @@ pub fn any_rename(tree: &Tree, random: &mut Random) -> PlannedRename {
     let any = || {
         let (old, new) = (straight(tree, false, random), straight(tree, false, random));
         let request = Request { who: Credentials::new(SUPERUSER, 0), current: 0, old, new };
-        PlannedRename::new(&image, &request, 1)
+        planned_as_before(&image, &request)
     };
     let is_near = |planned: &PlannedRename| edits(&planned.after([0]), &planned.before).is_some();
     std::iter::repeat_with(any).flatten().find(is_near).expect("some rename is not refused")
+}
+
+/// Renames were chosen before new's final name had to be portable, and repair asks nothing of names. So one is planned
+/// with a stand-in, and then has its own name back.
+fn planned_as_before(image: &[u8], request: &Request) -> Option<PlannedRename> {
+    let (other, other_request) = with_stand_in(image, request);
+    let mut planned = PlannedRename::new(&other, &other_request, 1)?;
+    let name = final_name(&request.new.path)?;
+    let name_at = usize::from(Row::read(&planned.plan, planned.new_entry).body) + 8;
+    planned.plan[name_at..name_at + name.len()].copy_from_slice(name);
+    planned.before = image.to_vec();
+    planned.finished = planned.after(0..planned.rows.into());
+    Some(planned)
 }
 
 /// The image that the others are near: the journal record alone has landed.

@@ -38,7 +38,7 @@ pub fn all() -> Collection {
 }
 
 /// Only where the caller has further groups is a list stored.
-fn store(writer: &mut Writer, home: &[u8], renaming: &Renaming) {
+pub fn store(writer: &mut Writer, home: &[u8], renaming: &Renaming) {
     match renaming.request.who.further.is_empty() {
         true => writer.rename(home, renaming),
         false => writer.rename_with_groups(home, renaming),

@@ -4,6 +4,7 @@ use super::STICKY;
 use crate::cases::random::Random;
 use crate::cases::rename::random_renames::two_paths;
 use crate::cases::rename::{RenameCase, RenameCases, NOW};
+use crate::cases::stand_in::with_stand_in;
 use crate::cases::trees::builder::Tree;
 use crate::cases::walk::random_walks::set_modes_and_texts;
 use crate::model::image::{Image, FREE};
@@ -56,10 +57,11 @@ fn attempt(tree: &Tree, random: &mut Random) -> RenameCase {
 }
 
 /// What tries are made for, in turn: that the new side refuses; that it does not, though it is asked; and that nothing
-/// is replaced in a sticky directory.
+/// is replaced in a sticky directory. Whether new's final name is portable came to be asked after these were chosen.
 fn is_wanted(turn: usize, case: &RenameCase) -> bool {
-    let image = Image::read(&case.image);
-    let call = Call::new(&case.image, image.as_ref(), &case.request, PLAN_LEN);
+    let (bytes, request) = with_stand_in(&case.image, &case.request);
+    let image = Image::read(&bytes);
+    let call = Call::new(&bytes, image.as_ref(), &request, PLAN_LEN);
     let Some(parts) = call.parts() else { return false };
     let first = order::first(&call).map(|(_, refusal)| refusal.clause);
     let into_has_the_bit = parts.inode(parts.new_parent).mode() & STICKY != 0;

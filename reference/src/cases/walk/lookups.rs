@@ -1,8 +1,10 @@
 //! Every name of trees whose names are nearly equal, and names that are nearly there.
 
 use super::{from_current, request, Told, WalkCase, WalkCases};
+use crate::cases::portable::is_portable;
 use crate::cases::trees::builder::Tree;
 use crate::model::image::NAME_MAX;
+use crate::model::numbers::{DONE, EPERM};
 use crate::model::walk::PATH_MAX;
 
 const CLASS: &str = "lookups";
@@ -29,9 +31,17 @@ fn path_of(tree: &Tree, directory: u16, name: &[u8]) -> (Vec<u8>, u16) {
 
 /// The name itself, then with another last byte, one byte fewer, and one byte more.
 fn near(name: &[u8]) -> [Vec<u8>; 4] {
-    let mut other = name.to_vec();
-    other[name.len() - 1] ^= 1;
-    [name.to_vec(), other, name[..name.len() - 1].to_vec(), [name, b"~"].concat()]
+    near_by(name, name[name.len() - 1] ^ 1, b'~')
+}
+
+/// The same with names that are portable if this one is, so that all of them are looked up.
+fn near_and_portable(name: &[u8]) -> [Vec<u8>; 4] {
+    near_by(name, b'-', b'-')
+}
+
+fn near_by(name: &[u8], last: u8, more: u8) -> [Vec<u8>; 4] {
+    let fewer = &name[..name.len() - 1];
+    [name.to_vec(), [fewer, &[last]].concat(), fewer.to_vec(), [name, &[more]].concat()]
 }
 
 fn can_be_looked_up(name: &[u8]) -> bool {
@@ -40,6 +50,15 @@ fn can_be_looked_up(name: &[u8]) -> bool {
 
 /// Some slots of a tree: old is an entry, new is a name near that of another one.
 pub fn cases(tree: &Tree, slots: &[usize]) -> WalkCases {
+    cases_near(CLASS, tree, slots, near)
+}
+
+/// Some slots of a tree that have portable names.
+pub fn of_portable_names(class: &'static str, tree: &Tree, slots: &[usize]) -> WalkCases {
+    cases_near(class, tree, slots, near_and_portable)
+}
+
+fn cases_near(class: &'static str, tree: &Tree, slots: &[usize], near: fn(&[u8]) -> [Vec<u8>; 4]) -> WalkCases {
     let mut cases = vec![];
     for (i, &slot) in slots.iter().enumerate() {
         let entry = &tree.entries[slot];
@@ -52,8 +71,9 @@ pub fn cases(tree: &Tree, slots: &[usize]) -> WalkCases {
             }
             let mut request = request(from_current(&old), from_current(&new));
             request.who.user = 0;
-            let told = Some(Told { number: 0, steps: [old_steps, new_steps] });
-            cases.push(WalkCase { class: CLASS, tree: tree.clone(), request, told });
+            let number = if is_portable(&name) { DONE } else { EPERM };
+            let told = Some(Told { number, steps: [old_steps, new_steps] });
+            cases.push(WalkCase { class, tree: tree.clone(), request, told });
         }
     }
     cases
@@ -64,7 +84,7 @@ mod tests {
     use super::*;
     use crate::cases::trees::samples::near_names;
     use crate::model::image::Image;
-    use crate::model::walk::walk_both;
+    use crate::model::walk::{walk, Role};
 
     #[test]
     fn every_entry_is_found_in_its_slot() {
@@ -73,7 +93,7 @@ mod tests {
         let bytes = tree.encode();
         let image = Image::read(&bytes).expect("the layout is right");
         for case in cases(&tree, &slots) {
-            let [old, _] = walk_both(&image, &case.request).found.expect("both walks are whole");
+            let old = walk(&image, &case.request, Role::Old).end.expect("old's walk is whole");
             let slot = old.existing.expect("old exists").slot;
             let entry = &tree.entries[usize::from(slot)];
             assert_eq!(path_of(&tree, entry.parent, &entry.name).0, case.request.old.path);

@@ -2,7 +2,7 @@
 
 use super::{from_current, request, Told, WalkCase, WalkCases};
 use crate::cases::trees::builder::Tree;
-use crate::model::numbers::{DONE, ENOENT};
+use crate::model::numbers::{DONE, ENOENT, EPERM};
 use crate::model::request::{Operand, CURRENT};
 
 #[derive(Clone)]
@@ -43,6 +43,11 @@ impl Table {
     /// The final name is missing, which old alone is refused for.
     pub fn missing(&mut self, start: u8, steps: u16, paths: &[Path]) {
         paths.iter().for_each(|path| self.add(start, path, [ENOENT, DONE], steps));
+    }
+
+    /// It is missing, which old is refused for, and not portable, which new is.
+    pub fn unportable(&mut self, start: u8, steps: u16, paths: &[Path]) {
+        paths.iter().for_each(|path| self.add(start, path, [ENOENT, EPERM], steps));
     }
 }
 

@@ -3,6 +3,7 @@
 use super::lookups::way_to;
 use super::{few_are_followed, WalkCase, WalkCases};
 use crate::cases::random::Random;
+use crate::cases::stand_in::with_stand_in;
 use crate::cases::trees::builder::Tree;
 use crate::model::image::{Image, DIRECTORY, FILE, SYMLINK, TEXT_MAX};
 use crate::model::numbers::DONE;
@@ -134,10 +135,11 @@ fn is_short(case: &WalkCase) -> bool {
     case.request.old.path.len().max(case.request.new.path.len()) <= LONGEST_PATH
 }
 
+/// Both walks are whole, or would be if new's final name were portable.
 fn is_whole(case: &WalkCase) -> bool {
-    let bytes = case.tree.encode();
-    let whole = Image::read(&bytes).is_some_and(|image| walk_both(&image, &case.request).number == DONE);
-    whole && few_are_followed(&bytes, &case.request)
+    let (bytes, request) = with_stand_in(&case.tree.encode(), &case.request);
+    let whole = Image::read(&bytes).is_some_and(|image| walk_both(&image, &request).number == DONE);
+    whole && few_are_followed(&bytes, &request)
 }
 
 /// Half of the requests are taken as they come; for the other half some tries are made to find two whole walks.

@@ -2,7 +2,7 @@
 
 use super::{from_current, request, Told, WalkCase, WalkCases};
 use crate::cases::trees::for_walks::{walk_tree, CLOSED, D, E, F, PQ, VACANT};
-use crate::model::numbers::{BAD_REQUEST, ENAMETOOLONG};
+use crate::model::numbers::{BAD_REQUEST, ENAMETOOLONG, EPERM};
 use crate::model::request::{Operand, Request};
 use crate::vectors::LONGEST_PATH;
 
@@ -61,12 +61,13 @@ pub fn cases() -> WalkCases {
     wrong.map(case).chain(nearly_wrong()).collect()
 }
 
-/// Any directory may be the current one, and any other byte may stand in a path.
+/// Any directory may be the current one, and any other byte may stand in a path; not in new's final name, which refuses
+/// by another number.
 fn nearly_wrong() -> WalkCases {
     let mut requests = vec![];
     for current in [D, E, PQ] {
         let request = Request { current, ..request(from_current(b"/d/f"), from_current(b"\x01")) };
-        requests.push((request, Told { number: 0, steps: [2, 1] }));
+        requests.push((request, Told { number: EPERM, steps: [2, 1] }));
     }
     let long = vec![b'a'; LONGEST_PATH];
     requests.push((request(from_current(b"/d/f"), from_current(&long)), Told { number: ENAMETOOLONG, steps: [2, 0] }));

@@ -120,7 +120,8 @@ fn final_dots() -> Table {
 
 fn missing_names() -> Table {
     let mut table = Table::new("missing names");
-    table.missing(CURRENT, 1, &[b"nope", b"/nope", b"nope/", b"nope//", b"F", b"dd2", b" ", b"\xff"]);
+    table.missing(CURRENT, 1, &[b"nope", b"/nope", b"nope/", b"nope//", b"F", b"dd2"]);
+    table.unportable(CURRENT, 1, &[b" ", b"\xff"]);
     table.missing(CURRENT, 2, &[b"d/nope", b"/d/nope/", b"x/f", b"d/d", b"./nope", b"../nope//"]);
     table.missing(CURRENT, 3, &[b"h/y", b"s/nope", b"/s/nope/", b"d/../nope"]);
     table.all(ENOENT, 1, &[b"nope/x", b"/nope/x/", b"nope/.", b"nope/..", b"nope/../f", b"nope//nope"]);

@@ -1,5 +1,6 @@
 //! The order of refusal, rules 63 to 77 with 70a: each clause is some rename's answer, and neighbours meet.
 
+use crate::cases::stand_in::with_stand_in;
 use crate::model::image::Image;
 use crate::model::layout::{Layout, CONTENTS_LEN, ROW_LEN, SECTIONS};
 use crate::model::refusal::{Refusal, Rule};
@@ -45,7 +46,8 @@ fn clauses() -> BTreeSet<(Place, &'static str)> {
         (Place::Records, "other records"),
     ];
     let all = requests.chain(of_walks(Place::OldWalk)).chain(of_walks(Place::NewWalk)).chain(steps).chain(ahead);
-    all.filter(|&clause| clause != (Place::NewWalk, "final one missing")).collect()
+    let of_one_path = [(Place::OldWalk, "unportable final name"), (Place::NewWalk, "final one missing")];
+    all.filter(|clause| !of_one_path.contains(clause)).collect()
 }
 
 #[test]
@@ -70,8 +72,8 @@ fn with_good_contents(image: &[u8]) -> Option<Vec<u8>> {
     Some(mended)
 }
 
-/// What would apply but for the first: under a bad layout, with its table mended; where new's walk is refused for a
-/// slash behind its name, without that slash; and otherwise what applies anyway.
+/// What would apply but for the first: under a bad layout, with its table mended; where new's walk is refused for its
+/// final name or for a slash behind that, with a portable name or without the slash; and otherwise what applies anyway.
 fn behind_the_first(renaming: &Renaming, all: &Applying) -> Applying {
     let mut mended = renaming.clone();
     match all.first() {
@@ -79,6 +81,9 @@ fn behind_the_first(renaming: &Renaming, all: &Applying) -> Applying {
             Some(image) => mended.image = image,
             None => return vec![],
         },
+        Some((Place::NewWalk, refusal)) if refusal.rule == Rule::behind(53, 'a') => {
+            (mended.image, mended.request) = with_stand_in(&renaming.image, &renaming.request);
+        }
         Some((Place::NewWalk, refusal)) if refusal.rule == Rule::new(60) => {
             let end = mended.request.new.path.iter().rposition(|&byte| byte != b'/').map_or(0, |last| last + 1);
             mended.request.new.path.truncate(end);

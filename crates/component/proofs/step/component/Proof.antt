@@ -85,8 +85,8 @@ returns-3 c =
     let e = sym (c .before .before .is-dot-dot .ensures) ∙ c .before .if3 .taken in
     reads-dots (viewOf (args .h) (args .image .now)) _ (positionOf (args .w)) (args .last) (part (args .w .path) (args .a) (args .e - args .a)) (restFrom (args .w) (args .e)) (rw (← l) at (if1 .left)) (rw (d, e)) (c .dots2 .ensures)
 
-seek-requires : tie.Need-seek-requires
-seek-requires c κs = search needs
+name-requires : tie.Need-name-requires
+name-requires c κs = search needs
 
 returns-4 : tie.Need-returns-4
 unfolding part viewOf
@@ -99,7 +99,7 @@ returns-4 c =
     let l = part-length (args .w .path) (args .a) (args .e - args .a) (omega (arith, pre .1 .within, pre .1 .short, pre .1 .whole)) in
     let d = sym (is-dot .ensures) ∙ if2 .left in
     let e = sym (c .before .before .is-dot-dot .ensures) ∙ c .before .if3 .left in
-    reads-name (viewOf (args .h) (args .image .now)) _ (positionOf (args .w)) (args .last) (part (args .w .path) (args .a) (args .e - args .a)) (restFrom (args .w) (args .e)) (rw (← l) at (if1 .left)) d e (c .seek .ensures)
+    reads-name (viewOf (args .h) (args .image .now)) _ (positionOf (args .w)) (args .last) (part (args .w .path) (args .a) (args .e - args .a)) (restFrom (args .w) (args .e)) (rw (← l) at (if1 .left)) d e (c .name .ensures)
 
 pub component-spec : {M : Type 1} → statement M
 component-spec =
@@ -121,5 +121,5 @@ component-spec =
     is-dot-dot-requires
     dots-requires-2
     returns-3
-    seek-requires
+    name-requires
     returns-4)
