@@ -1,6 +1,7 @@
 //! The parts of the vectors: each has a file of cases, and a line of expected answer for each of them.
 
 pub mod check;
+pub mod compare;
 pub mod damage;
 pub mod groups;
 pub mod land;
@@ -44,9 +45,11 @@ pub const PARTS: &[Part] = &[
     Part { name: "links", make: links::part::all },
     // walks and renames about new's final name: what each of them answers
     Part { name: "portable", make: portable::part::all },
+    // two names: whether they are the same, and the pieces read
+    Part { name: "compare", make: compare::part::all },
 ];
 
-/// The cases of one class, by the numbers that answer them.
+/// The cases of one class, by the numbers that answer them; those of the compare by the pieces that it reads.
 pub struct Class {
     pub name: &'static str,
     pub numbers: Vec<u8>,
@@ -61,7 +64,7 @@ pub struct Collection {
 }
 
 impl Collection {
-    /// Counts a case that is already written; its line begins with the number.
+    /// Counts a case that is already written, under the number that tells most of its line.
     pub fn count(&mut self, class: &'static str, number: u8, line: String) {
         self.lines.push(line);
         match self.classes.iter_mut().find(|known| known.name == class) {

@@ -3,6 +3,7 @@
 //! Numbers behind the word "rule" are those of docs/RULES.md.
 
 pub mod check;
+pub mod compare;
 pub mod fault;
 pub mod image;
 pub mod land;

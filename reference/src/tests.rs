@@ -1,5 +1,6 @@
 //! Tests that need both the model, which knows of no case, and the cases.
 
+mod compare;
 mod effects;
 mod groups;
 mod links;

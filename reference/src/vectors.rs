@@ -1,4 +1,4 @@
-//! The files of test vectors: base images, and cases told as edits of the base before them.
+//! The files of test vectors: base images, and cases told as edits of the base before them, or as names alone.
 
 mod read;
 
@@ -22,6 +22,7 @@ const LAND: u8 = 4;
 const RENAME: u8 = 5;
 const REPAIR: u8 = 6;
 const RENAME_WITH_GROUPS: u8 = 7;
+const COMPARE: u8 = 8;
 
 type Edit = (u32, u8);
 
@@ -34,6 +35,7 @@ pub enum Case {
     Rename(Renaming),
     Repair(Repairing),
     RenameWithGroups(Renaming),
+    Compare(Comparing),
 }
 
 #[derive(Clone, Debug, PartialEq, Eq)]
@@ -62,6 +64,12 @@ pub struct Repairing {
     pub image: Vec<u8>,
     pub plan: Buffer,
     pub scratch: Scratch,
+}
+
+#[derive(Clone, Debug, PartialEq, Eq)]
+pub struct Comparing {
+    pub first: Vec<u8>,
+    pub second: Vec<u8>,
 }
 
 /// A plan buffer before the call.
@@ -171,6 +179,15 @@ impl Writer {
         self.data.push(plan.fill);
         self.data.extend(scratch.len.to_le_bytes());
         self.data.push(scratch.fill);
+    }
+
+    pub fn compare(&mut self, names: &Comparing) {
+        let Comparing { first, second } = names;
+        self.data.push(COMPARE);
+        for name in [first, second] {
+            self.data.push(u8::try_from(name.len()).expect("a name of at most 255 bytes"));
+        }
+        self.data.extend([&first[..], second].concat());
     }
 
     fn caller(&mut self, request: &Request) {
@@ -358,6 +375,19 @@ mod tests {
             writer.repair(&home, repairing);
         }
         let cases: Vec<Case> = repairings.into_iter().map(Case::Repair).collect();
+        assert_eq!(read(&writer.data).expect("the format is kept"), cases);
+        assert_eq!(read(&writer.data[..writer.data.len() - 1]), None);
+    }
+
+    #[test]
+    fn compares_are_read_as_they_were_written() {
+        let mut writer = Writer::default();
+        let pairs = [(vec![], vec![]), (vec![], vec![8]), (vec![8; 255], vec![1, 2]), (vec![0; 24], vec![255; 255])];
+        let pairs = pairs.map(|(first, second)| Comparing { first, second });
+        for names in &pairs {
+            writer.compare(names);
+        }
+        let cases: Vec<Case> = pairs.into_iter().map(Case::Compare).collect();
         assert_eq!(read(&writer.data).expect("the format is kept"), cases);
         assert_eq!(read(&writer.data[..writer.data.len() - 1]), None);
     }

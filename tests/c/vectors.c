@@ -11,6 +11,7 @@
 #include <string.h>
 
 enum { TAG_BASE = 1, TAG_CHECK = 2, TAG_WALK = 3, TAG_LAND = 4, TAG_RENAME = 5, TAG_REPAIR = 6, TAG_GROUPS = 7 };
+enum { TAG_COMPARE = 8 };
 enum { LONGEST_BASE = 53448, LONGEST_CASE = 131072, MOST_EDITS = 12, LONGEST_PLAN = 1024, LONGEST_PATH = 600 };
 enum { LONGEST_SCRATCH = 131072, MOST_GROUPS = 24 };
 enum { MOST_TOLD = 10 };
@@ -268,8 +269,7 @@ static int repair_case(struct input *cases, struct input *answers, unsigned long
     return differences == 0;
 }
 
-/* Steps over a case of the walk and its answer: the walk is no job of its own, so there is nothing to call. */
-static void skip_walk(struct input *cases, struct input *answers)
+static void skip_walk(struct input *cases)
 {
     enum { EDIT_BYTES = 5, STARTS_BYTES = 12 };
     take(cases, EDIT_BYTES * take_up_to(cases, 1, MOST_EDITS));
@@ -277,6 +277,22 @@ static void skip_walk(struct input *cases, struct input *answers)
     size_t old_len = take_up_to(cases, 2, LONGEST_PATH);
     size_t new_len = take_up_to(cases, 2, LONGEST_PATH);
     take(cases, old_len + new_len);
+}
+
+static void skip_compare(struct input *cases)
+{
+    size_t first_len = *take(cases, 1);
+    size_t second_len = *take(cases, 1);
+    take(cases, first_len + second_len);
+}
+
+/* Steps over a case and its answer: the walk and the compare are no jobs of their own, so there is nothing to call. */
+static void skip(uint8_t tag, struct input *cases, struct input *answers)
+{
+    if (tag == TAG_WALK)
+        skip_walk(cases);
+    else
+        skip_compare(cases);
     while (*take(answers, 1) != '\n')
         ;
 }
@@ -287,7 +303,8 @@ static unsigned long run(const char *path, struct input *answers)
     struct input cases = open_input(path);
     unsigned long count = 0, skipped = 0, differences = 0;
     while (cases.left > 0) {
-        switch (*take(&cases, 1)) {
+        uint8_t tag = *take(&cases, 1);
+        switch (tag) {
         case TAG_BASE:
             read_base(&cases);
             break;
@@ -295,17 +312,16 @@ static unsigned long run(const char *path, struct input *answers)
             differences += !check_case(&cases, answers, ++count);
             break;
         case TAG_WALK:
-            skip_walk(&cases, answers);
+        case TAG_COMPARE:
+            skip(tag, &cases, answers);
             skipped++;
             break;
         case TAG_LAND:
             differences += !land_case(&cases, answers, ++count);
             break;
         case TAG_RENAME:
-            differences += !rename_case(&cases, 0, answers, ++count);
-            break;
         case TAG_GROUPS:
-            differences += !rename_case(&cases, 1, answers, ++count);
+            differences += !rename_case(&cases, tag == TAG_GROUPS, answers, ++count);
             break;
         case TAG_REPAIR:
             differences += !repair_case(&cases, answers, ++count);
@@ -317,7 +333,7 @@ static unsigned long run(const char *path, struct input *answers)
     if (count > 0)
         printf("%s: %lu cases, %lu differences\n", path, count, differences);
     if (skipped > 0)
-        printf("%s: %lu cases passed over, the walk is no job of its own\n", path, skipped);
+        printf("%s: %lu cases passed over, since no job answers them\n", path, skipped);
     free(cases.bytes);
     return differences;
 }

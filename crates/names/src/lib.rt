@@ -60,7 +60,8 @@ fn entries_clash(image: &[u8], h: Shape, i: usize, j: usize) -> bool
     if layout::entry::parent(a) != layout::entry::parent(b) {
         return false;
     }
-    layout::bytes::same(layout::entry::name(a), layout::entry::name(b))
+    let compared = layout::compare::compare(layout::entry::name(a), layout::entry::name(b));
+    compared.same
 }
 
 // Whether two entries share parent and name: a search over pairs, left at the first.

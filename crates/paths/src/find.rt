@@ -18,7 +18,8 @@ fn is_named(image: &[u8], h: Shape, d: usize, name: &[u8], j: usize) -> bool
     if layout::entry::parent(e) != d {
         return false;
     }
-    layout::bytes::same(layout::entry::name(e), name)
+    let compared = layout::compare::compare(layout::entry::name(e), name);
+    compared.same
 }
 
 // The slot of a name in directory d, or the number of slots where there is none.

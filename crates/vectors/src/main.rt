@@ -6,6 +6,7 @@ use reader::Tag;
 mod buffer;
 mod case;
 mod check;
+mod compares;
 mod image;
 mod land;
 mod plan;
@@ -31,6 +32,8 @@ const RENAME_CASE: u8 = 5;
 const REPAIR_CASE: u8 = 6;
 
 const GROUPS_CASE: u8 = 7;
+
+const COMPARE_CASE: u8 = 8;
 
 // Reads the rest of an item, and answers it where it is a case.
 fn item(
@@ -61,6 +64,9 @@ fn item(
     }
     if tag == GROUPS_CASE {
         return case::case(fd, Job::Groups, base, image, plan, scratch);
+    }
+    if tag == COMPARE_CASE {
+        return compares::case(fd);
     }
     reader::complain(b"an item has an unknown tag");
     false
@@ -116,4 +122,5 @@ fn main() {
     run(b"sticky");
     run(b"links");
     run(b"portable");
+    run(b"compare");
 }

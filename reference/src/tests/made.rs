@@ -1,7 +1,7 @@
 //! The cases of every part, made once for all the tests and read back as a program of the proved library reads them.
 
-use crate::cases::{check, groups, land, links, portable, rename, repair, sticky, walk, Collection};
-use crate::vectors::{read, Case, Landing, Renaming, Repairing, Walking};
+use crate::cases::{check, compare, groups, land, links, portable, rename, repair, sticky, walk, Collection};
+use crate::vectors::{read, Case, Comparing, Landing, Renaming, Repairing, Walking};
 use std::sync::LazyLock;
 
 pub struct Made<T> {
@@ -68,6 +68,13 @@ pub static STICKY_RENAMES: LazyLock<Made<Renaming>> = LazyLock::new(|| {
 pub static THROUGH_SYMLINKS: LazyLock<Made<Case>> = LazyLock::new(|| made(links::part::all, Some));
 
 pub static PORTABLE_NAMES: LazyLock<Made<Case>> = LazyLock::new(|| made(portable::part::all, Some));
+
+pub static COMPARES: LazyLock<Made<Comparing>> = LazyLock::new(|| {
+    made(compare::part::all, |case| match case {
+        Case::Compare(names) => Some(names),
+        _ => None,
+    })
+});
 
 impl Made<Case> {
     /// The walks of a part that has walks and renames, with their lines.

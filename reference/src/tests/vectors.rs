@@ -1,14 +1,15 @@
 //! The files of vectors: what is read back is what was asked, and the document counts it.
 
 use super::made::{
-    Made, CHECKS, LANDINGS, PORTABLE_NAMES, RENAMES, RENAMES_WITH_GROUPS, REPAIRS, STICKY_RENAMES, THROUGH_SYMLINKS,
-    WALKS,
+    Made, CHECKS, COMPARES, LANDINGS, PORTABLE_NAMES, RENAMES, RENAMES_WITH_GROUPS, REPAIRS, STICKY_RENAMES,
+    THROUGH_SYMLINKS, WALKS,
 };
-use crate::cases::{land, rename, repair, walk, Collection, PARTS};
+use crate::cases::{compare, land, rename, repair, walk, Collection, PARTS};
 use crate::model::check::check;
+use crate::model::compare::compare as compared;
 
 /// Every part by its name, in the order of the answers.
-fn collections() -> [(&'static str, &'static Collection); 9] {
+fn collections() -> [(&'static str, &'static Collection); 10] {
     [
         ("check", &CHECKS.collection),
         ("land", &LANDINGS.collection),
@@ -19,6 +20,7 @@ fn collections() -> [(&'static str, &'static Collection); 9] {
         ("sticky", &STICKY_RENAMES.collection),
         ("links", &THROUGH_SYMLINKS.collection),
         ("portable", &PORTABLE_NAMES.collection),
+        ("compare", &COMPARES.collection),
     ]
 }
 
@@ -84,6 +86,12 @@ fn the_stored_renames_with_groups_have_the_stored_answers() {
 fn the_stored_sticky_renames_have_the_stored_answers() {
     let Made { cases, collection } = &*STICKY_RENAMES;
     assert_lines(cases, collection, |renaming| rename::part::answer(renaming).1);
+}
+
+#[test]
+fn the_stored_pairs_of_names_have_the_stored_answers() {
+    let Made { cases, collection } = &*COMPARES;
+    assert_lines(cases, collection, |names| compare::part::line(compared(&names.first, &names.second)));
 }
 
 /// Both kinds, and nothing else, make up such a part.

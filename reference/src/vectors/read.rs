@@ -1,7 +1,7 @@
 //! Reads a file of test vectors back, strictly.
 
-use super::{Buffer, Case, Landing, Renaming, Repairing, Scratch, Walking};
-use super::{BASE, CHECK, LAND, RENAME, RENAME_WITH_GROUPS, REPAIR, WALK};
+use super::{Buffer, Case, Comparing, Landing, Renaming, Repairing, Scratch, Walking};
+use super::{BASE, CHECK, COMPARE, LAND, RENAME, RENAME_WITH_GROUPS, REPAIR, WALK};
 use super::{LONGEST_BASE, LONGEST_CASE, LONGEST_PATH, LONGEST_PLAN, LONGEST_SCRATCH, MOST_EDITS, MOST_GROUPS};
 use crate::model::permission::Credentials;
 use crate::model::request::{Operand, Request};
@@ -23,6 +23,7 @@ pub fn read(data: &[u8]) -> Option<Vec<Case>> {
             RENAME => cases.push(Case::Rename(reader.renaming(&base, Reader::no_groups)?)),
             REPAIR => cases.push(Case::Repair(reader.repairing(&base)?)),
             RENAME_WITH_GROUPS => cases.push(Case::RenameWithGroups(reader.renaming(&base, Reader::groups)?)),
+            COMPARE => cases.push(Case::Compare(reader.comparing()?)),
             _ => return None,
         }
     }
@@ -110,6 +111,11 @@ impl<'a> Reader<'a> {
         let plan = self.buffer()?;
         let scratch = Scratch { len: self.u32_up_to(LONGEST_SCRATCH)? as u32, fill: self.u8()? };
         Some(Repairing { image, plan, scratch })
+    }
+
+    fn comparing(&mut self) -> Option<Comparing> {
+        let lens = [usize::from(self.u8()?), usize::from(self.u8()?)];
+        Some(Comparing { first: self.take(lens[0])?.to_vec(), second: self.take(lens[1])?.to_vec() })
     }
 
     fn buffer(&mut self) -> Option<Buffer> {

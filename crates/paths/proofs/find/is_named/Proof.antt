@@ -37,8 +37,8 @@ name-requires c κs =
     let n = ap entryNameLength (entry .ensures .is) in
     omega (arith, pre .0 .names (args .j) (pre .1), entry .ensures .long, pre .0 .laid .width-least)
 
-same-requires : tie.Need-same-requires
-same-requires c κs = search needs
+compare-requires : tie.Need-compare-requires
+compare-requires c κs = search needs
 
 returns-3 : tie.Need-returns-3
 unfolding isNamed viewOf
@@ -51,7 +51,7 @@ returns-3 c =
     simp (
       ne-eqb _ _ (λ e. if1 .left (field-of entryNameLength (entry .ensures) (name-length .ensures .0) ∙ e)),
       eq-eqb _ _ (sym (field-of entryParent (entry .ensures) (parent .ensures .0)) ∙ c .before .before .if2 .left),
-      c .same .ensures,
+      c .compare .ensures .0,
       n,
     )
 
@@ -65,5 +65,5 @@ is-named-spec =
     parent-requires
     returns-2
     name-requires
-    same-requires
+    compare-requires
     returns-3)
