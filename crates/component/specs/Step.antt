@@ -1,6 +1,6 @@
 -- One component of a path: a list of tests and ways to go on, of which the first whose test holds decides (rules 50 to 60). A reader has to believe this
 -- file. Assumes nothing.
-use mathlib.Core.Bool.{Bool, true, false, _&&_, _||_, not, cond}
+use mathlib.Core.Bool.{Bool, false, _&&_, _||_, not, cond}
 use mathlib.Core.List.{List, [], _∷_, _++_}
 use Prim.Native.Nat.{ℕ, _+_}
 use lib.Dec.{ltb, leb}

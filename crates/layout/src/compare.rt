@@ -26,6 +26,7 @@ fn same_piece(a: &[u8], b: &[u8], at: usize) -> bool
     number::get64(a, at) == number::get64(b, at)
 }
 
+// Whether four bytes from at on are, and two: the ends of a shorter piece.
 fn same_four(a: &[u8], b: &[u8], at: usize) -> bool
     requires { ⌜ (at + 4 ≤ length (now a)) × (at + 4 ≤ length (now b)) ⌝ }
     ensures { λ r. ⌜ r ≡ sameBytes (part (now (a .entry)) at 4) (part (now (b .entry)) at 4) ⌝ }

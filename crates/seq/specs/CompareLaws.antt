@@ -1,7 +1,7 @@
 -- Laws of a compare by pieces: the numbers of two pieces tell whether these are the same, and the pieces whether the strings are. Assumes nothing.
 use mathlib.Core.Path.{_≡_, refl, sym, ap, ap₂, _∙_, subst}
 use mathlib.Core.Logic.{_≢_}
-use mathlib.Core.Bool.{Bool, true, false, not}
+use mathlib.Core.Bool.{Bool, true, false}
 use mathlib.Core.List.{List}
 use Prim.Native.Nat.{ℕ, zero, suc, _+_, _*_, _-_, _/_, _%_, _≤_, _<_}
 use native.Mathlib.Nat.{add-zero}
@@ -13,11 +13,11 @@ use lib.Seq.{take-all}
 use borrow.Author.Tests.{eqb-true, eq-eqb, ne-eqb, not-true, not-false}
 use Rattle.seq.specs.Search.{any, first}
 use Rattle.seq.specs.SearchLaws.{any-miss, any-hit, any-not, first-hit, all-of}
-use Rattle.seq.specs.Truth.{by-test, not-both, refuted}
+use Rattle.seq.specs.Truth.{not-both, refuted}
 use Rattle.seq.specs.Bytes.{part, sameBytes}
 use Rattle.seq.specs.BytesLaws.{same-refl, same-bytes, part-length, part-byte, part-take, part-drop}
 use Rattle.seq.specs.Number.{numberAt}
-use Rattle.seq.specs.NumberLaws.{number-same, number-part}
+use Rattle.seq.specs.NumberLaws.{number-part}
 use Rattle.seq.specs.Compare.{pieceSize, pieceAt, pieceCount, pieceDiffers, piecesRead, Compares}
 
 -- the same number, the same bytes

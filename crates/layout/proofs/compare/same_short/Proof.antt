@@ -1,10 +1,10 @@
 -- `layout::compare::same_short` meets its contract. Assumes nothing.
+use mathlib.Core.Path.{sym, _∙_}
+use native.Mathlib.Omega.{arith}
 use borrow.Author.Needs.{needs}
 use Rattle.seq.specs.Truth.{fails, holds}
 use Rattle.seq.specs.Bytes.{part}
 use Rattle.seq.specs.CompareLaws.{ends-differ, ends-decide}
-use native.Mathlib.Omega.{arith}
-use mathlib.Core.Path.{sym, _∙_}
 use Rattle.layout.proofs.compare.same_short.Statement.{statement}
 use Rattle.layout.proofs.compare.same_short.Tie as tie
 
@@ -17,7 +17,6 @@ same-four-requires c κs = search needs
 returns : tie.Need-returns
 returns c =
     let args = c .before .before .before .before .before .args in
-    let pre = c .before .before .before .before .before .pre in
     sym (ends-differ (args .a .now) (args .b .now) (args .at) (args .n) 4 (omega arith) (fails (c .before .same-four .ensures) (c .if2 .taken)))
 
 sub-same-four : tie.Need-sub-same-four
@@ -41,7 +40,6 @@ same-two-requires c κs = search needs
 returns-3 : tie.Need-returns-3
 returns-3 c =
     let args = c .before .before .before .before .before .before .args in
-    let pre = c .before .before .before .before .before .before .pre in
     sym (ends-differ (args .a .now) (args .b .now) (args .at) (args .n) 2 (omega arith) (fails (c .before .same-two .ensures) (c .if4 .taken)))
 
 sub-same-two : tie.Need-sub-same-two

@@ -1,5 +1,4 @@
 -- `paths::portable::lies` meets its contract. Assumes nothing.
-use mathlib.Core.Path.{sym}
 use borrow.Author.Tests.{lt-leb, le-leb}
 use Rattle.paths.proofs.portable.lies.Statement.{statement}
 use Rattle.paths.proofs.portable.lies.Tie as tie
