@@ -50,6 +50,14 @@ impl Entry {
 }
 
 impl Tree {
+    /// A symlink behind all other inodes, with a name in a directory and the next text for its own.
+    pub fn add_symlink(&mut self, directory: u16, name: &[u8], text: Vec<u8>, inode: Inode) {
+        let number = self.inodes.len() as u16;
+        self.inodes.push(Inode { field: self.texts.len() as u16, ..inode });
+        self.entries.push(Entry::new(directory, number, name));
+        self.texts.push(text);
+    }
+
     pub fn encode(&self) -> Vec<u8> {
         let layout =
             Layout::of_counts([self.inodes.len(), self.entries.len(), self.texts.len(), self.handles.len(), 1]);

@@ -90,10 +90,7 @@ pub fn link_tree() -> Tree {
     tree.inodes[usize::from(F)] = inode(FILE, 0);
     tree.inodes[usize::from(PRIVATE)] = Inode { mode: 0o700, owner: 200, group: 200, ..inode(DIRECTORY, 0) };
     for (name, text) in symlinks() {
-        let number = tree.inodes.len() as u16;
-        tree.inodes.push(inode(SYMLINK, tree.texts.len() as u16));
-        tree.entries.push(Entry::new(ROOT, number, &name));
-        tree.texts.push(text);
+        tree.add_symlink(ROOT, &name, text, inode(SYMLINK, 0));
     }
     tree.recount();
     tree

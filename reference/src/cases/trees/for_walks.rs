@@ -120,10 +120,7 @@ pub fn walk_tree() -> Tree {
     tree.inodes[usize::from(VACANT)] = Inode::default();
     tree.inodes[usize::from(PRIVATE)] = Inode { mode: 0o700, owner: 200, group: 200, ..inode(DIRECTORY, 0) };
     for (directory, name, text) in symlinks() {
-        let number = tree.inodes.len() as u16;
-        tree.inodes.push(inode(SYMLINK, tree.texts.len() as u16));
-        tree.entries.push(Entry::new(directory, number, &name));
-        tree.texts.push(text);
+        tree.add_symlink(directory, &name, text, inode(SYMLINK, 0));
     }
     tree.recount();
     tree
