@@ -2,6 +2,7 @@
 
 pub mod check;
 pub mod compare;
+pub mod crowded;
 pub mod damage;
 pub mod groups;
 pub mod land;
@@ -47,6 +48,8 @@ pub const PARTS: &[Part] = &[
     Part { name: "portable", make: portable::part::all },
     // two names: whether they are the same, and the pieces read
     Part { name: "compare", make: compare::part::all },
+    // a full image, mostly with names that crowd: its number
+    Part { name: "crowded", make: crowded::part::all },
 ];
 
 /// The cases of one class, by the numbers that answer them; those of the compare by the pieces that it reads.

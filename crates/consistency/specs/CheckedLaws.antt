@@ -1,11 +1,11 @@
 -- What the code asks of the bodies, by type and state, is the rules one by one. Assumes nothing.
-use mathlib.Core.Path.{_≡_, refl, sym, _∙_}
+use mathlib.Core.Path.{_≡_, refl, _∙_}
 use mathlib.Core.Bool.{Bool, true, false, _&&_, and-false}
 use mathlib.Core.List.{List, [], _∷_}
 use Prim.Native.Nat.{ℕ, _<_}
 use borrow.Author.Tests.{not-true}
 use Rattle.seq.specs.Search.{all, allPass}
-use Rattle.seq.specs.Truth.{and-left, and-right}
+use Rattle.seq.specs.Truth.{one-truth, and-left, and-right}
 use Rattle.seq.specs.SearchLaws.{any-not, any-false, all-at, all-of}
 use Rattle.layout.specs.declared.Shape.{Shape}
 use Rattle.layout.specs.Contents.{shapeOf, layoutGood}
@@ -22,13 +22,6 @@ use Rattle.consistency.specs.RecordFacts.{Bodies}
 use Rattle.consistency.specs.RecordFactLaws.{entry-is, is-entry, text-is, is-text, handle-is, is-handle}
 use Rattle.consistency.specs.SoundFacts.{bodies-is, is-bodies}
 use Rattle.consistency.specs.Checked.{bodiesChecked}
-
--- tests that pass together are one
-one-truth : (a b : Bool) → (a ≡ true → b ≡ true) → (b ≡ true → a ≡ true) → a ≡ b
-one-truth true true f g = refl
-one-truth true false f g = sym (f refl)
-one-truth false true f g = g refl
-one-truth false false f g = refl
 
 -- A consistent image is one that every rule passes.
 pub consistent-rules : (s : List ℕ) → consistent s ≡ allPass (soundRules s)

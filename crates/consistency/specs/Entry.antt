@@ -7,7 +7,7 @@ use Rattle.seq.specs.Bytes.{zeros}
 use Rattle.layout.specs.declared.Shape.{Shape}
 use Rattle.layout.specs.Limits.{nameOffset}
 use Rattle.layout.specs.View.{View, viewOf, nameRoom, entryAt, isDirectory, isUsed}
-use Rattle.names.specs.NameTests.{nameGood}
+use Rattle.names.specs.Name.{plainName, isDots}
 
 -- rule 16: a free entry is all zero
 abbrev pub entryZero : Shape → List ℕ → ℕ → Bool
@@ -17,7 +17,7 @@ entryZero h s j = zeros (entryAt h s j) 0 (h .width)
 abbrev pub nameFits : Shape → List ℕ → ℕ → Bool
 nameFits h s j = leb (viewOf h s .nameLength j) (nameRoom h)
 
--- rule 10: the three bytes behind the length, and the rest of the room, are zero
+-- rule 10: the three bytes behind the length are zero, and the rest of the room is
 abbrev pub lengthPadded : Shape → List ℕ → ℕ → Bool
 lengthPadded h s j = zeros (entryAt h s j) 5 3
 
@@ -25,7 +25,15 @@ abbrev pub namePadded : Shape → List ℕ → ℕ → Bool
 namePadded h s j = zeros (entryAt h s j) (nameOffset + viewOf h s .nameLength j) (nameRoom h - viewOf h s .nameLength j)
 
 unfoldable pub entryFormed : Shape → List ℕ → ℕ → Bool
-entryFormed h s j = nameFits h s j && lengthPadded h s j && namePadded h s j
+entryFormed h s j = nameFits h s j && lengthPadded h s j
+
+-- rules 25 and 10: no byte of the name is 0 or a slash, and what follows it is zero
+unfoldable pub entrySpelled : Shape → List ℕ → ℕ → Bool
+entrySpelled h s j = plainName (viewOf h s .name j) && namePadded h s j
+
+-- rule 26: the name is neither of the dots
+abbrev pub ownName : View → ℕ → Bool
+ownName v j = not (isDots (v .name j))
 
 -- rule 22: the parent is a directory
 abbrev pub parentGood : View → ℕ → Bool
@@ -54,7 +62,9 @@ held v target parent = cond (isDirectory v target) (fieldIsParent v target paren
 unfoldable pub entryLinked : View → ℕ → Bool
 entryLinked v j = parentGood v j && targetGood v j && belowRoot v j && held v (v .target j) (v .parent j)
 
--- an entry is free, or it is formed, named and linked as it should be
+-- what is asked of an entry in use: it is formed, spelled, named and linked as it should be
+unfoldable pub usedGood : Shape → List ℕ → ℕ → Bool
+usedGood h s j = entryFormed h s j && entrySpelled h s j && ownName (viewOf h s) j && entryLinked (viewOf h s) j
+
 unfoldable pub entryGood : Shape → List ℕ → ℕ → Bool
-entryGood h s j =
-    cond (eqb (viewOf h s .nameLength j) 0) (entryZero h s j) (entryFormed h s j && nameGood (viewOf h s .name j) && entryLinked (viewOf h s) j)
+entryGood h s j = cond (eqb (viewOf h s .nameLength j) 0) (entryZero h s j) (usedGood h s j)

@@ -1,38 +1,38 @@
--- The name of a consistent entry lies within its record. Assumes nothing.
-use mathlib.Core.Path.{_≡_, refl}
-use mathlib.Core.Bool.{Bool, true, false, _&&_, cond}
+-- The name of a consistent entry lies within its record, and zeros follow it. Assumes nothing.
+use mathlib.Core.Path.{_≡_}
+use mathlib.Core.Bool.{true}
 use mathlib.Core.List.{List}
 use Prim.Native.Nat.{ℕ, _+_, _≤_}
+use native.Mathlib.Decide.{ℕ-discrete}
 use native.Mathlib.Omega.{arith}
-use lib.Dec.{eqb}
-use borrow.Author.Tests.{leb-true, eqb-true}
+use borrow.Author.Tests.{leb-true, ne-eqb}
 use Rattle.seq.specs.Search.{all}
-use Rattle.seq.specs.Bytes.{zeros}
-use Rattle.seq.specs.Truth.{and-left, and-right}
+use Rattle.seq.specs.Truth.{and-left}
 use Rattle.seq.specs.SearchLaws.{all-at}
 use Rattle.layout.specs.declared.Shape.{Shape}
 use Rattle.layout.specs.Facts.{Laid}
-use Rattle.layout.specs.View.{viewOf, nameRoom, entryAt}
-use Rattle.names.specs.NameTests.{nameGood, Named}
-use Rattle.consistency.specs.Entry.{entryFormed, entryGood, entryLinked}
+use Rattle.layout.specs.View.{viewOf, nameRoom}
+use Rattle.names.specs.NameTests.{Named}
+use Rattle.consistency.specs.Entry.{entryFormed, entryGood}
+use Rattle.consistency.specs.RecordFactLaws.{entry-is}
 
--- a name of a consistent entry lies within its record
 module _ (h : Shape) (s : List ℕ) (laid : Laid h s) where
+  room-fits : (j : ℕ) → viewOf h s .nameLength j ≤ nameRoom h → 8 + viewOf h s .nameLength j ≤ h .width
+  room-fits j l = omega (arith, laid .width-least)
+
   pub formed-fits : (j : ℕ) → entryFormed h s j ≡ true → 8 + viewOf h s .nameLength j ≤ h .width
   unfolding entryFormed
-  formed-fits j e =
-      let l = leb-true (viewOf h s .nameLength j) (nameRoom h) (search (and-left, and-right)) in
-      omega (arith, laid .width-least)
+  formed-fits j e = room-fits j (leb-true (viewOf h s .nameLength j) (nameRoom h) (and-left _ _ e))
 
   good-fits : (j : ℕ) → entryGood h s j ≡ true → 8 + viewOf h s .nameLength j ≤ h .width
-  unfolding entryGood
-  good-fits j e = go (eqb (viewOf h s .nameLength j) 0) refl e
+  good-fits j e = go (ℕ-discrete (viewOf h s .nameLength j) 0)
     where
-      go : (b : Bool) → eqb (viewOf h s .nameLength j) 0 ≡ b
-          → cond b (zeros (entryAt h s j) 0 (h .width)) (entryFormed h s j && nameGood (viewOf h s .name j) && entryLinked (viewOf h s) j) ≡ true
-          → 8 + viewOf h s .nameLength j ≤ h .width
-      go true z g = omega (arith, eqb-true (viewOf h s .nameLength j) 0 z, laid .width-least)
-      go false z g = formed-fits j (search (and-left, and-right))
+      go : Dec (viewOf h s .nameLength j ≡ 0) → 8 + viewOf h s .nameLength j ≤ h .width
+      go (yes z) = omega (arith, laid .width-least)
+      go (no z) = room-fits j (entry-is h s j e .used (rw (ne-eqb _ _ z)) .short)
 
   pub entries-named : all (entryGood h s) (h .entries) ≡ true → Named h s
-  entries-named e = record { fits = λ j l. good-fits j (all-at (entryGood h s) (h .entries) e j l) }
+  entries-named e = record {
+    fits = λ j l. good-fits j (all-at (entryGood h s) (h .entries) e j l);
+    padded = λ j l u. entry-is h s j (all-at (entryGood h s) (h .entries) e j l) .used u .filled;
+  }

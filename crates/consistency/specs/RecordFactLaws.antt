@@ -1,6 +1,6 @@
 -- Good entries, texts, handles and bodies and the records of their facts, both directions. Assumes nothing.
 use mathlib.Core.Path.{_≡_, refl, sym, _∙_}
-use mathlib.Core.Bool.{Bool, true, false, _&&_, cond, false≢true}
+use mathlib.Core.Bool.{Bool, true, false, not, cond, false≢true}
 use mathlib.Core.List.{List}
 use Prim.Native.Nat.{ℕ, _≤_}
 use native.Mathlib.Decide.{ℕ-discrete, decLe}
@@ -8,11 +8,12 @@ use native.Mathlib.Omega.{arith}
 use lib.Dec.{eqb}
 use borrow.Author.Tests.{eqb-true, eqb-false, leb-true, not-true, not-false, eq-eqb, ne-eqb, le-leb}
 use Rattle.seq.specs.Bytes.{zeros}
-use Rattle.seq.specs.Truth.{implies-at, implies-of, and-left, and-right}
+use Rattle.seq.specs.Truth.{implies-at, implies-of, and-left, and-right, and-both}
 use Rattle.layout.specs.declared.Shape.{Shape}
 use Rattle.layout.specs.View.{View, viewOf, entryAt, handleAt, isDirectory, textUsed}
+use Rattle.names.specs.Name.{plainName, isDots}
 use Rattle.names.specs.NameTests.{nameGood}
-use Rattle.consistency.specs.Entry.{entryFormed, entryLinked, entryGood}
+use Rattle.consistency.specs.Entry.{entryFormed, entrySpelled, entryLinked, usedGood, entryGood}
 use Rattle.consistency.specs.Others.{textGood, openGood, byState, handleGood}
 use Rattle.consistency.specs.StateTests.{state-closed, state-open, state-none}
 use Rattle.consistency.specs.Sound.{textLinked}
@@ -49,25 +50,27 @@ module _ (v : View) (j : ℕ) where
       rw (f .parent, f .target, ne-eqb _ _ (f .below-root)) c
 
 module _ (h : Shape) (s : List ℕ) (j : ℕ) where
-  used-is : (entryFormed h s j && nameGood (viewOf h s .name j) && entryLinked (viewOf h s) j) ≡ true → Used h s j
-  unfolding entryFormed
+  used-is : usedGood h s j ≡ true → Used h s j
+  unfolding usedGood entryFormed entrySpelled nameGood
   used-is e = record {
     short = leb-true _ _ (search (and-left, and-right));
     padded = search (and-left, and-right);
     filled = search (and-left, and-right);
-    name = search (and-left, and-right);
+    name = and-both (plainName (viewOf h s .name j)) (not (isDots (viewOf h s .name j))) (search (and-left, and-right)) (search (and-left, and-right));
     linked = linked-is (viewOf h s) j (search (and-left, and-right));
   }
 
-  is-used : Used h s j → (entryFormed h s j && nameGood (viewOf h s .name j) && entryLinked (viewOf h s) j) ≡ true
-  unfolding entryFormed
-  is-used f = rw (le-leb _ _ (f .short), f .padded, f .filled, f .name, is-linked (viewOf h s) j (f .linked))
+  is-used : Used h s j → usedGood h s j ≡ true
+  unfolding usedGood entryFormed entrySpelled nameGood
+  is-used f =
+      let plain = and-left (plainName (viewOf h s .name j)) _ (f .name) in
+      let own = and-right (plainName (viewOf h s .name j)) _ (f .name) in
+      rw (le-leb _ _ (f .short), f .padded, f .filled, plain, own, is-linked (viewOf h s) j (f .linked))
 
   pub entry-is : entryGood h s j ≡ true → Entry h s j
   unfolding entryGood
   entry-is e =
-      let c = choice-is (eqb (viewOf h s .nameLength j) 0) (zeros (entryAt h s j) 0 (h .width))
-      (entryFormed h s j && nameGood (viewOf h s .name j) && entryLinked (viewOf h s) j) e in
+      let c = choice-is (eqb (viewOf h s .nameLength j) 0) (zeros (entryAt h s j) 0 (h .width)) (usedGood h s j) e in
       record { free = λ u. c .0 (not-false _ u); used = λ u. used-is (c .1 (not-true _ u)) }
 
   pub is-entry : Entry h s j → entryGood h s j ≡ true

@@ -20,16 +20,17 @@ pub fn bodies_good(image: &[u8], h: Shape) -> bool
     if !layout::lookup::is_directory(image, h, 0) {
         return false;
     }
-    if !tree::inodes::all_good(image, h) {
+    let owners = tallies::text_owners(image, h);
+    if !inodes::all_good(image, h, &owners) {
         return false;
     }
     if !entries::all_good(image, h) {
         return false;
     }
-    if names::has_duplicate(image, h) {
+    if duplicates::has_duplicate(image, h) {
         return false;
     }
-    if !texts::all_good(image, h) {
+    if !texts::all_good(image, h, &owners) {
         return false;
     }
     handles::all_good(image, h)

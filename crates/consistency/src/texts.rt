@@ -6,28 +6,21 @@ ghost use Prim.Native.Nat.{_<_};
 ghost use Rattle.seq.specs.Search.{all};
 ghost use Rattle.layout.specs.Facts.{Laid};
 ghost use Rattle.layout.specs.View.{viewOf};
+ghost use Rattle.tallies.specs.Tallies.{TextOwners};
 ghost use Rattle.consistency.specs.Others.{textGood};
 ghost use Rattle.consistency.specs.Sound.{textLinked};
 
 // Whether some symlink has text t.
-fn linked(image: &[u8], h: Shape, t: usize) -> bool
-    requires { ⌜ Laid h (now image) ⌝ }
+fn linked(image: &[u8], h: Shape, owners: &[u16; 65], t: usize) -> bool
+    requires { ⌜ Laid h (now image) × (t < h .texts) × TextOwners h (now image) (now owners) ⌝ }
     ensures { λ r. ⌜ r ≡ textLinked (viewOf h (now (image .entry))) t ⌝ }
 {
-    let n = h.inodes;
-    let mut i: usize = 0;
-    while i < n {
-        if tree::inodes::has_text(image, h, i, t) {
-            return true;
-        }
-        i += 1;
-    }
-    false
+    tables::wide(owners[t]) < h.inodes
 }
 
 // Whether text t fits its room, is followed by zeros, holds no zero, and belongs to a symlink if it is in use.
-fn good(image: &[u8], h: Shape, t: usize) -> bool
-    requires { ⌜ Laid h (now image) × (t < h .texts) ⌝ }
+fn good(image: &[u8], h: Shape, owners: &[u16; 65], t: usize) -> bool
+    requires { ⌜ Laid h (now image) × (t < h .texts) × TextOwners h (now image) (now owners) ⌝ }
     ensures { λ r. ⌜ r ≡ textGood h (now (image .entry)) t ⌝ }
 {
     let r = layout::records::text(image, h, t);
@@ -44,18 +37,18 @@ fn good(image: &[u8], h: Shape, t: usize) -> bool
     if n == 0 {
         return true;
     }
-    linked(image, h, t)
+    linked(image, h, owners, t)
 }
 
 // Whether every text is consistent.
-pub fn all_good(image: &[u8], h: Shape) -> bool
-    requires { ⌜ Laid h (now image) ⌝ }
+pub fn all_good(image: &[u8], h: Shape, owners: &[u16; 65]) -> bool
+    requires { ⌜ Laid h (now image) × TextOwners h (now image) (now owners) ⌝ }
     ensures { λ r. ⌜ r ≡ all (textGood h (now (image .entry))) (h .texts) ⌝ }
 {
     let n = h.texts;
     let mut t: usize = 0;
     while t < n {
-        if !good(image, h, t) {
+        if !good(image, h, owners, t) {
             return false;
         }
         t += 1;

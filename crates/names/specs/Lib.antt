@@ -1,2 +1,5 @@
 pub mod Name
 pub mod NameTests
+pub mod ClashLaws
+pub mod PieceLaws
+pub mod FrontLaws

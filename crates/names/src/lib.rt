@@ -1,11 +1,14 @@
-// Names of directory entries: the bytes of one, and no two alike in a directory.
-use layout::Shape;
+// Names of directory entries: the bytes of one, and two that share it.
 ghost use mathlib.Core.Path.{_≡_};
-ghost use Prim.Native.Nat.{_<_};
-ghost use Rattle.layout.specs.Facts.{Laid};
-ghost use Rattle.layout.specs.View.{viewOf};
-ghost use Rattle.names.specs.Name.{plainName, isDots, clash};
-ghost use Rattle.names.specs.NameTests.{nameGood, hasDuplicate, Named};
+ghost use Prim.Native.Nat.{_+_, _≤_};
+ghost use lib.ListN.{length};
+ghost use Rattle.names.specs.Name.{plainName, isDots};
+ghost use Rattle.names.specs.NameTests.{frontBytes, frontGood, nameSpelled};
+
+pub mod pairs;
+
+// The bytes of a name that an entry of every edition has room for.
+const FRONT_BYTES: usize = 24;
 
 // Whether no byte is 0 or a slash.
 fn bytes_good(name: &[u8]) -> bool
@@ -24,6 +27,40 @@ fn bytes_good(name: &[u8]) -> bool
     true
 }
 
+// Whether a name of n bytes in an entry's first 24 holds no 0 and no slash, and zeros follow it there. Every byte is looked at and no branch is taken, which is
+// quicker than to leave at the first that is wrong.
+pub fn front_good(e: &[u8], n: usize) -> bool
+    requires { ⌜ (32 ≤ length (now e)) × (n ≤ frontBytes) ⌝ }
+    ensures { λ r. ⌜ r ≡ frontGood (now (e .entry)) n ⌝ }
+{
+    let m = n as u8;
+    let mut wrong = false;
+    let mut k: u8 = 0;
+    while k < 24 {
+        let b = e[8 + (k as usize)];
+        wrong = wrong | (b == b'/') | ((b != 0) != (k < m));
+        k += 1;
+    }
+    !wrong
+}
+
+// Whether a name of n bytes in an entry's room is plain, and zeros follow it to the end of the record.
+pub fn spelled(e: &[u8], n: usize) -> bool
+    requires { ⌜ (32 ≤ length (now e)) × (8 + n ≤ length (now e)) ⌝ }
+    ensures { λ r. ⌜ r ≡ nameSpelled (now (e .entry)) n ⌝ }
+{
+    if n <= FRONT_BYTES {
+        if !front_good(e, n) {
+            return false;
+        }
+        return layout::bytes::all_zero(e, 32, e.len() - 32);
+    }
+    if !bytes_good(&e[8..8 + n]) {
+        return false;
+    }
+    layout::bytes::all_zero(e, 8 + n, e.len() - 8 - n)
+}
+
 // Whether the name stands for the directory itself or for its parent.
 pub fn is_dots(name: &[u8]) -> bool
     ensures { λ r. ⌜ r ≡ isDots (now (name .entry)) ⌝ }
@@ -32,56 +69,4 @@ pub fn is_dots(name: &[u8]) -> bool
         return true;
     }
     layout::bytes::same(name, b"..")
-}
-
-// Whether an entry may have this name.
-pub fn good(name: &[u8]) -> bool
-    ensures { λ r. ⌜ r ≡ nameGood (now (name .entry)) ⌝ }
-{
-    if !bytes_good(name) {
-        return false;
-    }
-    !is_dots(name)
-}
-
-// Whether the entries in slots i and j are in use and share parent and name.
-fn entries_clash(image: &[u8], h: Shape, i: usize, j: usize) -> bool
-    requires { ⌜ Laid h (now image) × Named h (now image) × (i < h .entries) × (j < h .entries) ⌝ }
-    ensures { λ r. ⌜ r ≡ clash (viewOf h (now (image .entry))) i j ⌝ }
-{
-    let a = layout::records::entry(image, h, i);
-    if layout::entry::name_length(a) == 0 {
-        return false;
-    }
-    let b = layout::records::entry(image, h, j);
-    if layout::entry::name_length(b) == 0 {
-        return false;
-    }
-    if layout::entry::parent(a) != layout::entry::parent(b) {
-        return false;
-    }
-    let compared = layout::compare::compare(layout::entry::name(a), layout::entry::name(b));
-    compared.same
-}
-
-// Whether two entries share parent and name: a search over pairs, left at the first.
-pub fn has_duplicate(image: &[u8], h: Shape) -> bool
-    requires { ⌜ Laid h (now image) × Named h (now image) ⌝ }
-    ensures { λ r. ⌜ r ≡ hasDuplicate (viewOf h (now (image .entry))) ⌝ }
-{
-    let n = h.entries;
-    let mut found = false;
-    let mut j: usize = 0;
-    'pairs: while j < n {
-        let mut i: usize = 0;
-        while i < j {
-            if entries_clash(image, h, i, j) {
-                found = true;
-                break 'pairs;
-            }
-            i += 1;
-        }
-        j += 1;
-    }
-    found
 }

@@ -12,16 +12,16 @@ ghost use Rattle.refusals.specs.Case.{entryIn, hasEntries, openOn, isOpe
 ghost use Rattle.refusals.specs.Within.{Within};
 ghost use Rattle.refusals.specs.Steps.{numberOf, decide, targetRules};
 
-// Whether the entry in slot j is in use and lies in directory d.
+// Whether the entry in slot j is in use and lies in directory d. Few entries do, so that is asked first.
 fn entry_in(image: &[u8], h: Shape, d: usize, j: usize) -> bool
     requires { ⌜ Laid h (now image) × (j < h .entries) ⌝ }
     ensures { λ r. ⌜ r ≡ entryIn (viewOf h (now (image .entry))) d j ⌝ }
 {
     let e = layout::records::entry(image, h, j);
-    if layout::entry::name_length(e) == 0 {
+    if layout::entry::parent(e) != d {
         return false;
     }
-    layout::entry::parent(e) == d
+    layout::entry::name_length(e) != 0
 }
 
 // Whether directory d has entries.

@@ -2,10 +2,13 @@
 use crate::Move;
 use layout::Shape;
 ghost use mathlib.Core.Path.{_≡_};
+ghost use mathlib.Core.Bool.{_&&_, not};
 ghost use Prim.Native.Nat.{_+_, _≤_, _<_};
+ghost use lib.Dec.{eqb, ltb};
+ghost use Rattle.seq.specs.Count.{bit};
 ghost use Rattle.layout.specs.Limits.{entryLimit};
 ghost use Rattle.layout.specs.Facts.{Laid};
-ghost use Rattle.layout.specs.View.{viewOf};
+ghost use Rattle.layout.specs.View.{viewOf, isDirectory};
 ghost use Rattle.results.specs.Results.{targetsAfter, entriesAfter, holdsAfter, childrenAfter, linksAfter};
 
 // Whether the entry in slot j, as edited, targets inode i.
@@ -26,8 +29,8 @@ fn targets_after(image: &[u8], h: Shape, m: Move, i: usize, j: usize) -> bool
     layout::entry::target(e) == i
 }
 
-// How many entries, as edited, target inode i.
-pub fn entries_after(image: &[u8], h: Shape, m: Move, i: usize) -> usize
+// How many entries, as edited, target inode i: slot by slot, wherever the two slots are.
+fn entries_edited(image: &[u8], h: Shape, m: Move, i: usize) -> usize
     requires { ⌜ Laid h (now image) ⌝ }
     ensures { λ r. ⌜ (r ≡ entriesAfter (viewOf h (now (image .entry))) m i) × (r ≤ entryLimit) ⌝ }
 {
@@ -67,8 +70,8 @@ fn holds_after(image: &[u8], h: Shape, m: Move, d: usize, j: usize) -> bool
     layout::lookup::is_directory(image, h, layout::entry::target(e))
 }
 
-// How many child directories directory d has, by the entries as edited.
-pub fn children_after(image: &[u8], h: Shape, m: Move, d: usize) -> usize
+// How many child directories directory d has, by the entries as edited: slot by slot.
+fn children_edited(image: &[u8], h: Shape, m: Move, d: usize) -> usize
     requires { ⌜ Laid h (now image) ⌝ }
     ensures { λ r. ⌜ (r ≡ childrenAfter (viewOf h (now (image .entry))) m d) × (r ≤ entryLimit) ⌝ }
 {
@@ -82,6 +85,70 @@ pub fn children_after(image: &[u8], h: Shape, m: Move, d: usize) -> usize
         j += 1;
     }
     found
+}
+
+// Whether a move's slots are two of the image.
+fn edits_two(h: Shape, m: Move) -> bool
+    ensures { λ r. ⌜ r ≡ (ltb (m .old) (h .entries) && ltb (m .new) (h .entries) && not (eqb (m .old) (m .new))) ⌝ }
+{
+    if h.entries <= m.old {
+        return false;
+    }
+    if h.entries <= m.new {
+        return false;
+    }
+    m.old != m.new
+}
+
+// What an entry counts for.
+fn one_if(counted: bool) -> usize
+    ensures { λ r. ⌜ (r ≡ bit counted) × (r ≤ 1) ⌝ }
+{
+    if counted {
+        return 1;
+    }
+    0
+}
+
+// How many entries, as edited, target inode i. A move edits two slots, so that the count as it stands tells it but for these.
+pub fn entries_after(image: &[u8], h: Shape, m: Move, i: usize) -> usize
+    requires { ⌜ Laid h (now image) ⌝ }
+    ensures { λ r. ⌜ (r ≡ entriesAfter (viewOf h (now (image .entry))) m i) × (r ≤ entryLimit) ⌝ }
+{
+    if !edits_two(h, m) {
+        return entries_edited(image, h, m, i);
+    }
+    let stand = tree::entries_of(image, h, i);
+    let made = one_if(m.moved == i);
+    let old = one_if(tree::entry_targets(image, h, i, m.old));
+    let new = one_if(tree::entry_targets(image, h, i, m.new));
+    stand + made - old - new
+}
+
+// Whether the entry that a move makes lies in directory d and targets a directory.
+fn makes_child(image: &[u8], h: Shape, m: Move, d: usize) -> bool
+    requires { ⌜ Laid h (now image) ⌝ }
+    ensures { λ r. ⌜ r ≡ (eqb (m .into) d && isDirectory (viewOf h (now (image .entry))) (m .moved)) ⌝ }
+{
+    if m.into != d {
+        return false;
+    }
+    layout::lookup::is_directory(image, h, m.moved)
+}
+
+// How many child directories directory d has, by the entries as edited, in the same way.
+pub fn children_after(image: &[u8], h: Shape, m: Move, d: usize) -> usize
+    requires { ⌜ Laid h (now image) ⌝ }
+    ensures { λ r. ⌜ (r ≡ childrenAfter (viewOf h (now (image .entry))) m d) × (r ≤ entryLimit) ⌝ }
+{
+    if !edits_two(h, m) {
+        return children_edited(image, h, m, d);
+    }
+    let stand = tree::child_directories(image, h, d);
+    let made = one_if(makes_child(image, h, m, d));
+    let old = one_if(tree::entry_holds_directory(image, h, d, m.old));
+    let new = one_if(tree::entry_holds_directory(image, h, d, m.new));
+    stand + made - old - new
 }
 
 // The link count of inode i, by the entries as edited.

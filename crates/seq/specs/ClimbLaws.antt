@@ -40,13 +40,14 @@ module _ (p : ℕ → ℕ) (limit : ℕ) where
   pub pigeonhole : (n : ℕ) → ((k : ℕ) → k < n → p k < limit) → ((a b : ℕ) → a < b → b < n → p a ≢ p b) → n ≤ limit
   pigeonhole n below apart = omega (arith, count-seen n below apart, count-le (seen n) limit)
 
-up-add : (f : ℕ → ℕ) (m n i : ℕ) → up f (m + n) i ≡ up f n (up f m i)
+-- m steps and then n
+pub up-add : (f : ℕ → ℕ) (m n i : ℕ) → up f (m + n) i ≡ up f n (up f m i)
 unfolding up
 up-add f zero n i = rw zero-add
 up-add f (suc m) n i = rw suc-add (up-add f m n (f i))
 
 -- a step that stays stays
-stays : (f : ℕ → ℕ) (i k : ℕ) → f i ≡ i → up f k i ≡ i
+pub stays : (f : ℕ → ℕ) (i k : ℕ) → f i ≡ i → up f k i ≡ i
 unfolding up
 stays f i zero e = refl
 stays f i (suc k) e = rw e (stays f i k e)

@@ -1,4 +1,4 @@
-// The directory tree: entries of a file, child directories, the way up to the root; inodes by their type.
+// The directory tree: the entries of a file, child directories, and the way up.
 use layout::Shape;
 ghost use mathlib.Core.Path.{_≡_};
 ghost use Prim.Native.Nat.{_≤_, _<_};
@@ -7,18 +7,16 @@ ghost use Rattle.layout.specs.Facts.{Laid};
 ghost use Rattle.layout.specs.View.{viewOf};
 ghost use Rattle.tree.specs.Tree.{targets, entriesOf, holdsDirectory, childDirectories, reaches};
 
-pub mod inodes;
-
-// Whether the entry in slot j is in use and targets inode i.
-fn entry_targets(image: &[u8], h: Shape, i: usize, j: usize) -> bool
+// Whether the entry in slot j is in use and targets inode i. Few entries do, so that is asked first.
+pub fn entry_targets(image: &[u8], h: Shape, i: usize, j: usize) -> bool
     requires { ⌜ Laid h (now image) × (j < h .entries) ⌝ }
     ensures { λ r. ⌜ r ≡ targets (viewOf h (now (image .entry))) i j ⌝ }
 {
     let e = layout::records::entry(image, h, j);
-    if layout::entry::name_length(e) == 0 {
+    if layout::entry::target(e) != i {
         return false;
     }
-    layout::entry::target(e) == i
+    layout::entry::name_length(e) != 0
 }
 
 // How many entries target inode i.
@@ -38,16 +36,16 @@ pub fn entries_of(image: &[u8], h: Shape, i: usize) -> usize
     found
 }
 
-// Whether the entry in slot j is in use, lies in directory i and targets a directory.
-fn entry_holds_directory(image: &[u8], h: Shape, i: usize, j: usize) -> bool
+// Whether the entry in slot j is in use, lies in directory i and targets a directory. Few entries lie there, so that is asked first.
+pub fn entry_holds_directory(image: &[u8], h: Shape, i: usize, j: usize) -> bool
     requires { ⌜ Laid h (now image) × (j < h .entries) ⌝ }
     ensures { λ r. ⌜ r ≡ holdsDirectory (viewOf h (now (image .entry))) i j ⌝ }
 {
     let e = layout::records::entry(image, h, j);
-    if layout::entry::name_length(e) == 0 {
+    if layout::entry::parent(e) != i {
         return false;
     }
-    if layout::entry::parent(e) != i {
+    if layout::entry::name_length(e) == 0 {
         return false;
     }
     layout::lookup::is_directory(image, h, layout::entry::target(e))

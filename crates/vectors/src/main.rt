@@ -123,4 +123,5 @@ fn main() {
     run(b"links");
     run(b"portable");
     run(b"compare");
+    run(b"crowded");
 }

@@ -1,6 +1,6 @@
 //! The cases of every part, made once for all the tests and read back as a program of the proved library reads them.
 
-use crate::cases::{check, compare, groups, land, links, portable, rename, repair, sticky, walk, Collection};
+use crate::cases::{check, compare, crowded, groups, land, links, portable, rename, repair, sticky, walk, Collection};
 use crate::vectors::{read, Case, Comparing, Landing, Renaming, Repairing, Walking};
 use std::sync::LazyLock;
 
@@ -16,12 +16,16 @@ fn made<T>(make: fn() -> Collection, input: fn(Case) -> Option<T>) -> Made<T> {
     Made { collection, cases }
 }
 
-pub static CHECKS: LazyLock<Made<Vec<u8>>> = LazyLock::new(|| {
-    made(check::part::all, |case| match case {
+fn image(case: Case) -> Option<Vec<u8>> {
+    match case {
         Case::Check(image) => Some(image),
         _ => None,
-    })
-});
+    }
+}
+
+pub static CHECKS: LazyLock<Made<Vec<u8>>> = LazyLock::new(|| made(check::part::all, image));
+
+pub static CROWDED: LazyLock<Made<Vec<u8>>> = LazyLock::new(|| made(crowded::part::all, image));
 
 pub static LANDINGS: LazyLock<Made<Landing>> = LazyLock::new(|| {
     made(land::part::all, |case| match case {

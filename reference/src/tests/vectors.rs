@@ -1,7 +1,7 @@
 //! The files of vectors: what is read back is what was asked, and the document counts it.
 
 use super::made::{
-    Made, CHECKS, COMPARES, LANDINGS, PORTABLE_NAMES, RENAMES, RENAMES_WITH_GROUPS, REPAIRS, STICKY_RENAMES,
+    Made, CHECKS, COMPARES, CROWDED, LANDINGS, PORTABLE_NAMES, RENAMES, RENAMES_WITH_GROUPS, REPAIRS, STICKY_RENAMES,
     THROUGH_SYMLINKS, WALKS,
 };
 use crate::cases::{compare, land, rename, repair, walk, Collection, PARTS};
@@ -9,7 +9,7 @@ use crate::model::check::check;
 use crate::model::compare::compare as compared;
 
 /// Every part by its name, in the order of the answers.
-fn collections() -> [(&'static str, &'static Collection); 10] {
+fn collections() -> [(&'static str, &'static Collection); 11] {
     [
         ("check", &CHECKS.collection),
         ("land", &LANDINGS.collection),
@@ -21,6 +21,7 @@ fn collections() -> [(&'static str, &'static Collection); 10] {
         ("links", &THROUGH_SYMLINKS.collection),
         ("portable", &PORTABLE_NAMES.collection),
         ("compare", &COMPARES.collection),
+        ("crowded", &CROWDED.collection),
     ]
 }
 
@@ -53,7 +54,9 @@ fn assert_lines<T>(cases: &[T], collection: &Collection, line: impl Fn(&T) -> St
 
 #[test]
 fn the_stored_images_have_the_stored_answers() {
-    assert_lines(&CHECKS.cases, &CHECKS.collection, |image| check(image).to_string());
+    for Made { cases, collection } in [&*CHECKS, &*CROWDED] {
+        assert_lines(cases, collection, |image| check(image).to_string());
+    }
 }
 
 #[test]

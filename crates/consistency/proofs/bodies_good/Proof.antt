@@ -13,6 +13,9 @@ is-directory-requires c κs = search needs
 returns : tie.Need-returns
 returns c = out-root _ _ (fails (c .before .is-directory .ensures) (c .if1 .taken))
 
+text-owners-requires : tie.Need-text-owners-requires
+text-owners-requires c κs = search needs
+
 all-good-requires : tie.Need-all-good-requires
 all-good-requires c κs = search needs
 
@@ -27,8 +30,8 @@ returns-3 c = out-entries _ _ (fails (c .before .all-good2 .ensures) (c .if3 .ta
 
 has-duplicate-requires : tie.Need-has-duplicate-requires
 has-duplicate-requires c κs =
-    let args = c .before .before .before .before .before .before .before .args in
-    let pre = c .before .before .before .before .before .before .before .pre in
+    let args = c .before .before .before .before .before .before .before .before .before .args in
+    let pre = c .before .before .before .before .before .before .before .before .before .pre in
     (search needs, entries-named (args .h) (args .image .now) pre (holds (c .before .all-good2 .ensures) (c .if3 .left)))
 
 returns-4 : tie.Need-returns-4
@@ -45,10 +48,10 @@ all-good-requires-4 c κs = search needs
 
 returns-6 : tie.Need-returns-6
 returns-6 c =
-    let root = holds (c .before .before .before .before .before .before .before .before .before .before .is-directory .ensures) (c .before .before .before .before .before .before .before .before .before .if1 .left) in
-    let inodes = holds (c .before .before .before .before .before .before .before .before .all-good .ensures) (c .before .before .before .before .before .before .before .if2 .left) in
-    let entries = holds (c .before .before .before .before .before .before .all-good2 .ensures) (c .before .before .before .before .before .if3 .left) in
-    let names = sym (c .before .before .before .before .has-duplicate .ensures) ∙ c .before .before .before .if4 .left in
+    let root = holds (c .before .before .before .before .before .before .before .before .before .before .before .before .before .is-directory .ensures) (c .before .before .before .before .before .before .before .before .before .before .before .before .if1 .left) in
+    let inodes = holds (c .before .before .before .before .before .before .before .before .before .all-good .ensures) (c .before .before .before .before .before .before .before .before .if2 .left) in
+    let entries = holds (c .before .before .before .before .before .before .before .all-good2 .ensures) (c .before .before .before .before .before .before .if3 .left) in
+    let names = sym (c .before .before .before .before .before .has-duplicate .ensures) ∙ c .before .before .before .before .if4 .left in
     let texts = holds (c .before .before .all-good3 .ensures) (c .before .if5 .left) in
     out-handles _ _ root inodes entries names texts _ (c .all-good4 .ensures)
 
@@ -58,6 +61,7 @@ bodies-good-spec =
     (tie.spec
     is-directory-requires
     returns
+    text-owners-requires
     all-good-requires
     returns-2
     all-good-requires-2

@@ -11,10 +11,10 @@ use Rattle.consistency.proofs.texts.all_good.Statement.{statement}
 use Rattle.consistency.proofs.texts.all_good.Tie as tie
 
 abbrev Inv-loop : tie.InvT-loop
-Inv-loop s h n t₀ t = (t ≤ n) × (all (textGood h s) t ≡ true)
+Inv-loop s h owners n t₀ t = (t ≤ n) × (all (textGood h s) t ≡ true)
 
 abbrev μ-loop : tie.MeasureT-loop
-μ-loop s h n t₀ t = n - t
+μ-loop s h owners n t₀ t = n - t
 
 loop-holds : tie.Need-loop-holds Inv-loop μ-loop
 loop-holds c = (search needs, all-none _)

@@ -1,5 +1,6 @@
 -- `refusals::target::entry_in` meets its contract. Assumes nothing.
 use mathlib.Core.Path.{sym, _∙_}
+use mathlib.Core.Bool.{and-true, and-false}
 use borrow.Author.Tests.{eq-eqb, ne-eqb}
 use borrow.Author.Needs.{needs}
 use Rattle.layout.specs.View.{viewOf}
@@ -11,23 +12,23 @@ use Rattle.refusals.proofs.target.entry_in.Tie as tie
 entry-requires : tie.Need-entry-requires
 entry-requires c κs = search needs
 
-name-length-requires : tie.Need-name-length-requires
-name-length-requires c κs = search needs
+parent-requires : tie.Need-parent-requires
+parent-requires c κs = search needs
 
 returns : tie.Need-returns
 unfolding viewOf
-returns c = simp (eq-eqb _ _ (sym (field-of entryNameLength (c .before .before .entry .ensures) (c .before .name-length .ensures .0)) ∙ c .if1 .taken))
+returns c = simp (and-false, ne-eqb _ _ (λ e. c .if1 .taken (field-of entryParent (c .before .before .entry .ensures) (c .before .parent .ensures .0) ∙ e)))
 
-parent-requires : tie.Need-parent-requires
-parent-requires c κs = search needs
+name-length-requires : tie.Need-name-length-requires
+name-length-requires c κs = search needs
 
 returns-2 : tie.Need-returns-2
 unfolding viewOf
 returns-2 c =
-    let l = field-of entryNameLength (c .before .before .before .entry .ensures) (c .before .before .name-length .ensures .0) in
-    let p = field-of entryParent (c .before .before .before .entry .ensures) (c .parent .ensures .0) in
-    simp (ne-eqb _ _ (λ e. c .before .if1 .left (l ∙ e)), p)
+    let entry = c .before .before .before .entry in
+    let p = field-of entryParent (entry .ensures) (c .before .before .parent .ensures .0) in
+    simp (eq-eqb _ _ (sym p ∙ c .before .if1 .left), and-true, field-of entryNameLength (entry .ensures) (c .name-length .ensures .0))
 
 pub entry-in-spec : {M : Type 1} → statement M
 entry-in-spec =
-    tie.close (tie.spec entry-requires name-length-requires returns parent-requires returns-2)
+    tie.close (tie.spec entry-requires parent-requires returns name-length-requires returns-2)

@@ -1,0 +1,5 @@
+pub mod Tallies
+pub mod TalliesLaws
+pub mod Rounds
+pub mod RoundsLaws
+pub mod TopsLaws
