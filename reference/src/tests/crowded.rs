@@ -183,15 +183,27 @@ fn rings_are_as_long_as_told_and_break_one_rule() {
     assert!(lengths.eq([told.clone(), told].concat()));
 }
 
+/// The links that the entries give an inode.
+fn counted(image: &Image, number: u16) -> i32 {
+    let used = || image.entries().filter(|entry| entry.name_len() != 0);
+    if image.is_directory(number) {
+        let children = used().filter(|entry| entry.parent() == number && image.is_directory(entry.target()));
+        return 2 + children.count() as i32;
+    }
+    used().filter(|entry| entry.target() == number).count() as i32
+}
+
 /// Each kind behind root and at the end, each once too high and once too low; root in each of three bases.
 #[test]
 fn counts_are_wrong_at_both_ends() {
-    let wrong = images_of("link counts").into_iter().map(|image| {
-        let [Fault { record, .. }] = faults(image)[..] else { panic!("one fault") };
-        (read(image).inode(record as u16).expect("an inode").kind(), record)
+    let wrong = images_of("link counts").into_iter().map(|bytes| {
+        let [Fault { record, .. }] = faults(bytes)[..] else { panic!("one fault") };
+        let (image, number) = (read(bytes), record as u16);
+        let inode = image.inode(number).expect("an inode");
+        (inode.kind(), number, i32::from(inode.links()) - counted(&image, number))
     });
     let root = (DIRECTORY, 0);
     let told =
         [root, (SYMLINK, 1), (SYMLINK, 511), root, (DIRECTORY, 1), (FILE, 511), root, (FILE, 1), (DIRECTORY, 511)];
-    assert!(wrong.eq(told.into_iter().flat_map(|one| [one, one])));
+    assert!(wrong.eq(told.into_iter().flat_map(|(kind, number)| [(kind, number, 1), (kind, number, -1)])));
 }
