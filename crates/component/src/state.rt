@@ -3,7 +3,6 @@ use layout::limits;
 ghost use mathlib.Core.Path.{_≡_};
 ghost use mathlib.Core.Bool.{false};
 ghost use Prim.Native.Nat.{_+_, _≤_, _<_};
-ghost use lib.ListN.{length};
 ghost use Rattle.paths.specs.Path.{bare};
 ghost use Rattle.component.specs.Step.{existing, missing, refusedBy, names, goTo};
 ghost use Rattle.layout.specs.Limits.{stepLimit};

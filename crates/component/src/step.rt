@@ -15,7 +15,7 @@ ghost use mathlib.Core.Path.{_≡_};
 ghost use mathlib.Core.Bool.{false, true, _||_};
 ghost use Prim.Native.Nat.{_+_, _-_, _≤_, _<_};
 ghost use lib.ListN.{length};
-ghost use Rattle.layout.specs.View.{viewOf, entryUsed, isDirectory};
+ghost use Rattle.layout.specs.View.{viewOf, entryUsed};
 ghost use Rattle.layout.specs.Facts.{Readable};
 ghost use Rattle.paths.specs.Permission.{allows, searchBit};
 ghost use Rattle.paths.specs.Path.{bare};

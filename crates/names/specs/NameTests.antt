@@ -1,4 +1,4 @@
--- Names as the code asks for them: a good name, some duplicate, and names that lie within their records. Assumes nothing.
+-- Names as the code asks for them: a good name, one as it lies in its entry's room, some duplicate, and what a reader of names relies on. Assumes nothing.
 use mathlib.Core.Path.{_≡_}
 use mathlib.Core.Bool.{Bool, true, _&&_, _||_, not, Bool·beq}
 use mathlib.Core.List.{List}

@@ -1,4 +1,5 @@
 // Names of directory entries: the bytes of one, and two that share it.
+use layout::limits;
 ghost use mathlib.Core.Path.{_≡_};
 ghost use Prim.Native.Nat.{_+_, _≤_};
 ghost use lib.ListN.{length};
@@ -29,7 +30,7 @@ fn bytes_good(name: &[u8]) -> bool
 
 // Whether a name of n bytes in an entry's first 24 holds no 0 and no slash, and zeros follow it there. Every byte is looked at and no branch is taken, which is
 // quicker than to leave at the first that is wrong.
-pub fn front_good(e: &[u8], n: usize) -> bool
+fn front_good(e: &[u8], n: usize) -> bool
     requires { ⌜ (32 ≤ length (now e)) × (n ≤ frontBytes) ⌝ }
     ensures { λ r. ⌜ r ≡ frontGood (now (e .entry)) n ⌝ }
 {
@@ -37,7 +38,7 @@ pub fn front_good(e: &[u8], n: usize) -> bool
     let mut wrong = false;
     let mut k: u8 = 0;
     while k < 24 {
-        let b = e[8 + (k as usize)];
+        let b = e[limits::NAME_OFFSET + (k as usize)];
         wrong = wrong | (b == b'/') | ((b != 0) != (k < m));
         k += 1;
     }
@@ -53,12 +54,16 @@ pub fn spelled(e: &[u8], n: usize) -> bool
         if !front_good(e, n) {
             return false;
         }
-        return layout::bytes::all_zero(e, 32, e.len() - 32);
+        return layout::bytes::all_zero(e, limits::ENTRY_BYTES, e.len() - limits::ENTRY_BYTES);
     }
-    if !bytes_good(&e[8..8 + n]) {
+    if !bytes_good(&e[limits::NAME_OFFSET..limits::NAME_OFFSET + n]) {
         return false;
     }
-    layout::bytes::all_zero(e, 8 + n, e.len() - 8 - n)
+    layout::bytes::all_zero(
+        e,
+        limits::NAME_OFFSET + n,
+        e.len() - limits::NAME_OFFSET - n,
+    )
 }
 
 // Whether the name stands for the directory itself or for its parent.

@@ -27,7 +27,6 @@ use Rattle.refusals.specs.Case.{stickyDenied}
 use Rattle.refusals.specs.Steps.{numberOf, Rule, refuse, decide, steps}
 use Rattle.results.specs.declared.Move.{Move}
 use Rattle.moves.specs.Plan.{moveOf, renameRows, planned}
-use Rattle.rename.specs.declared.Renamed.{Renamed}
 use Rattle.rename.specs.Order.{directoryOf, inodeOf, nameOf, caseOf, view, walks, early, late, order}
 use Rattle.rename.specs.Job.{answer, move, called, rowsBy, planBy, countBy, renamed, planAfter}
 use Rattle.rename.specs.Alike.{Alike, askedBy}

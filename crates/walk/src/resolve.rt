@@ -21,7 +21,7 @@ ghost use Rattle.paths.specs.WorkingPath.{workingPath};
 ghost use Rattle.layout.specs.Limits.{pathLimit, stepLimit};
 ghost use Rattle.component.specs.State.{positionOf, beginning, Fit};
 ghost use Rattle.walk.specs.Walk.{halt, walkFrom, begun, walk};
-ghost use Rattle.walk.specs.Answer.{endOf, answerOf, Ended, Answered};
+ghost use Rattle.walk.specs.Answer.{answerOf, Ended, Answered};
 
 // How a walk ended: the number it is answered with, 0 unless it was refused; the component checks begun; what the path names; and the
 // working path, which a missing name is a range of.

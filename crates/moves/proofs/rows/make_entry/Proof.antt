@@ -1,6 +1,5 @@
 -- `moves::rows::make_entry` meets its contract. Assumes nothing.
-use mathlib.Core.Path.{sym, ap, _∙_}
-use lib.ListN.{length}
+use mathlib.Core.Path.{sym, _∙_}
 use Rattle.seq.specs.BytesLaws.{put-whole}
 use Rattle.moves.specs.Entries.{entry-made, entry-taken}
 use borrow.Author.Needs.{needs}
