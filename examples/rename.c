@@ -29,13 +29,6 @@
 #include "records.h"
 #include "request.h"
 
-static void report(uint64_t result)
-{
-    int printed = printf("%u %u %u %u\n", mp_number(result), mp_rows(result), mp_old_steps(result), mp_new_steps(result));
-    if (printed < 0 || fflush(stdout) != 0)
-        fail(UNUSABLE, "standard output", strerror(errno));
-}
-
 int main(int argc, char **argv)
 {
     uint8_t plan[PLAN_BYTES];
@@ -43,7 +36,7 @@ int main(int argc, char **argv)
         fail(UNUSABLE, "usage", "rename IMAGE USER GROUP CWD NOW OLD NEW");
     int file = open_file(argv[1], O_RDWR);
     struct contents image = read_file(argv[1], file, LONGEST_IMAGE, "it is longer than any image, 53448 bytes");
-    uint64_t result = plan_rename(image, argv, plan);
+    uint64_t result = plan_rename(image, 0, argv, plan);
     report(result);
     if (mp_number(result) != 0)
         fail(REFUSED, "refused", "the image file is as it was");

@@ -129,7 +129,7 @@ int main(int argc, char **argv)
         fail(UNUSABLE, "usage", "repair IMAGE USER GROUP CWD NOW OLD NEW ROW...");
     int file = open_file(argv[1], O_RDWR);
     struct contents before = read_image(argv[1], file);
-    uint64_t result = plan_rename(before, argv, plan);
+    uint64_t result = plan_rename(before, 0, argv, plan);
     size_t rows = mp_rows(result), count = (size_t)(argc - FIRST_ROW);
     said(printf("rename: %u, %zu rows\n", mp_number(result), rows));
     if (mp_number(result) != 0)

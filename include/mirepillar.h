@@ -9,7 +9,7 @@
  * The functions keep nothing between calls: any threads may call them at once, as long as no buffer
  * that one call writes is given to another. They take no memory from the heap, open no file and do
  * not sleep. The stack that they need beside their buffers, on x86-64 and at most: mp_check 12,936 bytes,
- * mp_rename 14,376, mp_repair 13,832, mp_land 152 (tests/stack/run reads it from the compiled code).
+ * mp_rename 14,392, mp_repair 13,832, mp_land 152 (tests/stack/run reads it from the compiled code).
  */
 #ifndef MIREPILLAR_H
 #define MIREPILLAR_H
@@ -35,6 +35,7 @@ enum {
     MP_EBADF = 9,
     MP_EACCES = 13,
     MP_EBUSY = 16,
+    MP_EEXIST = 17,          /* the new name exists, and MP_NOREPLACE was asked for */
     MP_EXDEV = 18,
     MP_ENOTDIR = 20,
     MP_EISDIR = 21,
@@ -93,32 +94,51 @@ enum { MP_CURRENT_DIRECTORY = 255 };
 enum { MP_MOST_GROUPS = 16 };
 
 /*
- * Plans a rename. The image is only read: landing the plan's rows is what renames.
+ * The flags of a rename, as renameat2 of Linux has them. 0 is a plain rename; both, or any other bit,
+ * are refused.
+ *
+ * MP_NOREPLACE: a new name that exists is refused (17, EEXIST), also where it is another name of the
+ * same file. Otherwise it is a plain rename.
+ *
+ * MP_EXCHANGE: what the two paths name change places, and nothing is freed. Both have to exist: a
+ * missing new name is refused (2, ENOENT). They may be of any two types, and directories may have
+ * entries, be open or be the current directory; but neither may be the directory of the other or above
+ * it (22, EINVAL). A directory that gets another parent has to be writable (13, EACCES), and its new
+ * parent, where it comes for something else than a directory, must have fewer than 64 links (31,
+ * EMLINK).
+ */
+enum { MP_NOREPLACE = 1, MP_EXCHANGE = 2 };
+
+/*
+ * Plans a rename, or an exchange. The image is only read: landing the plan's rows is what renames.
  *
  * The request is the caller's effective user and group, the groups that the caller is in beside
  * these (at most MP_MOST_GROUPS; of more none is read), the current directory (an inode), where each
- * path begins if it is relative (a handle, or MP_CURRENT_DIRECTORY), the time to be set, and two
- * paths, which need no byte 0 behind them. The result has a number, the rows, and both counts of
- * steps:
+ * path begins if it is relative (a handle, or MP_CURRENT_DIRECTORY), the time to be set, the flags
+ * (0, MP_NOREPLACE or MP_EXCHANGE), and two paths, which need no byte 0 behind them. The result has a
+ * number, the rows, and both counts of steps:
  *
  *     0  the first 648 bytes of the plan's buffer are the plan, and what is behind them is as it
- *        was; two names of one file give a plan of no rows, since there is nothing to do;
+ *        was; two names of one file give a plan of no rows, since there is nothing to do. Otherwise a
+ *        rename has 6 to 9 rows. An exchange has 7, or 8 between two directories: the journal record
+ *        (group 1), both entries (2), the inodes (3), the journal record cleared (4);
  *   205  the buffer has fewer than 648 bytes;
  *   201  the layout of the image is bad, or its journal record is clear and another record is at fault;
  *   203  its layout is right and its journal record is not all zero: recovery has to come first;
  *   202  the current directory is none, a path has a byte 0 in it, or there are more than 16 groups
  *        beside the effective one;
+ *    22  (EINVAL, with both counts 0) the flags are both of them, or have another bit;
  *  else  an errno of Linux, by which a walk or the rename itself is refused, such as 2 (ENOENT), or
  *        1 (EPERM) for a last name of the new path that has a byte other than A to Z, a to z, 0 to 9,
  *        dot, underscore and hyphen. Any other name may have any byte but 0 and the slash.
  *
  * The first of these that applies is given, the walk of the old path coming before that of the new
- * one, and both before the rename itself. After any but 0 the buffer is as it was, and there are no
+ * one, then what the flags ask of the new name, and then the rename itself. After any but 0 the buffer is as it was, and there are no
  * rows. The counts are 0 where no walk has begun.
  */
 uint64_t mp_rename(const uint8_t *image, size_t image_len,
                    uint32_t user, uint32_t group, const uint32_t *groups, size_t groups_len,
-                   uint16_t cwd, uint8_t old_start, uint8_t new_start, uint64_t now,
+                   uint16_t cwd, uint8_t old_start, uint8_t new_start, uint64_t now, uint32_t flags,
                    const uint8_t *old_path, size_t old_len, const uint8_t *new_path, size_t new_len,
                    uint8_t *plan, size_t plan_len);
 
@@ -138,9 +158,10 @@ uint64_t mp_land(uint8_t *image, size_t image_len, const uint8_t *plan, size_t p
 
 /*
  * Plans a repair after a crash. The image is only read: landing the plan's rows is what repairs. A
- * rename whose new entry has landed is carried to its end, and any other is taken back. The scratch
- * is for the outcome, the image as it will be once every row has landed. The result has a number and
- * the rows:
+ * rename whose new entry has landed is carried to its end, and any other is taken back. An exchange
+ * whose journal record has landed is carried to its end, by 6 or 7 rows; without it nothing of the
+ * exchange is there. Until then one of its two files may be without a name. The scratch is for the
+ * outcome, the image as it will be once every row has landed. The result has a number and the rows:
  *
  *     0  the first 648 bytes of the plan's buffer are the plan, and as many bytes of the scratch as
  *        the image has are the outcome, which is consistent; what is behind them is as it was. A

@@ -4,6 +4,7 @@ pub mod check;
 pub mod compare;
 pub mod crowded;
 pub mod damage;
+pub mod exchange;
 pub mod groups;
 pub mod land;
 pub mod links;
@@ -50,6 +51,8 @@ pub const PARTS: &[Part] = &[
     Part { name: "compare", make: compare::part::all },
     // a full image, mostly with names that crowd: its number
     Part { name: "crowded", make: crowded::part::all },
+    // what a rename has, with flags, and repairs of exchanges: what a rename and what a repair answers
+    Part { name: "exchange", make: exchange::part::all },
 ];
 
 /// The cases of one class, by the numbers that answer them; those of the compare by the pieces that it reads.

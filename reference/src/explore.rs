@@ -1,5 +1,5 @@
-//! Every crash of a rename: all the states that landings and crashes can lead to (rules 112 to 116), and what must hold in
-//! each of them (rule 117).
+//! Every crash of a rename or an exchange: all the states that landings and crashes can lead to (rules 112 to 116), and
+//! what must hold in each of them (rules 117 and 117a).
 
 mod planned_rename;
 
@@ -26,15 +26,15 @@ pub enum Breach {
     RowRefused(u8),
     /// Landing takes what is no row, or a refused landing changes the image.
     RefusedLanding,
-    /// Every row of a rename has landed, and the image is another than the finished one.
+    /// Every row of the call has landed, and the image is another than the finished one.
     RenameUnfinished,
-    /// Every row of a repair has landed after the new name: the same.
+    /// Every row of a repair has landed after the deciding row: the same.
     RepairUnfinished,
-    /// The same without the new name, and the image is another than the one before.
+    /// The same without the deciding row, and the image is another than the one before.
     NotTakenBack,
-    /// No used entry targets the moved inode.
+    /// No used entry targets the moved inode, or an inode of an exchange that has to have a name.
     NoName,
-    /// The replaced inode's slot has another parent or name, or targets neither inode.
+    /// A slot that is to stay has another parent or name, or targets neither inode.
     SlotLost,
 }
 
@@ -61,7 +61,8 @@ struct State {
     /// A bit for each row that has not landed.
     waiting: u16,
     waited: Waited,
-    new_name_landed: bool,
+    /// The deciding row has landed.
+    decided: bool,
     /// Every row of some repair has landed.
     done: bool,
 }
@@ -132,7 +133,7 @@ impl Explorer<'_> {
         let plan = self.buffers.number(self.planned.plan.clone()).0;
         let waiting = all_of(self.planned.rows);
         let waited = Waited::Rename;
-        self.enter(State { image, plan, waiting, waited, new_name_landed: false, done: false });
+        self.enter(State { image, plan, waiting, waited, decided: false, done: false });
         Ok(())
     }
 
@@ -156,17 +157,17 @@ impl Explorer<'_> {
 
     /// The image before, or the finished one.
     fn outcome(&self, state: State) -> &[u8] {
-        match state.new_name_landed {
+        match state.decided {
             true => &self.planned.finished,
             false => &self.planned.before,
         }
     }
 
-    /// Rules 116 and 117: once the rename is whole, or some repair is, the image has to be the right one of two, and to stay so.
+    /// Rules 116 and 117: once the call is whole, or some repair is, the image has to be the right one of two, and to stay so.
     fn holds_at_rest(&self, state: State) -> Result<(), Breach> {
         let breach = match state {
-            State { done: true, new_name_landed: true, .. } => Breach::RepairUnfinished,
-            State { done: true, new_name_landed: false, .. } => Breach::NotTakenBack,
+            State { done: true, decided: true, .. } => Breach::RepairUnfinished,
+            State { done: true, decided: false, .. } => Breach::NotTakenBack,
             State { waiting: 0, waited: Waited::Rename, .. } => Breach::RenameUnfinished,
             _ => return Ok(()),
         };
@@ -215,9 +216,9 @@ impl Explorer<'_> {
             Some(&known) => known,
             None => self.land_anew(state, row)?,
         };
-        let decides = state.waited == Waited::Rename && row == self.planned.new_entry;
-        let new_name_landed = state.new_name_landed || decides;
-        self.enter(State { image, waiting: state.waiting & !(1 << row), new_name_landed, ..state });
+        let decides = state.waited == Waited::Rename && row == self.planned.deciding;
+        let decided = state.decided || decides;
+        self.enter(State { image, waiting: state.waiting & !(1 << row), decided, ..state });
         Ok(())
     }
 

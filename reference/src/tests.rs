@@ -4,6 +4,7 @@ mod bench;
 mod compare;
 mod crowded;
 mod effects;
+mod exchange;
 mod groups;
 mod links;
 mod made;

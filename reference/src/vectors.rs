@@ -23,6 +23,7 @@ const RENAME: u8 = 5;
 const REPAIR: u8 = 6;
 const RENAME_WITH_GROUPS: u8 = 7;
 const COMPARE: u8 = 8;
+const RENAME_WITH_FLAGS: u8 = 9;
 
 type Edit = (u32, u8);
 
@@ -36,6 +37,7 @@ pub enum Case {
     Repair(Repairing),
     RenameWithGroups(Renaming),
     Compare(Comparing),
+    RenameWithFlags(Renaming),
 }
 
 #[derive(Clone, Debug, PartialEq, Eq)]
@@ -150,19 +152,24 @@ impl Writer {
     }
 
     pub fn rename_with_groups(&mut self, home: &[u8], renaming: &Renaming) {
-        let groups = &renaming.request.who.further;
-        assert!(groups.len() <= MOST_GROUPS, "a list of {} groups", groups.len());
         self.renaming(RENAME_WITH_GROUPS, home, renaming);
-        self.data.extend((groups.len() as u16).to_le_bytes());
-        self.data.extend(groups.iter().flat_map(|group| group.to_le_bytes()));
+        self.groups(&renaming.request);
         self.paths(&renaming.request);
     }
 
-    /// All of a rename but its groups and its paths.
+    pub fn rename_with_flags(&mut self, home: &[u8], renaming: &Renaming) {
+        self.renaming(RENAME_WITH_FLAGS, home, renaming);
+        self.data.extend(renaming.request.flags.to_le_bytes());
+        self.groups(&renaming.request);
+        self.paths(&renaming.request);
+    }
+
+    /// All of a rename but its flags, its groups and its paths.
     fn renaming(&mut self, tag: u8, home: &[u8], renaming: &Renaming) {
         let Renaming { image, buffer, request, now } = renaming;
         assert!(usize::from(buffer.len) <= LONGEST_PLAN, "a plan of {} bytes", buffer.len);
-        assert!(tag == RENAME_WITH_GROUPS || request.who.further.is_empty(), "groups that are not stored");
+        assert!(tag != RENAME || request.who.further.is_empty(), "groups that are not stored");
+        assert!(tag == RENAME_WITH_FLAGS || request.flags == 0, "flags that are not stored");
         self.image(tag, home, image);
         self.data.extend(buffer.len.to_le_bytes());
         self.data.push(buffer.fill);
@@ -195,6 +202,13 @@ impl Writer {
         self.data.extend(request.who.group.to_le_bytes());
         self.data.extend(request.current.to_le_bytes());
         self.data.extend([request.old.start, request.new.start]);
+    }
+
+    fn groups(&mut self, request: &Request) {
+        let groups = &request.who.further;
+        assert!(groups.len() <= MOST_GROUPS, "a list of {} groups", groups.len());
+        self.data.extend((groups.len() as u16).to_le_bytes());
+        self.data.extend(groups.iter().flat_map(|group| group.to_le_bytes()));
     }
 
     fn paths(&mut self, request: &Request) {
@@ -313,7 +327,7 @@ mod tests {
         edited[99] = 1;
         let who = Credentials::new(u32::MAX, 5);
         let (old, new) = (Operand::new(3, b"a/b"), Operand::new(255, &[0; LONGEST_PATH]));
-        let request = Request { who, current: 258, old, new };
+        let request = Request { who, current: 258, flags: 0, old, new };
         let mut writer = Writer::default();
         let walkings =
             [&home, &edited, &other, &home].map(|image| Walking { image: image.clone(), request: request.clone() });
@@ -329,7 +343,8 @@ mod tests {
     fn renames_are_read_as_they_were_written() {
         let home: Vec<u8> = (0..100).collect();
         let who = Credentials::new(1, u32::MAX);
-        let request = Request { who, current: 513, old: Operand::new(0, b""), new: Operand::new(255, b"/b\0") };
+        let request =
+            Request { who, current: 513, flags: 0, old: Operand::new(0, b""), new: Operand::new(255, b"/b\0") };
         let renaming = |image: &[u8], len: u16, fill: u8| {
             let image = image.to_vec();
             Renaming { image, buffer: Buffer { len, fill }, request: request.clone(), now: u64::MAX - 1 }
@@ -349,7 +364,8 @@ mod tests {
         let home: Vec<u8> = (0..100).collect();
         let renaming = |further: Vec<u32>| {
             let who = Credentials { further, ..Credentials::new(1, u32::MAX) };
-            let request = Request { who, current: 513, old: Operand::new(0, b"/a"), new: Operand::new(255, b"") };
+            let request =
+                Request { who, current: 513, flags: 0, old: Operand::new(0, b"/a"), new: Operand::new(255, b"") };
             Renaming { image: home.clone(), buffer: Buffer { len: 648, fill: 9 }, request, now: 1 << 63 }
         };
         let mut writer = Writer::default();
@@ -358,6 +374,25 @@ mod tests {
             writer.rename_with_groups(&home, renaming);
         }
         let cases: Vec<Case> = renamings.into_iter().map(Case::RenameWithGroups).collect();
+        assert_eq!(read(&writer.data).expect("the format is kept"), cases);
+        assert_eq!(read(&writer.data[..writer.data.len() - 1]), None);
+    }
+
+    #[test]
+    fn renames_with_flags_are_read_as_they_were_written() {
+        let home: Vec<u8> = (0..100).collect();
+        let renaming = |(flags, further): (u32, Vec<u32>)| {
+            let who = Credentials { further, ..Credentials::new(7, 8) };
+            let (old, new) = (Operand::new(0, b"/a"), Operand::new(255, b"b"));
+            let request = Request { who, current: 2, flags, old, new };
+            Renaming { image: home.clone(), buffer: Buffer { len: 648, fill: 9 }, request, now: u64::MAX }
+        };
+        let mut writer = Writer::default();
+        let renamings = [(0, vec![]), (2, vec![5]), (1 << 31, vec![]), (u32::MAX, vec![9; 24])].map(renaming);
+        for renaming in &renamings {
+            writer.rename_with_flags(&home, renaming);
+        }
+        let cases: Vec<Case> = renamings.into_iter().map(Case::RenameWithFlags).collect();
         assert_eq!(read(&writer.data).expect("the format is kept"), cases);
         assert_eq!(read(&writer.data[..writer.data.len() - 1]), None);
     }

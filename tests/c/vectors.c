@@ -11,7 +11,7 @@
 #include <string.h>
 
 enum { TAG_BASE = 1, TAG_CHECK = 2, TAG_WALK = 3, TAG_LAND = 4, TAG_RENAME = 5, TAG_REPAIR = 6, TAG_GROUPS = 7 };
-enum { TAG_COMPARE = 8 };
+enum { TAG_COMPARE = 8, TAG_FLAGS = 9 };
 enum { LONGEST_BASE = 53448, LONGEST_CASE = 131072, MOST_EDITS = 12, LONGEST_PLAN = 1024, LONGEST_PATH = 600 };
 enum { LONGEST_SCRATCH = 131072, MOST_GROUPS = 24 };
 enum { MOST_TOLD = 10 };
@@ -150,8 +150,8 @@ static struct groups read_groups(struct input *input, size_t len)
     return groups;
 }
 
-/* Reads a request, with a list of groups or without, and gives what mp_rename answers to it. */
-static uint64_t ask_rename(struct input *input, int has_groups, struct buffer image, struct buffer plan)
+/* Reads a request, which has flags and groups, groups alone or neither by its tag, and gives what mp_rename answers. */
+static uint64_t ask_rename(struct input *input, uint8_t tag, struct buffer image, struct buffer plan)
 {
     uint32_t user = (uint32_t)take_number(input, 4);
     uint32_t group = (uint32_t)take_number(input, 4);
@@ -159,14 +159,15 @@ static uint64_t ask_rename(struct input *input, int has_groups, struct buffer im
     uint8_t old_start = *take(input, 1);
     uint8_t new_start = *take(input, 1);
     uint64_t now = take_number(input, 8);
-    struct groups groups = read_groups(input, has_groups ? take_up_to(input, 2, MOST_GROUPS) : 0);
+    uint32_t flags = tag == TAG_FLAGS ? (uint32_t)take_number(input, 4) : 0;
+    struct groups groups = read_groups(input, tag != TAG_RENAME ? take_up_to(input, 2, MOST_GROUPS) : 0);
     size_t old_len = take_up_to(input, 2, LONGEST_PATH);
     size_t new_len = take_up_to(input, 2, LONGEST_PATH);
     struct buffer old_path = block(old_len, take(input, old_len), old_len);
     struct buffer new_path = block(new_len, take(input, new_len), new_len);
     uint64_t result = mp_rename(image.bytes, image.len, user, group, groups.numbers, groups.len, cwd, old_start,
-                                new_start, now, old_path.bytes, old_path.len, new_path.bytes, new_path.len,
-                                plan.bytes, plan.len);
+                                new_start, now, flags, old_path.bytes, old_path.len, new_path.bytes,
+                                new_path.len, plan.bytes, plan.len);
     free(new_path.bytes);
     free(old_path.bytes);
     free(groups.numbers);
@@ -230,12 +231,12 @@ static int land_case(struct input *cases, struct input *answers, unsigned long c
     return same_result && same_image;
 }
 
-static int rename_case(struct input *cases, int has_groups, struct input *answers, unsigned long count)
+static int rename_case(struct input *cases, uint8_t tag, struct input *answers, unsigned long count)
 {
     struct buffer image = read_image(cases);
     struct buffer plan = read_buffer(cases, 2, LONGEST_PLAN);
     uint64_t before = checksum(image);
-    uint64_t result = ask_rename(cases, has_groups, image, plan);
+    uint64_t result = ask_rename(cases, tag, image, plan);
     if (checksum(image) != before)
         fail("mp_rename", "an image was changed");
     int differences = !same("the number of mp_rename", count, mp_number(result), read_answer(answers, ' '));
@@ -321,7 +322,8 @@ static unsigned long run(const char *path, struct input *answers)
             break;
         case TAG_RENAME:
         case TAG_GROUPS:
-            differences += !rename_case(&cases, tag == TAG_GROUPS, answers, ++count);
+        case TAG_FLAGS:
+            differences += !rename_case(&cases, tag, answers, ++count);
             break;
         case TAG_REPAIR:
             differences += !repair_case(&cases, answers, ++count);

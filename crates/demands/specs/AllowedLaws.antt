@@ -31,7 +31,7 @@ use Rattle.rename.specs.Known.{old-found, new-found}
 use Rattle.demands.specs.Allowed.{newName, Granted}
 
 -- an entry in use, from its test and back
-used-entry : (v : View) (j : ℕ) → j < v .entries → entryUsed v j ≡ true → EntryUsed v j
+pub used-entry : (v : View) (j : ℕ) → j < v .entries → entryUsed v j ≡ true → EntryUsed v j
 used-entry v j l u = (l, eqb-false _ _ (not-true (eqb (v .nameLength j) 0) u))
 
 -- the lowest free slot is not in use
@@ -41,7 +41,7 @@ free-unused v (l, u) =
     u (eqb-true _ _ (not-false _ (not-true _ (first-passes (λ j. not (entryUsed v j)) (v .entries) l))))
 
 -- tests that are false, one part after another
-both-false : (a b : Bool) → (a && b) ≡ false → a ≡ true → b ≡ false
+pub both-false : (a b : Bool) → (a && b) ≡ false → a ≡ true → b ≡ false
 both-false true b e h = e
 both-false false b e h = absurd (not-both false h refl)
 

@@ -16,6 +16,7 @@ use Rattle.tree.specs.Tree.{entriesOf, childDirectories, reaches, textShared}
 use Rattle.consistency.specs.Sound.{textLinked, journalClear, bodiesGood}
 use Rattle.consistency.specs.Consistent.{recordsNumber, checkNumber}
 use Rattle.paths.specs.Request.{requestGood}
+use Rattle.paths.specs.Flags.{flagsGood}
 use Rattle.paths.specs.Groups.{credentialsOf, inFurther, inGroup}
 use Rattle.paths.specs.Portable.{isPortableByte, isPortable}
 use Rattle.paths.specs.Permission.{allows}
@@ -36,5 +37,5 @@ use Rattle.demands.specs.Line.{below, applyRows, outcome}
 use Rattle.demands.specs.Table.{table}
 
 pub bench-table : map (λ l. outcome (l .asked)) table ≡ map (λ l. l .expected) table
-unfolding bench any all first count part put zeros noZero sameBytes numberAt bytesOf nameIs shapeOf layoutGood recordAt viewOf plainName isDots nameGood clash entriesOf childDirectories reaches textShared textLinked journalClear bodiesGood recordsNumber checkNumber credentialsOf inFurther inGroup allows path.slashes path.untilSlash isPortableByte isPortable isNamed lookup requestGood walkStep walkFrom walk walksOf entryBytes journalHead journalBytes rowAt headerOf rowPut rowsPut cleared coversSection covers rowFits applicable applyNumber appliedImage movedBytes holderBytes replacedBytes entriesAfter childrenAfter linksAfter results stickyDenied hasEntries isOpened moveOf renameRows planned freeSlot order renamed planAfter below applyRows outcome table
+unfolding bench any all first count part put zeros noZero sameBytes numberAt bytesOf nameIs shapeOf layoutGood recordAt viewOf plainName isDots nameGood clash entriesOf childDirectories reaches textShared textLinked journalClear bodiesGood recordsNumber checkNumber credentialsOf inFurther inGroup allows path.slashes path.untilSlash isPortableByte isPortable isNamed lookup requestGood flagsGood walkStep walkFrom walk walksOf entryBytes journalHead journalBytes rowAt headerOf rowPut rowsPut cleared coversSection covers rowFits applicable applyNumber appliedImage movedBytes holderBytes replacedBytes entriesAfter childrenAfter linksAfter results stickyDenied hasEntries isOpened moveOf renameRows planned freeSlot order renamed planAfter below applyRows outcome table
 bench-table = refl

@@ -1,14 +1,13 @@
 -- A rename that the job plans is one whose rows are well formed: from the job's own answer to all that its outcome rests on. Assumes nothing.
 use mathlib.Core.Path.{_≡_, refl, sym, ap, _∙_, subst}
 use mathlib.Core.Logic.{_≢_}
-use mathlib.Core.Bool.{Bool, true, not, cond}
-use mathlib.Core.List.{List, [], _∷_, _++_}
+use mathlib.Core.Bool.{Bool, true, cond}
+use mathlib.Core.List.{List, []}
 use Prim.Native.Nat.{ℕ, _≤_, _<_}
 use native.Mathlib.Decide.{ℕ-discrete}
 use native.Mathlib.Omega.{arith}
-use lib.Dec.{eqb}
 use lib.ListN.{length}
-use borrow.Author.Tests.{eqb-true, not-false, eq-eqb, ne-eqb}
+use borrow.Author.Tests.{eq-eqb, ne-eqb}
 use Rattle.seq.specs.Number.{span}
 use Rattle.seq.specs.BytesLaws.{part-length}
 use Rattle.layout.specs.declared.Shape.{Shape}
@@ -22,29 +21,27 @@ use Rattle.consistency.specs.RecordFacts.{Bodies}
 use Rattle.edits.specs.Kinds.{EntryUsed}
 use Rattle.edits.specs.Bodies.{bodies-consistent, bodies-formed}
 use Rattle.paths.specs.declared.request.Request.{Request}
+use Rattle.paths.specs.Flags.{exchangeFlag}
 use Rattle.component.specs.Step.{existing}
 use Rattle.walk.specs.Ends.{Existing, Known}
 use Rattle.walk.specs.Both.{newFinal}
 use Rattle.refusals.specs.declared.case.Answer.the-variants.{Planned}
 use Rattle.refusals.specs.declared.case.Case.{Case}
 use Rattle.refusals.specs.Case.{exists}
-use Rattle.refusals.specs.Steps.{Rule, refuse, decide, steps}
-use Rattle.refusals.specs.Passed.{Passes, Passed}
-use Rattle.refusals.specs.PassedLaws.{passes, planned-passed}
+use Rattle.refusals.specs.Steps.{decide}
+use Rattle.refusals.specs.Passed.{isPlanned, Passed}
+use Rattle.refusals.specs.PassedLaws.{planned-passed}
 use Rattle.plan.specs.Form.{planBytes}
 use Rattle.moves.specs.Plan.{moveOf}
-use Rattle.rename.specs.Order.{walks, caseOf, early, late, order}
-use Rattle.rename.specs.Job.{answer, move, called}
+use Rattle.rename.specs.Order.{walks, early}
+use Rattle.rename.specs.FlagLaws.{planned-steps, planned-unasked}
+use Rattle.rename.specs.Job.{answer, case, move, called}
 use Rattle.outcome.specs.Called.{Called}
 use Rattle.outcome.specs.CalledLaws.{move-text}
 use Rattle.demands.specs.Allowed.{newName, Granted}
 use Rattle.demands.specs.AllowedLaws.{granted}
+use Rattle.demands.specs.Reached.{begun, old-whole, new-whole, by-case}
 use Rattle.demands.specs.Begun.{long, begun-read, clear, bodies, old-facts, new-facts}
-
--- where no test of a list holds, the part behind decides
-skipped : (xs ys : List Rule) → Passes (xs ++ ys) → decide (xs ++ ys) ≡ decide ys
-skipped [] ys p = refl
-skipped (x ∷ xs) ys p = rw (p .0) (skipped xs ys (p .1))
 
 module _ (s plan : List ℕ) (q : Request) (old new : List ℕ) (planned : answer s plan q old new ≡ Planned) where
   abbrev h : Shape
@@ -54,47 +51,31 @@ module _ (s plan : List ℕ) (q : Request) (old new : List ℕ) (planned : answe
   v = viewOf h s
 
   abbrev c : Case
-  c = caseOf v q (walks s plan q old new)
+  c = case s plan q old new
 
-  -- no test of the whole order holds
-  passed : Passes (order s plan q old new)
-  unfolding order
-  passed = passes (order s plan q old new) refl planned
+  abbrev is : isPlanned (answer s plan q old new) ≡ true
+  is = ap isPlanned planned
 
   -- nothing was refused before the walks
-  begun : decide (early s plan q old new) ≡ Planned
-  unfolding order
-  begun =
-      rw (passed .0, passed .1 .0, passed .1 .1 .0, passed .1 .1 .1 .0, passed .1 .1 .1 .1 .0)
-
-  old-whole : walks s plan q old new .old .number ≡ 0
-  unfolding order
-  old-whole = eqb-true _ _ (not-false _ (passed .1 .1 .1 .1 .1 .0))
-
-  new-whole : walks s plan q old new .new .number ≡ 0
-  unfolding order
-  new-whole = eqb-true _ _ (not-false _ (passed .1 .1 .1 .1 .1 .1 .0))
+  abbrev start : decide (early s plan q old new) ≡ Planned
+  start = begun s plan q old new isPlanned refl is
 
   pub steps-passed : Passed v c
-  unfolding order
-  steps-passed = planned-passed v c (sym (skipped (early s plan q old new) (late s plan q old new) passed
-      ∙ skipped (oldRule ∷ newRule ∷ []) (steps v c) (passed .1 .1 .1 .1 .1)) ∙ planned)
-    where
-      oldRule : Rule
-      oldRule = refuse (not (eqb (walks s plan q old new .old .number) 0)) (walks s plan q old new .old .number)
+  steps-passed = planned-passed v c (planned-steps v q c (sym (by-case s plan q old new isPlanned refl is) ∙ planned))
 
-      newRule : Rule
-      newRule = refuse (not (eqb (walks s plan q old new .new .number) 0)) (walks s plan q old new .new .number)
+  -- what is planned as a rename was not asked to exchange
+  pub planned-flags : q .flags ≢ exchangeFlag
+  planned-flags = planned-unasked v q c (sym (by-case s plan q old new isPlanned refl is) ∙ planned)
 
   abbrev image : Bodies h s
-  image = bodies s plan q old new begun
+  image = bodies s plan q old new start
 
   abbrev layout : Read s h
-  layout = begun-read s plan q old new begun
+  layout = begun-read s plan q old new start
 
   pub grant : Granted v c (called s plan q old new)
   unfolding viewOf
-  grant = granted v (bodies-consistent image) (layout .laid .inodes-most) q (walks s plan q old new) (old-facts s plan q old new begun) (new-facts s plan q old new begun) old-whole new-whole steps-passed
+  grant = granted v (bodies-consistent image) (layout .laid .inodes-most) q (walks s plan q old new) (old-facts s plan q old new start) (new-facts s plan q old new start) (old-whole s plan q old new isPlanned refl is) (new-whole s plan q old new isPlanned refl is) steps-passed
 
   -- ---- the name of the new entry is a good one
 
@@ -133,11 +114,11 @@ module _ (s plan : List ℕ) (q : Request) (old new : List ℕ) (planned : answe
 
   -- The buffer holds a plan.
   pub planned-long : planBytes ≤ length plan
-  planned-long = long s plan q old new begun
+  planned-long = long s plan q old new start
 
   -- Where new's walk found an entry, it is there.
   pub planned-new : (d n t : ℕ) (slash : Bool) → walks s plan q old new .new .found ≡ existing d n t slash → Existing v d n t slash
-  planned-new d n t slash e = subst (Known v newFinal) e (new-facts s plan q old new begun .known)
+  planned-new d n t slash e = subst (Known v newFinal) e (new-facts s plan q old new start .known)
 
   -- All that the outcome of the rename rests on.
   pub planned-called : q .now < span 8 → Called h s (move s plan q old new) (called s plan q old new)
@@ -145,7 +126,7 @@ module _ (s plan : List ℕ) (q : Request) (old new : List ℕ) (planned : answe
   planned-called time = record {
     read = layout;
     bodies = image;
-    clear = clear s plan q old new begun;
+    clear = clear s plan q old new start;
     name = name;
     missing = λ none. grant .missing none .0;
     nonempty = name-good .some;

@@ -1,11 +1,11 @@
--- What can befall a rename once it is planned, in the definitions that the jobs' contracts cite (the papers' cuts; rules 112 to 116). A reader has to believe this
--- file. Assumes nothing.
+-- What can befall a rename or an exchange once it is planned, in the definitions that the jobs' contracts cite (the papers' cuts; rules 112 to 116a). A reader
+-- has to believe this file. Assumes nothing.
 use mathlib.Core.Bool.{Bool, true, false, _||_}
 use mathlib.Core.List.{List, [], _∷_}
 use mathlib.Core.Option.{Option, none, some}
 use Prim.Native.Nat.{ℕ, zero, suc}
 use lib.Dec.{eqb}
-use Rattle.plan.specs.Form.{rowGroup, entryGroup}
+use Rattle.plan.specs.Form.{rowGroup, journalGroup, entryGroup}
 use Rattle.plan.specs.Jobs.{Job, jobsIn}
 use Rattle.apply.specs.Apply.{applyNumber, appliedImage}
 use Rattle.crash_theorem.specs.Pick.{Picked, pick, null}
@@ -23,7 +23,7 @@ pub data Event : Type 0 where
 
 -- Whose rows wait.
 pub data Whose : Type 0 where
-  rename : Whose
+  call : Whose
   recovery : Whose
   nobody : Whose
 
@@ -34,7 +34,7 @@ pub record State : Type 0 where
   -- the rows that wait, in the order of their plan, and whose they are
   pub waiting : List Job
   pub whose : Whose
-  -- the rows of the rename's own plan that were applied, the last one first
+  -- the rows of the call's own plan that were applied, the last one first
   pub applied : List Job
   -- whether some recovery has answered 0 and its rows have all been applied
   pub done : Bool
@@ -42,15 +42,15 @@ pub record State : Type 0 where
 abbrev pub groupOf : Job → ℕ
 groupOf j = rowGroup (j .plan) (j .number)
 
--- a row of the rename's own plan is noted
+-- a row of the call's own plan is noted
 abbrev pub noted : Whose → Job → List Job → List Job
-noted rename r rs = r ∷ rs
+noted call r rs = r ∷ rs
 noted recovery r rs = rs
 noted nobody r rs = rs
 
 -- a recovery is done once none of its rows waits, and stays so
 abbrev pub ended : Whose → Bool → List Job → Bool
-ended rename done waiting = done
+ended call done waiting = done
 ended recovery done waiting = done || null waiting
 ended nobody done waiting = done
 
@@ -92,16 +92,22 @@ abbrev pub run : State → List Event → State
 run x [] = x
 run x (e ∷ es) = run (step x e) es
 
--- rule 112: at first the rows of the rename's plan wait, on the image that it was planned on
+-- rule 112: at first the rows of the call's plan wait, on the image that it was planned on
 abbrev pub atFirst : List ℕ → List ℕ → State
-atFirst s plan = record { image = s; waiting = jobsIn plan; whose = rename; applied = []; done = false }
+atFirst s plan = record { image = s; waiting = jobsIn plan; whose = call; applied = []; done = false }
 
-abbrev pub hasEntry : List Job → Bool
-hasEntry [] = false
-hasEntry (r ∷ rs) = eqb (groupOf r) entryGroup || hasEntry rs
+-- a row of this group was applied
+abbrev pub hasGroup : ℕ → List Job → Bool
+hasGroup g [] = false
+hasGroup g (r ∷ rs) = eqb (groupOf r) g || hasGroup g rs
 
+-- rule 116: the row that decides a rename, the new entry's
 abbrev pub entryApplied : State → Bool
-entryApplied x = hasEntry (x .applied)
+entryApplied x = hasGroup entryGroup (x .applied)
+
+-- rule 116a: the row that decides an exchange, the journal record's
+abbrev pub journalApplied : State → Bool
+journalApplied x = hasGroup journalGroup (x .applied)
 
 -- all rows of a list applied by the job land, one after another
 abbrev pub appliedAll : List ℕ → List Job → List ℕ

@@ -4,7 +4,7 @@ use mathlib.Core.Bool.{Bool, true, false, _||_}
 use mathlib.Core.List.{List, [], _∷_}
 use Prim.Native.Nat.{ℕ}
 use lib.Dec.{eqb}
-use Rattle.layout.specs.Errno.{EPERM, ENOENT, EBADF, EACCES, EBUSY, EXDEV, ENOTDIR, EISDIR, EINVAL, ENOSPC, EROFS, EMLINK, ENAMETOOLONG, ENOTEMPTY, ELOOP, inconsistent, wrongRequest, journalPending, notRecoverable, shortBuffer, badRow}
+use Rattle.layout.specs.Errno.{EPERM, ENOENT, EBADF, EACCES, EBUSY, EEXIST, EXDEV, ENOTDIR, EISDIR, EINVAL, ENOSPC, EROFS, EMLINK, ENAMETOOLONG, ENOTEMPTY, ELOOP, inconsistent, wrongRequest, journalPending, notRecoverable, shortBuffer, badRow}
 use Rattle.consistency.specs.Consistent.{checkNumber}
 use Rattle.paths.specs.declared.request.Request.{Request}
 use Rattle.apply.specs.Apply.{applyNumber}
@@ -25,7 +25,7 @@ landNumbers = 0 ∷ inconsistent ∷ shortBuffer ∷ badRow ∷ []
 
 -- success, the errors of the POSIX page as Linux numbers them, and our own
 abbrev pub renameNumbers : List ℕ
-renameNumbers = 0 ∷ EPERM ∷ ENOENT ∷ EBADF ∷ EACCES ∷ EBUSY ∷ EXDEV ∷ ENOTDIR ∷ EISDIR ∷ EINVAL ∷ ENOSPC ∷ EROFS ∷ EMLINK ∷ ENAMETOOLONG ∷ ENOTEMPTY ∷ ELOOP ∷ inconsistent ∷ wrongRequest ∷ journalPending ∷ shortBuffer ∷ []
+renameNumbers = 0 ∷ EPERM ∷ ENOENT ∷ EBADF ∷ EACCES ∷ EBUSY ∷ EEXIST ∷ EXDEV ∷ ENOTDIR ∷ EISDIR ∷ EINVAL ∷ ENOSPC ∷ EROFS ∷ EMLINK ∷ ENAMETOOLONG ∷ ENOTEMPTY ∷ ELOOP ∷ inconsistent ∷ wrongRequest ∷ journalPending ∷ shortBuffer ∷ []
 
 abbrev pub repairNumbers : List ℕ
 repairNumbers = 0 ∷ inconsistent ∷ notRecoverable ∷ shortBuffer ∷ []

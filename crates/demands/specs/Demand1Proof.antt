@@ -8,23 +8,27 @@ use native.Mathlib.Decide.{ℕ-discrete}
 use lib.Dec.{eqb, ltb}
 use lib.ListN.{length}
 use borrow.Author.Tests.{eqb-true}
+use Rattle.seq.specs.Truth.{by-test}
 use Rattle.layout.specs.Errno.{inconsistent, journalPending, shortBuffer, badRow}
 use Rattle.layout.specs.Contents.{layoutGood, shapeOf}
 use Rattle.consistency.specs.Sound.{journalClear, bodiesGood}
 use Rattle.consistency.specs.Consistent.{consistent, recordsNumber, checkNumber}
 use Rattle.paths.specs.declared.request.Request.{Request}
+use Rattle.paths.specs.Flags.{asksExchange}
 use Rattle.component.specs.Ways.{componentNumber}
 use Rattle.walk.specs.Walk.{haltNumber}
 use Rattle.walk.specs.Ends.{walkNumber}
 use Rattle.refusals.specs.declared.case.Answer.the-variants.{Planned}
-use Rattle.refusals.specs.Steps.{numberOf, decide}
+use Rattle.refusals.specs.Steps.{Rule, numberOf, decide, steps}
+use Rattle.refusals.specs.Exchange.{exchangeSteps}
+use Rattle.refusals.specs.Decide.{numbers}
 use Rattle.refusals.specs.DecideLaws.{decide-number, decide-refused, decide-passed}
 use Rattle.plan.specs.Form.{planBytes}
 use Rattle.plan.specs.Fit.{applicable}
 use Rattle.plan.specs.Write.{Write}
 use Rattle.apply.specs.Apply.{applyNumber}
-use Rattle.rename.specs.Order.{early, late, order}
-use Rattle.rename.specs.Job.{renamed}
+use Rattle.rename.specs.Order.{view, early, late, order}
+use Rattle.rename.specs.Job.{case, renamed}
 use Rattle.recover.specs.Recover.{pendingRows}
 use Rattle.recover.specs.Job.{refused, done, byRows, recovered}
 use Rattle.demands.specs.Demand1.{Demand1, among, checkNumbers, landNumbers, renameNumbers, repairNumbers}
@@ -90,7 +94,9 @@ module _ (s plan : List ℕ) (q : Request) (old new : List ℕ) where
   late-listed : decide (early s plan q old new) ≡ Planned → among renameNumbers (numberOf (decide (late s plan q old new))) ≡ true
   late-listed begun =
       decide-number (among renameNumbers) (late s plan q old new) refl
-      (rw (walk-listed _ (old-facts s plan q old new begun .listed), walk-listed _ (new-facts s plan q old new begun .listed)))
+      (rw (walk-listed _ (old-facts s plan q old new begun .listed), walk-listed _ (new-facts s plan q old new begun .listed))
+      (by-test (λ (rs : List Rule). numbers (among renameNumbers) rs ≡ true) (asksExchange q) (exchangeSteps (view s plan q old new) (case s plan q old new))
+      (steps (view s plan q old new) (case s plan q old new)) (λ _. refl) (λ _. refl)))
 
   pub rename-listed : among renameNumbers (renamed s plan q old new .number) ≡ true
   unfolding renamed order

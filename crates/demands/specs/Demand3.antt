@@ -2,28 +2,27 @@
 use mathlib.Core.Path.{_≡_}
 use mathlib.Core.Logic.{_⊎_, _↔_}
 use mathlib.Core.Bool.{Bool, true, false}
-use mathlib.Core.List.{List, map}
+use mathlib.Core.List.{List}
 use Prim.Native.Nat.{ℕ, _≤_, _<_}
-use lib.ListN.{length}
 use Rattle.seq.specs.Number.{span}
 use Rattle.layout.specs.Contents.{shapeOf}
 use Rattle.layout.specs.View.{View, viewOf, entryUsed}
 use Rattle.consistency.specs.Consistent.{checkNumber}
 use Rattle.paths.specs.declared.request.Request.{Request}
+use Rattle.paths.specs.Flags.{asksExchange}
 use Rattle.component.specs.Step.{existing}
-use Rattle.plan.specs.Form.{planBytes}
-use Rattle.apply.specs.Apply.{applyNumber}
-use Rattle.crash_theorem.specs.Pick.{All, Empty, Has}
-use Rattle.crash_theorem.specs.Turn.{Turn}
+use Rattle.crash_theorem.specs.Pick.{Has}
 use Rattle.rename.specs.Order.{walks, inodeOf}
 use Rattle.rename.specs.Job.{renamed}
-use Rattle.recover.specs.Job.{recovered}
-use Rattle.demands.specs.Crashes.{Event, apply, crash, groupOf, step, run, entryApplied}
+use Rattle.demands.specs.Crashes.{Event, entryApplied}
+use Rattle.demands.specs.Outlives.{Outlives}
 use Rattle.demands.specs.Demand2.{finishedImage, thePlan, after}
 
--- What is given: a consistent image (check answers 0 on it), and a rename on it that answered 0 with rows. A time fits its eight bytes.
+-- What is given: a consistent image (check answers 0 on it), and a rename on it, with the flag that replaces nothing or without, that answered 0 with rows.
+-- A time fits its eight bytes.
 pub record GivenRename (s plan : List ℕ) (q : Request) (old new : List ℕ) : Type 0 where
   pub sound : checkNumber s ≡ 0
+  pub asked : asksExchange q ≡ false
   pub answered : renamed s plan q old new .number ≡ 0
   pub rows : 1 ≤ renamed s plan q old new .rows
   pub time : q .now < span 8
@@ -42,18 +41,9 @@ module _ (s plan : List ℕ) (q : Request) (old new : List ℕ) where
 
   -- What holds after a list of events.
   pub record Demand3 (es : List Event) : Type 0 where
-    -- a recovery with buffers that are long enough answers 0
-    pub recovery-answers : (p c : List ℕ) → planBytes ≤ length p → length (after s plan q old new es .image) ≤ length c → recovered p c (after s plan q old new es .image) .number ≡ 0
-    -- each waiting row is taken: the job land answers 0 for it
-    pub apply-takes : All (λ r. applyNumber (after s plan q old new es .image) (r .plan) (r .number) ≡ 0) (after s plan q old new es .waiting)
-    -- and while any waits, the turn of one has come
-    pub apply-goes : Empty (after s plan q old new es .waiting) ⊎ Turn groupOf (after s plan q old new es .waiting)
-    -- once a recovery has answered 0 and its rows have all been applied: the image before, if the new entry was not applied in the list,
-    pub taken-back : after s plan q old new es .done ≡ true → entryApplied (after s plan q old new es) ≡ false → after s plan q old new es .image ≡ s
-    -- and the finished one, if it was
-    pub finished : after s plan q old new es .done ≡ true → entryApplied (after s plan q old new es) ≡ true → after s plan q old new es .image ≡ finishedImage s plan q old new
-    -- either is consistent
-    pub sound-again : after s plan q old new es .done ≡ true → checkNumber (after s plan q old new es .image) ≡ 0
+    -- it outlives them, and the new entry decides: once a recovery is done the image is the one before, if the new entry was not applied in the list, and the
+    -- finished one, if it was
+    pub outlives : Outlives s (finishedImage s plan q old new) entryApplied (after s plan q old new es)
     -- the new entry was applied exactly if row 1 of the rename's plan was: no other of its rows is of group 2
     pub entry-is : (entryApplied (after s plan q old new es) ≡ true) ↔ Has (after s plan q old new es .applied) (record { plan = thePlan s plan q old new; number = 1 })
     -- the moved inode has a name
@@ -61,6 +51,3 @@ module _ (s plan : List ℕ) (q : Request) (old new : List ℕ) where
     -- where new's walk found an entry, in slot n and for inode t, that slot keeps parent and name, and names t or the moved inode
     pub new-names : (d n t : ℕ) (slash : Bool) → walks s plan q old new .new .found ≡ existing d n t slash
         → (now es .parent n ≡ before .parent n) × (now es .name n ≡ before .name n) × ((now es .target n ≡ t) ⊎ (now es .target n ≡ moved))
-    -- a crash, a recovery with buffers that are long enough, and then some rows applied, end with a recovery done
-    pub can-finish : (p c : List ℕ) → planBytes ≤ length p → length (after s plan q old new es .image) ≤ length c
-        → (is : List ℕ) × (run (step (after s plan q old new es) (crash p c)) (map apply is) .done ≡ true)

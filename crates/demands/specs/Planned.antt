@@ -1,7 +1,6 @@
--- A rename that was planned, and what befalls it, as the crash theorem sees them. Assumes nothing.
-use mathlib.Core.Path.{_≡_, sym, ap, _∙_}
-use mathlib.Core.Bool.{false}
-use mathlib.Core.List.{List, [], map}
+-- A rename, or an exchange, that was planned, as the crash theorem sees it. Assumes nothing.
+use mathlib.Core.Path.{_≡_, sym, ap, subst}
+use mathlib.Core.List.{List}
 use Prim.Native.Nat.{ℕ, _≤_, _<_}
 use lib.ListN.{length}
 use Rattle.seq.specs.Number.{span}
@@ -9,24 +8,26 @@ use Rattle.layout.specs.declared.Shape.{Shape}
 use Rattle.layout.specs.Contents.{shapeOf}
 use Rattle.paths.specs.declared.request.Request.{Request}
 use Rattle.refusals.specs.declared.case.Answer.{Answer}
-use Rattle.refusals.specs.declared.case.Answer.the-variants.{Planned}
+use Rattle.refusals.specs.declared.case.Answer.the-variants.{Planned, Exchanged}
 use Rattle.plan.specs.Form.{planBytes}
-use Rattle.plan.specs.Jobs.{Job, jobsIn}
 use Rattle.results.specs.declared.Move.{Move}
-use Rattle.crash_theorem.specs.Change.{Change}
-use Rattle.crash_theorem.specs.Events as theory
+use Rattle.crash_theorem.specs.Events.{EventOf}
+use Rattle.exchanges.specs.Exchange.{exchangePlanned}
 use Rattle.moves.specs.Plan.{planned}
-use Rattle.rename.specs.Job.{answer, move, called, planBy, planAfter}
+use Rattle.rename.specs.Job.{answer, move, exchange, called, planBy, planAfter}
 use Rattle.image_store.specs.JobLaws.{jobs}
+use Rattle.outcome.specs.Outcome.{finished}
+use Rattle.outcome.specs.RenamePlan.{renamePlan}
 use Rattle.outcome.specs.Called.{Called}
-use Rattle.rename_survives.specs.Run.{renameJobs}
-use Rattle.rename_survives.specs.Safe.{rename-first}
-use Rattle.rename_survives.specs.Survives.{state}
-use Rattle.demands.specs.Crashes.{Event, atFirst}
-use Rattle.demands.specs.Demand2.{thePlan, after}
+use Rattle.exchange_outcome.specs.Outcome.{exchanged}
+use Rattle.exchange_outcome.specs.ExchangePlan.{exchangePlan}
+use Rattle.exchange_outcome.specs.Paired.{Paired}
+use Rattle.rename_survives.specs.PlanSurvives.{PlanSurvives}
+use Rattle.rename_survives.specs.Safe.{rename-lasts}
+use Rattle.exchange_survives.specs.Safe.{exchange-lasts}
+use Rattle.demands.specs.Demand2.{thePlan}
 use Rattle.demands.specs.Called.{planned-long, planned-called}
-use Rattle.demands.specs.Retold.{stateOf, eventOf}
-use Rattle.demands.specs.RetoldLaws.{same-run}
+use Rattle.demands.specs.Exchanges.{exchange-long, exchange-paired}
 
 module _ (s plan : List ℕ) (q : Request) (old new : List ℕ) (e : answer s plan q old new ≡ Planned) (time : q .now < span 8) where
   abbrev h : Shape
@@ -44,22 +45,34 @@ module _ (s plan : List ℕ) (q : Request) (old new : List ℕ) (e : answer s pl
   abbrev pub planned-room : planBytes ≤ length plan
   planned-room = planned-long s plan q old new e
 
-  abbrev pub planned-change : Change (jobs h s)
-  planned-change = renameJobs h s m name plan
-
   -- the plan's bytes
   pub planned-bytes : thePlan s plan q old new ≡ planned h s m name plan
   unfolding planAfter
   planned-bytes = ap (λ (a : Answer). planBy s plan q old new a) e
 
-  waits : jobsIn (thePlan s plan q old new) ≡ theory.start planned-change .waiting
-  waits = ap jobsIn planned-bytes ∙ sym (rename-first planned-move plan planned-room)
+  -- it survives, by the crash theorem
+  pub planned-survives : (es : List (EventOf (jobs h s))) → PlanSurvives h s (renamePlan h s m name) plan (thePlan s plan q old new) (finished h s m name) es
+  planned-survives es =
+      subst (λ (b : List ℕ). PlanSurvives h s (renamePlan h s m name) plan b (finished h s m name) es) (sym planned-bytes)
+      (rename-lasts planned-move plan planned-room es)
 
-  same-first : stateOf (atFirst s (thePlan s plan q old new)) ≡ theory.start planned-change
-  same-first = λ i. record { img = s; waiting = waits i; phase = theory.own; applied = []; done = false }
+module _ (s plan : List ℕ) (q : Request) (old new : List ℕ) (e : answer s plan q old new ≡ Exchanged) (time : q .now < span 8) where
+  abbrev n : Move
+  n = exchange s plan q old new
 
-  -- after a list of events
-  pub planned-state : (es : List Event) → stateOf (after s plan q old new es) ≡ state h s m name plan (map eventOf es)
-  planned-state es =
-      same-run h s m name plan (atFirst s (thePlan s plan q old new)) es
-      ∙ ap (λ (z : theory.State (List ℕ) Job). theory.run planned-change z (map eventOf es)) same-first
+  abbrev pub exchange-move : Paired (shapeOf s) s n
+  exchange-move = exchange-paired s plan q old new e time
+
+  abbrev pub exchange-room : planBytes ≤ length plan
+  exchange-room = exchange-long s plan q old new e
+
+  -- the plan's bytes
+  pub exchange-bytes : exchangePlanned (shapeOf s) s n plan ≡ thePlan s plan q old new
+  unfolding planAfter
+  exchange-bytes = sym (ap (λ (a : Answer). planBy s plan q old new a) e)
+
+  pub exchange-outlasts : (es : List (EventOf (jobs (shapeOf s) s)))
+      → PlanSurvives (shapeOf s) s (exchangePlan (shapeOf s) s n) plan (thePlan s plan q old new) (exchanged (shapeOf s) s n) es
+  exchange-outlasts es =
+      subst (λ (b : List ℕ). PlanSurvives (shapeOf s) s (exchangePlan (shapeOf s) s n) plan b (exchanged (shapeOf s) s n) es) exchange-bytes
+      (exchange-lasts exchange-move plan exchange-room es)

@@ -1,14 +1,14 @@
--- The events of a rename, and where it stands, as the crash theorem has them. Assumes nothing.
+-- The events of a call, and where it stands, as the crash theorem has them. Assumes nothing.
 use mathlib.Core.List.{List}
 use Prim.Native.Nat.{ℕ}
 use Rattle.plan.specs.Jobs.{Job}
 use Rattle.crash_theorem.specs.Events as theory
 use Rattle.image_store.specs.Buffers.{Buffers}
-use Rattle.demands.specs.Crashes.{Event, apply, refused, crash, Whose, rename, recovery, nobody, State}
+use Rattle.demands.specs.Crashes.{Event, apply, refused, crash, Whose, call, recovery, nobody, State}
 
 -- what waits, by whose it is
 abbrev pub phase : Whose → theory.Phase
-phase rename = theory.own
+phase call = theory.own
 phase recovery = theory.recovering
 phase nobody = theory.stopped
 

@@ -1,4 +1,4 @@
--- The events of a rename are those of the crash theorem, told in the jobs' own definitions. Assumes nothing.
+-- The events of a call are those of the crash theorem, told in the jobs' own definitions. Assumes nothing.
 use mathlib.Core.Path.{_≡_, refl, ap, _∙_}
 use mathlib.Core.Bool.{Bool, true, false, _||_}
 use mathlib.Core.List.{List, [], _∷_, map}
@@ -6,25 +6,26 @@ use mathlib.Core.Option.{Option, none, some}
 use Prim.Native.Nat.{ℕ, zero, suc}
 use lib.Dec.{eqb}
 use Rattle.layout.specs.declared.Shape.{Shape}
-use Rattle.plan.specs.Form.{rowAt, entryGroup}
+use Rattle.plan.specs.Form.{rowAt}
 use Rattle.plan.specs.Jobs.{Job}
 use Rattle.apply.specs.Apply.{applyNumber}
-use Rattle.results.specs.declared.Move.{Move}
 use Rattle.crash_theorem.specs.Pick.{All, Picked, pick}
 use Rattle.crash_theorem.specs.Turn.{lowest}
 use Rattle.crash_theorem.specs.Change.{Change}
 use Rattle.crash_theorem.specs.Finish.{OnlyApplies}
 use Rattle.crash_theorem.specs.Events as theory
+use Rattle.crash_theorem.specs.Plan.{Plan}
 use Rattle.recover.specs.Job.{recovered}
+use Rattle.image_store.specs.ImageLaws.{images}
 use Rattle.image_store.specs.JobLaws.{jobs}
 use Rattle.image_store.specs.Recovery.{waitingAt}
-use Rattle.rename_survives.specs.Run.{renameJobs}
-use Rattle.demands.specs.Crashes.{Event, apply, refused, crash, Whose, rename, recovery, nobody, State, groupOf, taken, atPlace, tried, answered, step, run, hasEntry}
+use Rattle.rename_survives.specs.PlanSurvives.{planJobs}
+use Rattle.demands.specs.Crashes.{Event, apply, refused, crash, Whose, call, recovery, nobody, State, groupOf, taken, atPlace, tried, answered, step, run, hasGroup}
 use Rattle.demands.specs.Retold.{stateOf, eventOf}
 
-module _ (h : Shape) (s : List ℕ) (m : Move) (called buffer : List ℕ) where
+module _ (h : Shape) (s : List ℕ) (p : Plan (images h s)) (buffer : List ℕ) where
   abbrev 𝓒 : Change (jobs h s)
-  𝓒 = renameJobs h s m called buffer
+  𝓒 = planJobs h s p buffer
 
   -- ---- one event
 
@@ -33,7 +34,7 @@ module _ (h : Shape) (s : List ℕ) (m : Move) (called buffer : List ℕ) where
   same-taken true x r rest = go (x .whose) refl
     where
       go : (w : Whose) → x .whose ≡ w → stateOf (taken true x r rest) ≡ theory.turned 𝓒 true (stateOf x) r rest
-      go rename e = rw e
+      go call e = rw e
       go recovery e = rw e
       go nobody e = rw e
 
@@ -61,13 +62,13 @@ module _ (h : Shape) (s : List ℕ) (m : Move) (called buffer : List ℕ) where
   same-run x [] = refl
   same-run x (e ∷ es) = same-run (step x e) es ∙ ap (λ (y : theory.State (List ℕ) Job). theory.run 𝓒 y (map eventOf es)) (same-step x e)
 
-  -- ---- the decision, by the group of the new entry's row
+  -- ---- the decision, by the group of the row that decides
 
-  pub same-decision : jobs h s .group (𝓒 .decide) ≡ entryGroup → (rs : List Job) → theory.decides 𝓒 rs ≡ hasEntry rs
+  pub same-decision : (g : ℕ) → jobs h s .group (𝓒 .decide) ≡ g → (rs : List Job) → theory.decides 𝓒 rs ≡ hasGroup g rs
   unfolding rowAt
-  same-decision e [] = refl
-  same-decision e (r ∷ rs) =
-      ap (λ (g : ℕ). eqb (groupOf r) g || theory.decides 𝓒 rs) e ∙ ap (λ (b : Bool). eqb (groupOf r) entryGroup || b) (same-decision e rs)
+  same-decision g e [] = refl
+  same-decision g e (r ∷ rs) =
+      ap (λ (k : ℕ). eqb (groupOf r) k || theory.decides 𝓒 rs) e ∙ ap (λ (b : Bool). eqb (groupOf r) g || b) (same-decision g e rs)
 
   -- ---- events that only apply rows are places
 

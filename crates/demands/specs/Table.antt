@@ -18,7 +18,7 @@ use Rattle.demands.specs.Line.{EntrySeen, Outcome, bytes, planned, Line,
 
 -- a user and group of one number, in the root at time 500; old has a start, new begins in the root
 abbrev pub caller : ℕ → ℕ → Request
-caller id start = record { who = credentialsOf id id []; current = 0; starts = record { old = start; new = noHandle }; now = 500 }
+caller id start = record { who = credentialsOf id id []; current = 0; starts = record { old = start; new = noHandle }; now = 500; flags = 0 }
 
 -- the one whom all inodes belong to
 abbrev pub owner : Request

@@ -1,32 +1,22 @@
--- A pending rename that fits and the draft of a recovery: the tests' last ways out, the numbers' ranges, one law for each way out of the draft, and
--- that its rows are such as an operation may write (rules 104 to 108). Assumes nothing.
-use mathlib.Core.Path.{_≡_, refl, _∙_, subst}
+-- A pending rename that fits: the tests' last ways out, the numbers' ranges, and one law for each way out of its draft (rules 105 to 108). Assumes nothing.
+use mathlib.Core.Path.{_≡_}
 use mathlib.Core.Logic.{_≢_}
 use mathlib.Core.Bool.{Bool, true, false, _&&_, not}
-use mathlib.Core.List.{List, [], _∷_}
-use mathlib.Core.Option.{Option, none, some}
-use Prim.Native.Nat.{ℕ, zero, suc, _+_, _<_}
-use native.Mathlib.Omega.{arith}
+use mathlib.Core.List.{List}
+use mathlib.Core.Option.{none, some}
+use Prim.Native.Nat.{ℕ, _<_}
 use lib.Dec.{eqb, ltb}
 use borrow.Author.Tests.{ltb-true, lt-ltb, ne-eqb}
-use Rattle.seq.specs.Truth.{and-left, and-right, implies-at, by-test}
+use Rattle.seq.specs.Truth.{and-left, and-right, implies-at}
 use Rattle.layout.specs.declared.Shape.{Shape}
 use Rattle.layout.specs.Limits.{absent}
-use Rattle.layout.specs.Facts.{Laid}
-use Rattle.layout.specs.View.{viewOf, journalAt, isDirectory}
+use Rattle.layout.specs.View.{viewOf, isDirectory}
 use Rattle.layout.specs.ViewLaws.{isKind-below}
 use Rattle.encode.specs.declared.journal.Journal.{Journal}
-use Rattle.encode.specs.Journal.{journalOf, journalFormed}
-use Rattle.plan.specs.Form.{planRows, rowPut}
-use Rattle.plan.specs.Write.{Write, rowFrom}
-use Rattle.plan.specs.Filled.{AllWrites, Filled}
-use Rattle.plan.specs.WriteLaws.{writes-join, filled-one, filled-join}
 use Rattle.results.specs.declared.Move.{Move}
-use Rattle.results.specs.Results.{present, results, clearRow}
+use Rattle.results.specs.Results.{present}
 use Rattle.results.specs.InImage.{InImage}
-use Rattle.results.specs.Owed.{results-write, clear-writes}
-use Rattle.results.specs.ResultRows.{results-le}
-use Rattle.drafts.specs.Draft.{belowOrAbsent, numbersInRange, different, renameFits, moveFrom, entryStands, intoGood, undoing, finishing, moveDraft, renameDraft, kindDraft, draft}
+use Rattle.drafts.specs.PendingRename.{belowOrAbsent, numbersInRange, different, renameFits, moveFrom, entryStands, intoGood, undoing, finishing, moveDraft, renameDraft}
 
 -- ---- the tests' last ways out
 
@@ -41,7 +31,7 @@ different-last j slots root parent replaced = rw (ne-eqb _ _ slots, ne-eqb _ _ r
 -- ---- a record that fits
 
 -- five tests that all pass
-five : (a b c d e : Bool) → (a && b && c && d && e) ≡ true → (a ≡ true) × (b ≡ true) × (c ≡ true) × (d ≡ true) × (e ≡ true)
+pub five : (a b c d e : Bool) → (a && b && c && d && e) ≡ true → (a ≡ true) × (b ≡ true) × (c ≡ true) × (d ≡ true) × (e ≡ true)
 five a b c d e all =
     let four = and-left (a && b && c && d) e all in
     let three = and-left (a && b && c) d four in
@@ -93,7 +83,7 @@ module _ (h : Shape) (x : List ℕ) (j : Journal) (fit : renameFits h x j ≡ tr
     unfolding renameDraft
     rename-move = rw (fit, is)
 
--- ---- the ways out of a draft
+-- ---- the ways out of its draft
 
 module _ (h : Shape) (x : List ℕ) where
   pub rename-unfit : (j : Journal) → renameFits h x j ≡ false → renameDraft h x j ≡ none
@@ -112,71 +102,3 @@ module _ (h : Shape) (x : List ℕ) where
     pub move-finished : entryStands (viewOf h x) m ≡ true → intoGood (viewOf h x) m ≡ true → moveDraft h x m ≡ some (finishing h x m)
     unfolding moveDraft
     move-finished done good = rw (done, good)
-
-  pub draft-unformed : journalFormed (journalAt h x) ≡ false → draft h x ≡ none
-  unfolding draft
-  draft-unformed bad = rw bad
-
-  module _ (formed : journalFormed (journalAt h x) ≡ true) (j : Journal) (is : j ≡ journalOf (journalAt h x)) where
-    kind-draft : draft h x ≡ kindDraft h x (j .kind) j
-    unfolding draft
-    kind-draft = rw (formed, is)
-
-    pub draft-rename : j .kind ≡ 0 → draft h x ≡ renameDraft h x j
-    draft-rename e = kind-draft ∙ rw e
-
-    pub draft-other : j .kind ≢ 0 → draft h x ≡ none
-    draft-other n = kind-draft ∙ go (j .kind) n
-      where
-        go : (k : ℕ) → k ≢ 0 → kindDraft h x k j ≡ none
-        go zero n = absurd (n refl)
-        go (suc k) n = refl
-
--- ---- the rows in a plan
-
-module _ (h : Shape) (x : List ℕ) (m : Move) {p q : List ℕ} {n : ℕ} (filled : Filled h p 0 (results h x m) q n) where
-  -- the results leave a place for the row behind them
-  pub results-below : n < planRows
-  results-below = omega (arith, filled .next, results-le h x m)
-
-  pub finishing-filled : {r : List ℕ} → r ≡ rowPut q n (rowFrom h (clearRow h)) → Filled h p 0 (finishing h x m) r (n + 1)
-  finishing-filled e = filled-join h filled (filled-one h (clearRow h) e)
-
--- ---- what a draft writes
-
--- rows that an operation may write; where there are none, there is nothing to ask
-abbrev Owed : Shape → Option (List Write) → Type 0
-Owed h none = Unit {0}
-Owed h (some ws) = AllWrites h ws
-
-module _ (h : Shape) (x : List ℕ) (laid : Laid h x) where
-  undoing-owed : Owed h (some (undoing h x))
-  undoing-owed = (clear-writes h, tt)
-
-  finishing-owed : (m : Move) → InImage h m → Owed h (some (finishing h x m))
-  finishing-owed m range = writes-join h (results h x m) (clearRow h ∷ []) (results-write h x m laid range) (clear-writes h, tt)
-
-  move-owed : (m : Move) → (intoGood (viewOf h x) m ≡ true → InImage h m) → Owed h (moveDraft h x m)
-  unfolding moveDraft
-  move-owed m range =
-      by-test (Owed h) (entryStands (viewOf h x) m) _ _
-      (λ _. by-test (Owed h) (intoGood (viewOf h x) m) (some (finishing h x m)) none (λ good. finishing-owed m (range good)) (λ _. tt)) (λ _. undoing-owed)
-
-  rename-owed : (j : Journal) → Owed h (renameDraft h x j)
-  unfolding renameDraft
-  rename-owed j =
-      by-test (Owed h) (renameFits h x j) (moveDraft h x (moveFrom (viewOf h x) j)) none (λ fit. move-owed _ (fits-image h x j fit)) (λ _. tt)
-
-  kind-owed : (k : ℕ) (j : Journal) → Owed h (kindDraft h x k j)
-  kind-owed zero j = rename-owed j
-  kind-owed (suc k) j = tt
-
-  draft-owed : Owed h (draft h x)
-  unfolding draft
-  draft-owed =
-      let j = journalOf (journalAt h x) in
-      by-test (Owed h) (journalFormed (journalAt h x)) (kindDraft h x (j .kind) j) none (λ _. kind-owed (j .kind) j) (λ _. tt)
-
-  -- so whatever rows a draft has, they can be applied
-  pub draft-writes : (ws : List Write) → draft h x ≡ some ws → AllWrites h ws
-  draft-writes ws e = subst (Owed h) e draft-owed

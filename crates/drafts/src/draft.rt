@@ -13,7 +13,7 @@ pub enum Draft {
     Rows(usize),
 }
 
-// Puts the rows into a plan of none. The kind of the operation says who makes them; a rename is of kind 0.
+// Puts the rows into a plan of none. The kind of the operation says who makes them: 0 a rename, 7 an exchange.
 pub fn make(plan: &mut [u8], image: &[u8], h: Shape) -> Draft
     requires { ⌜ (planBytes ≤ length (now plan)) × Laid h (now image) ⌝ }
     ensures { λ r. ⌜ Drafted h (now (plan .entry)) (draft h (now (image .entry))) r (now (plan .exit)) ⌝ }
@@ -26,6 +26,7 @@ pub fn make(plan: &mut [u8], image: &[u8], h: Shape) -> Draft
     let kind = j.kind;
     match kind {
         0 => crate::renames::draft(plan, image, h, j),
+        7 => crate::exchange::draft(plan, image, h, j),
         _ => Draft::Unfit,
     }
 }

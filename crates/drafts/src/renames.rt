@@ -12,7 +12,7 @@ ghost use Rattle.layout.specs.View.{viewOf};
 ghost use Rattle.plan.specs.Form.{planBytes};
 ghost use Rattle.plan.specs.Filled.{Filled};
 ghost use Rattle.results.specs.InImage.{InImage};
-ghost use Rattle.drafts.specs.Draft.{belowOrAbsent, numbersInRange, different, renameFits, moveFrom, entryStands, intoGood, finishing, renameDraft};
+ghost use Rattle.drafts.specs.PendingRename.{belowOrAbsent, numbersInRange, different, renameFits, moveFrom, entryStands, intoGood, finishing, renameDraft};
 ghost use Rattle.drafts.specs.Drafted.{Drafted};
 
 fn below_or_absent(i: usize, n: usize) -> bool
@@ -43,7 +43,7 @@ fn in_range(h: Shape, j: Journal) -> bool
 }
 
 // Slots that differ, a moved inode that is not the root, and it, the old parent and the replaced inode different.
-fn different(j: Journal) -> bool
+pub fn different(j: Journal) -> bool
     ensures { λ r. ⌜ r ≡ different j ⌝ }
 {
     if j.old == j.new {
@@ -76,7 +76,7 @@ fn fits(image: &[u8], h: Shape, j: Journal) -> bool
 }
 
 // The move that the record names. The new parent is not in the record: the entry in the new slot has it.
-fn move_from(image: &[u8], h: Shape, j: Journal) -> Move
+pub fn move_from(image: &[u8], h: Shape, j: Journal) -> Move
     requires { ⌜ Laid h (now image) × (j .new < h .entries) ⌝ }
     ensures { λ r. ⌜ r ≡ moveFrom (viewOf h (now (image .entry))) j ⌝ }
 {
@@ -106,7 +106,7 @@ fn entry_stands(image: &[u8], h: Shape, m: Move) -> bool
 }
 
 // Whether the new parent is a directory, and neither moved nor replaced.
-fn into_good(image: &[u8], h: Shape, m: Move) -> bool
+pub fn into_good(image: &[u8], h: Shape, m: Move) -> bool
     requires { ⌜ Laid h (now image) ⌝ }
     ensures { λ r. ⌜ r ≡ intoGood (viewOf h (now (image .entry))) m ⌝ }
 {

@@ -11,7 +11,7 @@ use Rattle.seq.specs.Count.{Off, On, bits}
 use Rattle.seq.specs.CountLaws.{on-or-off, count-edited}
 use Rattle.layout.specs.View.{View}
 use Rattle.tree.specs.Tree.{targets, entriesOf, holdsDirectory, childDirectories}
-use Rattle.edits.specs.Kinds.{IsKind, IsDirectory, IsUsed, EntryUsed}
+use Rattle.edits.specs.Kinds.{IsKind, IsDirectory, IsUsed, IsLeaf, EntryUsed}
 use Rattle.edits.specs.Tests.{holds-is, is-holds}
 use Rattle.edits.specs.ConsistentView.{EntryLinked}
 use Rattle.edits.specs.Edit.{SameEntry, SameInode, Edit}
@@ -23,6 +23,9 @@ module _ {v w : View} {slots : List ℕ} (edit : Edit v w slots) where
 
   pub was : (i k : ℕ) → w .kind i ≡ v .kind i → IsKind w i k → IsKind v i k
   was i k e (l, f) = (omega (arith, edit .size), sym e ∙ f)
+
+  pub leaf-was : (i : ℕ) → w .kind i ≡ v .kind i → IsLeaf w i → IsLeaf v i
+  leaf-was i e (l, u, n) = (omega (arith, edit .size), (λ z. u (e ∙ z)), λ z. n (e ∙ z))
 
   -- an entry that stayed, seen from the view after
   pub stayed : (j : ℕ) → Off j slots → j < w .entries → SameEntry v w j
@@ -60,6 +63,14 @@ module _ {v w : View} {slots : List ℕ} (edit : Edit v w slots) where
     above = λ h. rw (et, ep) (above (was target 2 (st .kind) (rw et at h)));
     system = λ m. rw (et, ep) (st .system ∙ system (λ h. m (rw et (kept target 2 (st .kind) h))) ∙ sym (sd .system));
   }
+
+  -- so it is good where the inode had a good entry k before, in a directory of the same file system
+  pub linked-moved : (j parent target k : ℕ) → w .parent j ≡ parent → w .target j ≡ target → EntryLinked v k → v .target k ≡ target
+      → IsDirectory v parent → SameInode v w parent → SameInode v w target
+      → (IsDirectory v target → w .field target ≡ parent) → v .system (v .parent k) ≡ v .system parent → EntryLinked w j
+  linked-moved j parent target k ep et l e d sd st above system =
+      linked-new j parent target ep et d sd (rw e at (l .target)) st (λ z. l .below-root (e ∙ z)) above
+      (λ n. rw e at (l .system (λ h. n (rw e at h))) ∙ system)
 
   -- rule 27: names stay distinct if no name in a written slot is that of another entry
   pub distinct-edited : ((i j : ℕ) → EntryUsed v i → EntryUsed v j → v .parent i ≡ v .parent j → v .name i ≡ v .name j → i ≡ j)

@@ -6,7 +6,7 @@ use Prim.Native.Nat.{ℕ, _+_, _≤_, _<_}
 use native.Mathlib.Decide.{ℕ-discrete}
 use native.Mathlib.Omega.{arith}
 use Rattle.seq.specs.Count.{Off, On, bit}
-use Rattle.seq.specs.CountLaws.{bit-le, on-or-off, count-zero, count-unique}
+use Rattle.seq.specs.CountLaws.{bit-le, on-or-off, count-zero}
 use Rattle.seq.specs.Climb.{up}
 use Rattle.layout.specs.Limits.{linkLimit}
 use Rattle.layout.specs.View.{View}
@@ -15,12 +15,12 @@ use Rattle.edits.specs.Kinds.{IsDirectory, IsUsed, IsLeaf, EntryUsed, Ha
 use Rattle.edits.specs.KindsLaws.{directory-used, kind?, entry-used?}
 use Rattle.edits.specs.Tests.{is-targets, no-targets, same-target, is-holds, no-holds}
 use Rattle.edits.specs.ConsistentView.{EntryLinked, ConsistentView}
-use Rattle.edits.specs.ConsistentViewLaws.{not-above-parent}
+use Rattle.edits.specs.ConsistentViewLaws.{only-entry, not-own-parent, children-limit}
 use Rattle.edits.specs.Edit.{SameInode, Edit}
-use Rattle.edits.specs.EditLaws.{was, stayed, entry-was, linked-new, entries-edited}
+use Rattle.edits.specs.EditLaws.{was, leaf-was, stayed, entry-was, linked-moved, entries-edited}
 use Rattle.edits.specs.TextChange.{TextChange}
 use Rattle.edits.specs.TextChangeLaws.{texts-freed}
-use Rattle.edits.specs.Settled.{SameEntries, SameChildren, DirectoryCount, LeafCount}
+use Rattle.edits.specs.Settled.{holds, SameEntries, SameChildren, DirectoryCount, LeafCount}
 use Rattle.edits.specs.SettledLaws.{change-consistent}
 use Rattle.edits.specs.Moved.{Allowed, Replaced, Gone, Moved}
 use Rattle.edits.specs.MovedLaws.{replaced?, gone?}
@@ -66,9 +66,7 @@ module _ {v : View} {old new moved from into : ℕ} {called : List ℕ} (good : 
   moved-stays (u, e) = ok .other u e
 
   pub moved-not-from : moved ≢ from
-  unfolding up
-  moved-not-from e =
-      not-above-parent v good old (ok .old-used) (rw (ok .old-target, e) from-directory) 0 (ok .old-parent ∙ sym e ∙ sym (ok .old-target))
+  moved-not-from e = not-own-parent v good old (ok .old-used) (ok .old-target ∙ e ∙ sym (ok .old-parent))
 
   pub moved-not-into : moved ≢ into
   unfolding up
@@ -118,12 +116,8 @@ module _ {v : View} {old new moved from into : ℕ} {called : List ℕ} (good : 
     abbrev Reparented : ℕ → Type 0
     Reparented i = (i ≡ moved) × IsDirectory v moved
 
-    only-entry : (i : ℕ) → Reparented i → (j : ℕ) → Off j slots → EntryUsed v j → v .target j ≢ i
-    unfolding entriesOf
-    only-entry i (e, d) j off l z =
-        off .0
-        (count-unique (targets v moved) (v .entries) (good .placed .one-entry moved d moved-below-root) j old (l .0) (ok .old-used .0)
-        (is-targets v moved j (l .1) (z ∙ e)) (is-targets v moved old (ok .old-used .1) (ok .old-target)))
+    no-other-entry : (i : ℕ) → Reparented i → (j : ℕ) → Off j slots → EntryUsed v j → v .target j ≢ i
+    no-other-entry i (e, d) j off l z = off .0 (only-entry v (good .placed) old j (ok .old-used) (rw (ok .old-target) d) l (z ∙ e ∙ sym (ok .old-target)))
 
     change : InodeChange v w slots (Gone v w new) (λ _. ⊥) Reparented
     change = record {
@@ -136,7 +130,7 @@ module _ {v : View} {old new moved from into : ℕ} {called : List ℕ} (good : 
       unnamed = unnamed;
       made = λ _ x. absurd x;
       directory = λ i r. rw (r .0) (r .1);
-      reparented = only-entry;
+      reparented = no-other-entry;
       same = λ i l g _. m .same i l g;
       field = λ i l g _ r. m .field i l g (λ e d. r (e, d));
     }
@@ -151,10 +145,9 @@ module _ {v : View} {old new moved from into : ℕ} {called : List ℕ} (good : 
     -- the new entry
     new-linked : EntryLinked w new
     new-linked =
-        linked-new edit new into moved (m .parent) (m .target)
+        linked-moved edit new into moved old (m .parent) (m .target) old-linked (ok .old-target)
         (ok .into-directory) (m .same into (ok .into-directory .0) (λ g. into-stays (g .0)))
-        moved-used (m .same moved (moved-used .0) (λ g. moved-stays (g .0))) moved-below-root (m .reparented)
-        (λ n. rw (ok .old-target, ok .old-parent) at (old-linked .system (λ d. n (rw (ok .old-target) at d))) ∙ ok .systems)
+        (m .same moved (moved-used .0) (λ g. moved-stays (g .0))) (m .reparented) (rw (ok .old-parent) (ok .systems))
 
     written : (j : ℕ) → On j slots → EntryUsed w j → EntryLinked w j
     written j on l = ⊎-elim (λ a. absurd (old-free j a l)) (⊎-elim (λ a. rw a new-linked) (λ f. absurd f)) on
@@ -172,9 +165,6 @@ module _ {v : View} {old new moved from into : ℕ} {called : List ℕ} (good : 
         (rw f (ok .into-directory), λ k r. ok .not-above k (rw f at (r .0)))
 
     -- the slots touch the child directories of the two parents alone
-    abbrev holds : View → ℕ → ℕ → ℕ
-    holds u d j = bit (holdsDirectory u d j)
-
     old-holds : (d : ℕ) → holds w d old ≡ 0
     old-holds d = ap bit (no-holds w d old (λ u _ _. u (m .cleared)))
 
@@ -198,15 +188,15 @@ module _ {v : View} {old new moved from into : ℕ} {called : List ℕ} (good : 
         counted : v .links d ≡ 2 + childDirectories v d
         counted = good .counted .children d (directory-was d h)
 
-        before : v .links d ≤ linkLimit
-        before = good .counted .within d (directory-used v d (directory-was d h))
+        before : 2 + childDirectories v d ≤ linkLimit
+        before = children-limit v good d (directory-was d h)
 
         children : childDirectories w d + holds v d old + holds v d new ≡ childDirectories v d + holds w d new
         children = omega (arith, children-changed change good d, old-holds d)
 
         -- where the new entry adds none, or takes the place of one
         even : holds w d new ≤ holds v d old + holds v d new → 2 + childDirectories w d ≤ linkLimit
-        even e = omega (arith, counted, before, children)
+        even e = omega (arith, before, children)
 
         one : holds w d new ≤ 1
         one = bit-le (holdsDirectory w d new)
@@ -237,7 +227,7 @@ module _ {v : View} {old new moved from into : ℕ} {called : List ℕ} (good : 
     leaf-count i (l, u, n) = go (replaced? v new i)
       where
         b : IsLeaf v i
-        b = let k = used-same i (l, u) .kind in (inode-below change i l, λ z. u (k ∙ z), λ z. n (k ∙ z))
+        b = leaf-was edit i (used-same i (l, u) .kind) (l, u, n)
 
         left : Gone v w new i → ⊥
         left g = u (m .freed i (b .0) g)

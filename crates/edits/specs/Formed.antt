@@ -1,6 +1,6 @@
 -- The rules on a record's own bytes, one field for each. Assumes nothing.
 use mathlib.Core.Path.{_≡_}
-use mathlib.Core.Logic.{_≢_}
+use mathlib.Core.Logic.{_≢_, _⊎_}
 use mathlib.Core.Bool.{true}
 use mathlib.Core.List.{List}
 use Prim.Native.Nat.{ℕ, _+_, _-_, _≤_, _<_}
@@ -45,3 +45,18 @@ pub record Formed (h : Shape) (s : List ℕ) : Type 0 where
   pub entry : (j : ℕ) → j < h .entries → viewOf h s .nameLength j ≢ 0 → EntryForm h s j
   pub text : (t : ℕ) → t < h .texts → TextForm h s t
   pub handle : (n : ℕ) → n < h .handles → HandleForm h s n
+
+-- From image s to image t a record keeps its bytes, or it is well formed.
+abbrev pub InodeFormed : Shape → List ℕ → List ℕ → ℕ → Type 0
+InodeFormed h s t i = (inodeAt h t i ≡ inodeAt h s i) ⊎ (viewOf h t .kind i ≡ 0 → zeros (inodeAt h t i) 0 32 ≡ true)
+
+abbrev pub EntryFormed : Shape → List ℕ → List ℕ → ℕ → Type 0
+EntryFormed h s t j =
+    (entryAt h t j ≡ entryAt h s j)
+    ⊎ ((viewOf h t .nameLength j ≡ 0 → zeros (entryAt h t j) 0 (h .width) ≡ true) × (viewOf h t .nameLength j ≢ 0 → EntryForm h t j))
+
+abbrev pub TextFormed : Shape → List ℕ → List ℕ → ℕ → Type 0
+TextFormed h s t x = (textAt h t x ≡ textAt h s x) ⊎ TextForm h t x
+
+abbrev pub HandleFormed : Shape → List ℕ → List ℕ → ℕ → Type 0
+HandleFormed h s t n = (handleAt h t n ≡ handleAt h s n) ⊎ HandleForm h t n

@@ -1,13 +1,11 @@
 -- What a change that keeps or forms its records leaves of the rules on a record's own bytes. Assumes nothing.
 use mathlib.Core.Path.{_≡_}
-use mathlib.Core.Logic.{_≢_, _⊎_, ⊎-elim}
-use mathlib.Core.Bool.{true}
+use mathlib.Core.Logic.{⊎-elim}
 use mathlib.Core.List.{List}
 use Prim.Native.Nat.{ℕ, _<_}
-use Rattle.seq.specs.Bytes.{zeros}
 use Rattle.layout.specs.declared.Shape.{Shape}
-use Rattle.layout.specs.View.{viewOf, inodeAt, entryAt, textAt, handleAt}
-use Rattle.edits.specs.Formed.{EntryForm, TextForm, HandleForm, Formed}
+use Rattle.layout.specs.View.{viewOf, entryAt, textAt, handleAt}
+use Rattle.edits.specs.Formed.{EntryForm, TextForm, HandleForm, Formed, InodeFormed, EntryFormed, TextFormed, HandleFormed}
 
 -- a record that keeps its bytes keeps its form
 module _ (h : Shape) (s t : List ℕ) where
@@ -25,11 +23,10 @@ module _ (h : Shape) (s t : List ℕ) where
 
   -- every record kept its bytes, or is well formed
   pub formed-changed : Formed h s
-      → ((i : ℕ) → i < h .inodes → (inodeAt h t i ≡ inodeAt h s i) ⊎ (viewOf h t .kind i ≡ 0 → zeros (inodeAt h t i) 0 32 ≡ true))
-      → ((j : ℕ) → j < h .entries → (entryAt h t j ≡ entryAt h s j)
-      ⊎ ((viewOf h t .nameLength j ≡ 0 → zeros (entryAt h t j) 0 (h .width) ≡ true) × (viewOf h t .nameLength j ≢ 0 → EntryForm h t j)))
-      → ((x : ℕ) → x < h .texts → (textAt h t x ≡ textAt h s x) ⊎ TextForm h t x)
-      → ((n : ℕ) → n < h .handles → (handleAt h t n ≡ handleAt h s n) ⊎ HandleForm h t n)
+      → ((i : ℕ) → i < h .inodes → InodeFormed h s t i)
+      → ((j : ℕ) → j < h .entries → EntryFormed h s t j)
+      → ((x : ℕ) → x < h .texts → TextFormed h s t x)
+      → ((n : ℕ) → n < h .handles → HandleFormed h s t n)
       → Formed h t
   unfolding viewOf
   formed-changed f inode entry text handle = record {

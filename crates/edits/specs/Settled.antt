@@ -3,7 +3,7 @@ use mathlib.Core.Path.{_≡_}
 use mathlib.Core.Logic.{_≢_, _⊎_}
 use mathlib.Core.List.{List}
 use Prim.Native.Nat.{ℕ, _+_, _≤_, _<_}
-use Rattle.seq.specs.Count.{On, bits}
+use Rattle.seq.specs.Count.{On, bit, bits}
 use Rattle.seq.specs.Climb.{up}
 use Rattle.layout.specs.Limits.{linkLimit, modeLimit}
 use Rattle.layout.specs.View.{View}
@@ -11,6 +11,10 @@ use Rattle.tree.specs.Tree.{targets, entriesOf, holdsDirectory, childDirectorie
 use Rattle.edits.specs.Kinds.{IsDirectory, IsLeaf, EntryUsed, HandleOpen}
 use Rattle.edits.specs.ConsistentView.{EntryLinked}
 use Rattle.edits.specs.TextChange.{TextChange}
+
+-- whether entry j is a child directory of d, as a number
+abbrev pub holds : View → ℕ → ℕ → ℕ
+holds v d j = bit (holdsDirectory v d j)
 
 -- as many of the written entries name inode i after as before, and as many of them are child directories of d
 abbrev pub SameEntries : View → View → List ℕ → ℕ → Type 0

@@ -77,3 +77,8 @@ module _ (v : View) where
 -- entries of two views that name the same inode count for the same inode
 pub same-target : (v w : View) (i j k : ℕ) → v .nameLength j ≢ 0 → w .nameLength k ≢ 0 → v .target j ≡ w .target k → targets v i j ≡ targets w i k
 same-target v w i j k a b e = rw (ne-eqb _ _ a, ne-eqb _ _ b, e)
+
+-- entries of two views that lie in the same directory, and both name one, count for the same directory
+pub same-holds : (v w : View) (d j k : ℕ) → v .nameLength j ≢ 0 → w .nameLength k ≢ 0 → v .parent j ≡ w .parent k
+    → IsDirectory v (v .target j) → IsDirectory w (w .target k) → holdsDirectory v d j ≡ holdsDirectory w d k
+same-holds v w d j k a b e s t = rw (ne-eqb _ _ a, ne-eqb _ _ b, e, kind-test v _ 2 s, kind-test w _ 2 t)

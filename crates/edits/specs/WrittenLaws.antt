@@ -1,52 +1,53 @@
 -- The finished image of a rename in bytes: its records are well formed, and its bodies are consistent. Assumes nothing.
 use mathlib.Core.Path.{_≡_, refl, sym, ap, _∙_, subst}
-use mathlib.Core.Logic.{_≢_, _⊎_, inl, inr, ⊎-elim}
+use mathlib.Core.Logic.{_≢_, inl, inr, ⊎-elim}
 use mathlib.Core.Bool.{Bool, true, false, cond}
 use mathlib.Core.List.{List}
-use Prim.Native.Nat.{ℕ, _+_, _≤_, _<_}
+use Prim.Native.Nat.{ℕ, _≤_, _<_}
 use native.Mathlib.Decide.{ℕ-discrete}
-use native.Mathlib.Nat.{zero-add}
 use native.Mathlib.Omega.{arith}
-use lib.ListN.{length, getD, replicate, getD-replicate}
+use lib.ListN.{length, replicate, getD-replicate}
 use borrow.Author.Tests.{eqb-false, not-true}
 use Rattle.seq.specs.Search.{all}
 use Rattle.seq.specs.Bytes.{part, zeros, noZero}
-use Rattle.seq.specs.BytesLaws.{part-byte, zeros-replicate}
-use Rattle.seq.specs.NumberLaws.{number-same}
+use Rattle.seq.specs.BytesLaws.{zeros-replicate}
 use Rattle.layout.specs.declared.Shape.{Shape}
 use Rattle.layout.specs.Limits.{textSize, textRoom}
 use Rattle.layout.specs.Facts.{Laid}
-use Rattle.layout.specs.RecordLaws.{record-length}
 use Rattle.layout.specs.Fields.{inodeKind, inodeLinks, entryParent, entryTarget, entryNameLength, entryName, textLength, handleState, handleInode}
-use Rattle.layout.specs.View.{View, viewOf, inodeAt, entryAt, textAt, entryUsed, nameRoom}
+use Rattle.layout.specs.View.{View, viewOf, entryAt, textAt, handleAt, entryUsed, nameRoom}
 use Rattle.encode.specs.Facts.{Names}
 use Rattle.encode.specs.Entry.{entryBytes, retargeted}
-use Rattle.encode.specs.EntryLaws.{names-itself, names-target, entry-names}
+use Rattle.encode.specs.EntryLaws.{entry-names}
 use Rattle.names.specs.NameTests.{nameGood}
 use Rattle.tree.specs.Tree.{entriesOf}
 use Rattle.consistency.specs.RecordFacts.{Bodies}
 use Rattle.edits.specs.Kinds.{IsSymlink, EntryUsed}
-use Rattle.edits.specs.KindsLaws.{directory-used, kind?, either?}
+use Rattle.edits.specs.KindsLaws.{directory-used, kind?}
 use Rattle.edits.specs.ConsistentView.{ConsistentView}
-use Rattle.edits.specs.Edit.{SameEntry, SameInode}
+use Rattle.edits.specs.Edit.{SameEntry, SameInode, SameHandle, SameSize}
 use Rattle.edits.specs.Moved.{Allowed, Replaced, Gone, Moved}
-use Rattle.edits.specs.MovedLaws.{replaced?, gone?}
-use Rattle.edits.specs.Formed.{EntryForm, TextForm, Formed}
+use Rattle.edits.specs.MovedLaws.{gone?}
+use Rattle.edits.specs.Formed.{EntryForm, TextForm, Formed, InodeFormed, EntryFormed, TextFormed}
 use Rattle.edits.specs.FormedLaws.{formed-changed}
 use Rattle.edits.specs.Bodies.{bodies-consistent, bodies-formed}
+use Rattle.edits.specs.PartlyWritten.{same-head, head-form, retargeted-names, names-form}
 use Rattle.edits.specs.FinishedBodies.{rename-consistent}
 use Rattle.edits.specs.Written.{Touched, Written}
 
--- inodes that have the first twelve bytes in common
-head-byte : (r x : List ℕ) → part r 0 12 ≡ part x 0 12 → (k : ℕ) → k < 12 → getD r k 0 ≡ getD x k 0
-head-byte r x e k l =
-    let z : 0 + k ≡ k = zero-add k in
-    sym (rw z at (part-byte r 0 12 k l)) ∙ ap (λ y. getD y k 0) e ∙ (rw z at (part-byte x 0 12 k l))
+-- two images of one shape
+pub same-size : (h : Shape) (s t : List ℕ) → SameSize (viewOf h s) (viewOf h t)
+unfolding viewOf
+same-size h s t = record { inodes = refl; entries = refl; texts = refl; handles = refl }
 
--- an entry that keeps its bytes
+-- an entry or a handle that keeps its bytes
 pub same-entry : (h : Shape) (s t : List ℕ) (j : ℕ) → entryAt h t j ≡ entryAt h s j → SameEntry (viewOf h s) (viewOf h t) j
 unfolding viewOf
 same-entry h s t j e = record { parent = ap entryParent e; target = ap entryTarget e; nameLength = ap entryNameLength e; name = ap entryName e }
+
+pub same-handle : (h : Shape) (s t : List ℕ) (n : ℕ) → handleAt h t n ≡ handleAt h s n → SameHandle (viewOf h s) (viewOf h t) n
+unfolding viewOf
+same-handle h s t n e = record { state = ap handleState e; opened = ap handleInode e }
 
 -- a text of zeros is free
 blank-text : (h : Shape) (t : List ℕ) (x : ℕ) → textAt h t x ≡ replicate textSize 0 → TextForm h t x
@@ -61,15 +62,11 @@ module _ {h : Shape} {s : List ℕ} {old new moved from into : ℕ} {called : Li
   moved-below = rw (ok .old-target) at (bodies-consistent f .placed .entry old (ok .old-used) .target .0)
 
   taken-over : EntryUsed (viewOf h s) new → Names (retargeted moved (entryAt h s new)) (h .width) into moved called
-  unfolding viewOf
   taken-over u =
-      let r = entryAt h s new in
-      let e = bodies-formed f .entry new (u .0) (u .1) in
-      let long : length r ≡ h .width = record-length h s 1 new (laid .long) (omega arith) (u .0) in
-      let itself = names-itself r (h .width) long (omega (arith, e .short, laid .width-least)) (e .padded) (e .filled) in
-      let there = names-target itself moved (omega (arith, moved-below, laid .inodes-most)) in
-      subst (λ (n : List ℕ). Names (retargeted moved r) (h .width) into moved n) (ok .new-name u)
-      (subst (λ (p : ℕ). Names (retargeted moved r) (h .width) p moved (entryName r)) (ok .new-parent u) there)
+      let r = retargeted moved (entryAt h s new) in
+      subst (λ (n : List ℕ). Names r (h .width) into moved n) (ok .new-name u)
+      (subst (λ (p : ℕ). Names r (h .width) p moved (viewOf h s .name new)) (ok .new-parent u)
+      (retargeted-names laid (bodies-formed f) new u moved moved-below))
 
   pub new-names : length called ≤ nameRoom h
       → Names (cond (entryUsed (viewOf h s) new) (retargeted moved (entryAt h s new)) (entryBytes (h .width) into moved called)) (h .width) into moved called
@@ -98,28 +95,16 @@ module _ {h : Shape} {s t : List ℕ} {old new moved from into : ℕ} {called : 
   form : Formed h s
   form = bodies-formed f
 
-  same-head : (i : ℕ) → i < h .inodes → (Gone v w new i → ⊥) → SameInode v w i
-  unfolding viewOf
-  same-head i l n =
-      let byte = head-byte _ _ (m .head i l n) in
-      record { kind = byte 0 (omega arith); system = byte 1 (omega arith); mode = number-same 2 _ _ 2 2 (λ k b. byte (2 + k) (omega arith)) }
+  head-kept : (i : ℕ) → i < h .inodes → (Gone v w new i → ⊥) → SameInode v w i
+  head-kept i l n = same-head h s t i (m .head i l n)
 
   new-entry : Names (entryAt h t new) (h .width) into moved called
   new-entry = rw (m .written) (new-names laid f ok fitting)
 
   new-form : EntryForm h t new
-  unfolding viewOf
-  new-form = record {
-    short = rw (new-entry .name-length) fitting;
-    padded = new-entry .padded;
-    filled = rw (new-entry .name-length) (new-entry .filled);
-    name = rw (new-entry .name) named;
-  }
+  new-form = names-form h t new new-entry named
 
   -- the inodes that a rename writes were in use
-  touched? : (i : ℕ) → Dec (Touched v new moved from into i)
-  touched? i = either? (ℕ-discrete i moved) (either? (ℕ-discrete i from) (either? (ℕ-discrete i into) (replaced? v new i)))
-
   touched-used : (i : ℕ) → Touched v new moved from into i → v .kind i ≢ 0
   touched-used i =
       let l = good .placed .entry in
@@ -141,7 +126,7 @@ module _ {h : Shape} {s t : List ℕ} {old new moved from into : ℕ} {called : 
   pub written-moved : Moved v w old new moved from into called
   unfolding viewOf
   written-moved = record {
-    size = record { inodes = refl; entries = refl; texts = refl; handles = refl };
+    size = same-size h s t;
     entry = λ j l a b. same-entry h s t j (m .entry j l a b);
     cleared = rw (m .cleared) (getD-replicate (h .width) 4 0 0 (omega (arith, laid .width-least)));
     used = λ z. nonempty (sym (new-entry .name-length) ∙ z);
@@ -149,7 +134,7 @@ module _ {h : Shape} {s t : List ℕ} {old new moved from into : ℕ} {called : 
     target = new-entry .target;
     name = new-entry .name;
     freed = λ i l g. ap inodeKind (m .freed i l g);
-    same = same-head;
+    same = head-kept;
     reparented = m .reparented;
     field = m .field;
     parents = λ i _. m .parents i;
@@ -157,37 +142,32 @@ module _ {h : Shape} {s t : List ℕ} {old new moved from into : ℕ} {called : 
     links = links-kept;
     text = λ x l n. ap textLength (m .text x l n);
     text-freed = λ i g y. ap textLength (m .text-freed i g y);
-    handle = λ n l. record { state = ap handleState (m .handle n l); opened = ap handleInode (m .handle n l) };
+    handle = λ n l. same-handle h s t n (m .handle n l);
   }
 
   -- each record is as before, or well formed
-  inode-form : (i : ℕ) → i < h .inodes → (inodeAt h t i ≡ inodeAt h s i) ⊎ (w .kind i ≡ 0 → zeros (inodeAt h t i) 0 32 ≡ true)
-  inode-form i l = go (touched? i) (gone? v w new i)
+  inode-form : (i : ℕ) → i < h .inodes → InodeFormed h s t i
+  inode-form i l = go (gone? v w new i)
     where
-      go : Dec (Touched v new moved from into i) → Dec (Gone v w new i)
-          → (inodeAt h t i ≡ inodeAt h s i) ⊎ (w .kind i ≡ 0 → zeros (inodeAt h t i) 0 32 ≡ true)
-      go (no n) d = inl (m .inode i l n)
-      go (yes c) (yes g) = inr (λ _. rw (m .freed i l g) (zeros-replicate 32 0 32 (omega arith)))
-      go (yes c) (no g) = inr (λ z. absurd (touched-used i c (sym (same-head i l g .kind) ∙ z)))
+      go : Dec (Gone v w new i) → InodeFormed h s t i
+      go (yes g) = inr (λ _. rw (m .freed i l g) (zeros-replicate 32 0 32 (omega arith)))
+      go (no g) = head-form h s t i (m .head i l g) (λ z. m .inode i l (λ c. touched-used i c z))
 
-  entry-form : (j : ℕ) → j < h .entries → (entryAt h t j ≡ entryAt h s j)
-      ⊎ ((w .nameLength j ≡ 0 → zeros (entryAt h t j) 0 (h .width) ≡ true) × (w .nameLength j ≢ 0 → EntryForm h t j))
+  entry-form : (j : ℕ) → j < h .entries → EntryFormed h s t j
   entry-form j l = go (ℕ-discrete j old) (ℕ-discrete j new)
     where
       blank : zeros (entryAt h t old) 0 (h .width) ≡ true
       blank = rw (m .cleared) (zeros-replicate (h .width) 0 (h .width) (omega arith))
 
-      go : Dec (j ≡ old) → Dec (j ≡ new) → (entryAt h t j ≡ entryAt h s j)
-          ⊎ ((w .nameLength j ≡ 0 → zeros (entryAt h t j) 0 (h .width) ≡ true) × (w .nameLength j ≢ 0 → EntryForm h t j))
+      go : Dec (j ≡ old) → Dec (j ≡ new) → EntryFormed h s t j
       go (yes e) k = inr ((λ _. rw e blank), λ n. absurd (n (rw e (written-moved .cleared))))
       go (no n) (yes e) = inr ((λ z. absurd (written-moved .used (rw e at z))), λ _. rw e new-form)
       go (no n) (no k) = inl (m .entry j l n k)
 
-  text-form : (x : ℕ) → x < h .texts → (textAt h t x ≡ textAt h s x) ⊎ TextForm h t x
+  text-form : (x : ℕ) → x < h .texts → TextFormed h s t x
   text-form x l = go (gone? v w new (v .target new)) (kind? v (v .target new) 3) (ℕ-discrete (v .field (v .target new)) x)
     where
-      go : Dec (Gone v w new (v .target new)) → Dec (IsSymlink v (v .target new)) → Dec (v .field (v .target new) ≡ x)
-          → (textAt h t x ≡ textAt h s x) ⊎ TextForm h t x
+      go : Dec (Gone v w new (v .target new)) → Dec (IsSymlink v (v .target new)) → Dec (v .field (v .target new) ≡ x) → TextFormed h s t x
       go (yes g) (yes y) (yes e) = inr (blank-text h t x (rw e at (m .text-freed _ g y)))
       go (yes g) (yes y) (no e) = inl (m .text x l (λ i c _ z. e (ap (v .field) (c .0 .1) ∙ z)))
       go (yes g) (no y) e = inl (m .text x l (λ i c z _. y (rw (c .0 .1) z)))

@@ -9,7 +9,14 @@ use Rattle.seq.specs.Number.{bytesOf}
 use Rattle.layout.specs.Fields.{journalMark, journalOldSlot, journalNewSlot, journalMoved, journalReplaced, journalOldParent, journalText, journalTime}
 use Rattle.encode.specs.declared.journal.Journal.{Journal}
 
--- form H: what a journal record says; its second byte is the operation's kind, 0 for a rename
+-- form H: the kinds of operations
+abbrev pub renameKind : ℕ
+renameKind = 0
+
+abbrev pub exchangeKind : ℕ
+exchangeKind = 7
+
+-- form H: what a journal record says; its second byte is the operation's kind
 unfoldable pub journalOf : List ℕ → Journal
 journalOf r = record {
   kind = getD r 1 0;

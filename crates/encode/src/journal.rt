@@ -6,6 +6,11 @@ ghost use Rattle.layout.specs.Limits.{journalSize};
 ghost use Rattle.encode.specs.Journal.{journalOf, journalFormed, journalHead, journalBytes};
 ghost use Rattle.encode.specs.Facts.{InRange};
 
+// The kinds of operations.
+pub const RENAME: u8 = 0;
+
+pub const EXCHANGE: u8 = 7;
+
 // What a pending operation is recovered from. A number of 65,535 names no replaced inode, and no text.
 pub struct Journal {
     pub kind: u8,

@@ -12,6 +12,10 @@ pub mod RecoveryLaws
 pub mod Operation
 pub mod Owed
 pub mod Safe
+pub mod After
+pub mod Mixed
+pub mod MixedLaws
+pub mod Levels
 pub mod Example
 pub mod JobRows
 pub mod JobRowsLaws

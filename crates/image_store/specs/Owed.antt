@@ -40,7 +40,8 @@ module _ (h : Shape) (s₀ : List ℕ) (p : Plan (images h s₀)) (recover : Lis
   abbrev 𝓞 : Orderly 𝓒
   𝓞 = orderly p recover 𝓦
 
-  rows-fit : All (Fits h) (plan 𝓒)
+  -- each replaces a record whole
+  pub rows-fit : All (Fits h) (plan 𝓒)
   rows-fit = fits-of 𝓒 𝓞 (start 𝓒) (start-inv 𝓒 𝓞)
 
   -- all jobs of the plan's bytes do what the operation's rows say

@@ -9,7 +9,7 @@ use lib.Dec.{T}
 use lib.ListN.{length}
 use Rattle.layout.specs.declared.Shape.{Shape}
 use Rattle.layout.specs.Place.{Key}
-use Rattle.plan.specs.Form.{planRows, planBytes}
+use Rattle.plan.specs.Form.{planRows, planBytes, rowCount}
 use Rattle.plan.specs.Jobs.{Job, jobsIn}
 use Rattle.plan.specs.Write.{Write, storeAll}
 use Rattle.apply.specs.Apply.{applyNumber}
@@ -32,8 +32,9 @@ use Rattle.image_store.specs.JobLaws.{jobForm, jobs, answers-zero}
 use Rattle.image_store.specs.Recovery.{RecoveryJob, AnswersRows}
 use Rattle.image_store.specs.RecoveryLaws.{answer-zero}
 use Rattle.image_store.specs.Operation.{rowsIn, plannedChange, stateAfter}
-use Rattle.image_store.specs.Owed.{rows-do, first-waiting, carries, orderly-jobs, obligations-jobs}
+use Rattle.image_store.specs.Owed.{rows-fit, rows-do, first-waiting, carries, orderly-jobs, obligations-jobs}
 use Rattle.image_store.specs.JobRows.{planOf}
+use Rattle.image_store.specs.JobRowsLaws.{plan-count}
 
 module _ (h : Shape) (s₀ : List ℕ) (p : Plan (images h s₀)) (𝓦 : WellFormed (images h s₀) p) where
   -- the image after is the one before with every record stored that the rows write
@@ -46,6 +47,10 @@ module _ (h : Shape) (s₀ : List ℕ) (p : Plan (images h s₀)) (𝓦 : WellFo
     -- a recovery that no event calls
     idle : RecoveryJob
     idle = record { number = λ b s. 1; plan = λ b s. b .plan }
+
+    -- the plan has as many rows as the operation
+    pub planned-count : rowCount (planOf h buffer (rowsIn h s₀ p)) ≡ length (rowsIn h s₀ p)
+    planned-count = plan-count h (p .before) (𝓦 .ok .read) buffer (rowsIn h s₀ p) long room (rows-fit h s₀ p (λ s. none) buffer idle 𝓦 long room)
 
     -- in any permitted order of the jobs
     pub planned-whole : (js : List Job) → Permitted (jobs h s₀) (jobsIn (planOf h buffer (rowsIn h s₀ p))) js

@@ -19,6 +19,9 @@ EACCES = 13
 abbrev pub EBUSY : ℕ
 EBUSY = 16
 
+abbrev pub EEXIST : ℕ
+EEXIST = 17
+
 abbrev pub EXDEV : ℕ
 EXDEV = 18
 

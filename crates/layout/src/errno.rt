@@ -10,6 +10,8 @@ pub const EACCES: u8 = 13;
 
 pub const EBUSY: u8 = 16;
 
+pub const EEXIST: u8 = 17;
+
 pub const EXDEV: u8 = 18;
 
 pub const ENOTDIR: u8 = 20;

@@ -9,12 +9,13 @@ use Rattle.rename.specs.declared.Renamed.{Renamed}
 use Rattle.recover.specs.Job.{Recovered}
 
 -- the parts in the order of the function's arguments
-abbrev pub requestOf : ℕ → ℕ → List ℕ → ℕ → ℕ → ℕ → ℕ → Request
-requestOf user group groups current old new time = record {
+abbrev pub requestOf : ℕ → ℕ → List ℕ → ℕ → ℕ → ℕ → ℕ → ℕ → Request
+requestOf user group groups current old new time flags = record {
   who = credentialsOf user group groups;
   current = current;
   starts = record { old = old; new = new };
   now = time;
+  flags = flags;
 }
 
 -- bits 0 to 7 the number, 8 to 15 the rows, 16 to 31 old's count, 32 to 47 new's

@@ -27,7 +27,7 @@ fn pack(r: Renamed) -> u64
     (r.number as u64) + 256 * (r.rows as u64) + 65536 * (r.old as u64) + 4294967296 * (r.new as u64)
 }
 
-// The job rename. The groups are those beside the effective one; of a list that is too long none is read. The starts of old and new are from and into.
+// The job rename, or with its flag the exchange. The groups are those beside the effective one; of a list that is too long none is read. The starts of old and new are from and into.
 #[no_mangle]
 pub extern "C" fn mp_rename(
     image: &[u8],
@@ -38,11 +38,12 @@ pub extern "C" fn mp_rename(
     from: u8,
     into: u8,
     time: u64,
+    flags: u32,
     old: &[u8],
     new: &[u8],
     plan: &mut [u8],
 ) -> u64
-    ensures { λ r. ⌜ (r ≡ packed (renamed (now (image .entry)) (now (plan .entry)) (requestOf user group (now (groups .entry)) current from into time) (now (old .entry)) (now (new .entry)))) × (now (plan .exit) ≡ planAfter (now (image .entry)) (now (plan .entry)) (requestOf user group (now (groups .entry)) current from into time) (now (old .entry)) (now (new .entry))) ⌝ }
+    ensures { λ r. ⌜ (r ≡ packed (renamed (now (image .entry)) (now (plan .entry)) (requestOf user group (now (groups .entry)) current from into time flags) (now (old .entry)) (now (new .entry)))) × (now (plan .exit) ≡ planAfter (now (image .entry)) (now (plan .entry)) (requestOf user group (now (groups .entry)) current from into time flags) (now (old .entry)) (now (new .entry))) ⌝ }
 {
     let who = paths::groups::credentials(user, group, groups);
     let starts = Starts {
@@ -54,6 +55,7 @@ pub extern "C" fn mp_rename(
         current,
         starts,
         now: time,
+        flags,
     };
     pack(rename::rename(image, q, old, new, plan))
 }

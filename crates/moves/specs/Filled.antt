@@ -1,14 +1,14 @@
 -- All rows of a rename, put into a cleared plan one after another. Assumes nothing.
-use mathlib.Core.Path.{_≡_, ap, _∙_, subst}
+use mathlib.Core.Path.{_≡_, subst}
 use mathlib.Core.List.{List}
 use Prim.Native.Nat.{ℕ, _+_, _<_}
 use native.Mathlib.Omega.{arith}
 use lib.ListN.{length}
 use Rattle.layout.specs.declared.Shape.{Shape}
-use Rattle.plan.specs.Form.{planRows, rowPut, rowsPut, cleared}
-use Rattle.plan.specs.Write.{rowFrom, rowsFrom}
+use Rattle.plan.specs.Form.{planRows, rowPut, cleared}
+use Rattle.plan.specs.Write.{rowFrom}
 use Rattle.plan.specs.Filled.{Filled}
-use Rattle.plan.specs.WriteLaws.{filled-one, filled-join}
+use Rattle.plan.specs.WriteLaws.{filled-one, filled-join, plan-filled}
 use Rattle.results.specs.declared.Move.{Move}
 use Rattle.results.specs.Results.{results, clearRow}
 use Rattle.results.specs.ResultRows.{results-le}
@@ -29,7 +29,7 @@ module _ (h : Shape) (s : List ℕ) (m : Move) (called : List ℕ) where
   pub planned-filled : (p : List ℕ) {z d : List ℕ} {n : ℕ} → z ≡ cleared p → Filled h z 0 (renameRows h s m called) d n
       → (d ≡ planned h s m called p) × (n ≡ length (renameRows h s m called))
   unfolding planned
-  planned-filled p e f = (f .plan ∙ ap (λ (x : List ℕ). rowsPut x 0 (rowsFrom h (renameRows h s m called))) e, omega (arith, f .next))
+  planned-filled p e f = plan-filled h p e f
 
 -- the same rows, said of an equal move and an equal name
 pub planned-as : (h : Shape) (s p after : List ℕ) (n : ℕ) {m o : Move} {x y : List ℕ} → m ≡ o → x ≡ y

@@ -7,14 +7,14 @@ use lib.Dec.{eqb}
 use Rattle.layout.specs.declared.Shape.{Shape}
 use Rattle.layout.specs.Limits.{absent}
 use Rattle.layout.specs.View.{View, entryAt, isSymlink}
-use Rattle.encode.specs.declared.journal.Journal.{Journal}
 use Rattle.encode.specs.Entry.{entryBytes, retargeted}
-use Rattle.encode.specs.Journal.{journalBytes}
+use Rattle.encode.specs.Journal.{renameKind}
 use Rattle.refusals.specs.declared.case.Case.{Case}
-use Rattle.plan.specs.Form.{rowsPut, cleared, journalGroup, entryGroup}
-use Rattle.plan.specs.Write.{Write, entryKey, journalKey, rowsFrom}
+use Rattle.plan.specs.Form.{rowsPut, cleared, entryGroup}
+use Rattle.plan.specs.Write.{Write, entryKey, rowsFrom}
 use Rattle.results.specs.declared.Move.{Move}
 use Rattle.results.specs.Results.{entriesAfter, results, clearRow}
+use Rattle.results.specs.Start.{startRow}
 
 -- the move of a case, at a time, with the text that it frees
 abbrev pub moveWith : Case → ℕ → ℕ → Move
@@ -37,18 +37,9 @@ freedText v c now =
 unfoldable pub moveOf : View → Case → ℕ → Move
 moveOf v c now = moveWith c now (freedText v c now)
 
--- form H and rule 87: the journal record of a move; a rename is of kind 0
-abbrev pub journalFor : Move → Journal
-journalFor m = record {
-  kind = 0;
-  old = m .old;
-  new = m .new;
-  moved = m .moved;
-  replaced = m .replaced;
-  parent = m .from;
-  text = m .text;
-  time = m .now;
-}
+-- the exchange of a case, at a time: it frees no text
+abbrev pub exchangeOf : Case → ℕ → Move
+exchangeOf c now = moveWith c now absent
 
 -- rule 86, the new entry: the one of the replaced inode with another target, or one that is made, under the name that was missing
 abbrev pub newEntry : Shape → List ℕ → Move → List ℕ → List ℕ
@@ -58,7 +49,7 @@ newEntry h s m called =
 module _ (h : Shape) (s : List ℕ) (m : Move) (called : List ℕ) where
   -- the journal record is set first
   abbrev pub journalRow : Write
-  journalRow = record { group = journalGroup; key = journalKey; body = journalBytes (journalFor m) }
+  journalRow = startRow renameKind m
 
   -- the deciding row
   abbrev pub entryRow : Write

@@ -1,4 +1,4 @@
-// The move that a rename makes: what is taken from where to where, the text that goes with what is replaced, and its rows in a plan.
+// The move that a rename or an exchange makes: what is taken from where to where, the text that goes with what is replaced; a rename's rows in a plan.
 use layout::Shape;
 use layout::limits;
 use refusals::case::Case;
@@ -6,7 +6,7 @@ use results::Move;
 ghost use mathlib.Core.Path.{_≡_};
 ghost use Rattle.layout.specs.Facts.{Laid};
 ghost use Rattle.layout.specs.View.{viewOf};
-ghost use Rattle.moves.specs.Plan.{moveWith, freedText, moveOf};
+ghost use Rattle.moves.specs.Plan.{moveWith, freedText, moveOf, exchangeOf};
 
 pub mod rows;
 
@@ -48,4 +48,11 @@ pub fn move_of(image: &[u8], h: Shape, c: Case, time: u64) -> Move
 {
     let text = freed_text(image, h, c, time);
     move_with(c, time, text)
+}
+
+// The exchange of a case, which frees no text.
+pub fn exchange_of(c: Case, time: u64) -> Move
+    ensures { λ r. ⌜ r ≡ exchangeOf c time ⌝ }
+{
+    move_with(c, time, limits::ABSENT)
 }

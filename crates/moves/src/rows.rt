@@ -1,5 +1,5 @@
 // The rows of a rename, put into its plan.
-use encode::journal::Journal;
+use encode::journal;
 use layout::Shape;
 use layout::limits;
 use layout::place;
@@ -8,38 +8,10 @@ ghost use mathlib.Core.Path.{_≡_};
 ghost use Prim.Native.Nat.{_+_, _<_, _≤_};
 ghost use lib.ListN.{length};
 ghost use Rattle.layout.specs.Facts.{Laid};
-ghost use Rattle.encode.specs.Journal.{journalBytes};
 ghost use Rattle.plan.specs.Form.{planBytes, rowPut};
 ghost use Rattle.plan.specs.Write.{rowFrom};
 ghost use Rattle.results.specs.InImage.{InImage};
-ghost use Rattle.moves.specs.Plan.{journalFor, newEntry, journalRow, entryRow, planned, renameRows};
-
-// The journal record of the move; a rename is of kind 0.
-fn journal(m: Move) -> [u8; 32]
-    ensures { λ r. ⌜ r ≡ journalBytes (journalFor m) ⌝ }
-{
-    let j = Journal {
-        kind: 0,
-        old: m.old,
-        new: m.new,
-        moved: m.moved,
-        replaced: m.replaced,
-        parent: m.from,
-        text: m.text,
-        time: m.now,
-    };
-    let mut r = [0u8; 32];
-    encode::journal::write(&mut r, j);
-    r
-}
-
-fn put_journal(plan: &mut [u8], image: &[u8], h: Shape, m: Move, called: &[u8])
-    requires { ⌜ (planBytes ≤ length (now plan)) × Laid h (now image) ⌝ }
-    ensures { λ _. ⌜ now (plan .exit) ≡ rowPut (now (plan .entry)) 0 (rowFrom h (journalRow h (now (image .entry)) m (now (called .entry)))) ⌝ }
-{
-    let r = journal(m);
-    plan::put_row(plan, 0, plan::JOURNAL_GROUP, place::journal(h), &r);
-}
+ghost use Rattle.moves.specs.Plan.{newEntry, entryRow, planned, renameRows};
 
 // Makes the whole record the new entry: the replaced one's with another target, or one under the name that was missing.
 fn make_entry(r: &mut [u8], image: &[u8], h: Shape, m: Move, called: &[u8])
@@ -50,8 +22,7 @@ fn make_entry(r: &mut [u8], image: &[u8], h: Shape, m: Move, called: &[u8])
         encode::entry::write(r, m.into, m.moved, called);
         return;
     }
-    layout::bytes::copy(r, 0, layout::records::entry(image, h, m.new));
-    encode::entry::set_target(r, m.moved);
+    results::records::retarget(r, image, h, m.new, m.moved);
 }
 
 // Puts the new entry's row, with room for its record lent.
@@ -78,7 +49,7 @@ pub fn put(plan: &mut [u8], image: &[u8], h: Shape, m: Move, called: &[u8]) -> u
     ensures { λ r. ⌜ (now (plan .exit) ≡ planned h (now (image .entry)) m (now (called .entry)) (now (plan .entry))) × (r ≡ length (renameRows h (now (image .entry)) m (now (called .entry)))) ⌝ }
 {
     plan::clear(plan);
-    put_journal(plan, image, h, m, called);
+    results::rows::put_start(plan, journal::RENAME, image, h, m);
     put_entry(plan, image, h, m, called);
     let at = results::rows::put(plan, 2, image, h, m);
     results::rows::put_clear(plan, at, image, h);

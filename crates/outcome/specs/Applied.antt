@@ -13,29 +13,20 @@ use Rattle.results.specs.declared.Move.{Move}
 use Rattle.results.specs.Results.{results, clearRow}
 use Rattle.results.specs.ResultRows.{results-le}
 use Rattle.crash_theorem.specs.Pick.{All}
-use Rattle.crash_theorem.specs.PickLaws.{all-join, all-map}
+use Rattle.crash_theorem.specs.PickLaws.{all-join}
 use Rattle.crash_theorem.specs.Store.{putAll}
 use Rattle.crash_theorem.specs.Order.{Permitted, Sorted}
 use Rattle.moves.specs.Plan.{renameRows, planned}
-use Rattle.image_store.specs.Image.{Fits}
 use Rattle.image_store.specs.ImageLaws.{images}
 use Rattle.image_store.specs.JobLaws.{jobs}
 use Rattle.image_store.specs.Operation.{rowsIn}
-use Rattle.image_store.specs.Safe.{planned-whole, planned-in-order}
-use Rattle.image_store.specs.JobRowsLaws.{plan-count}
+use Rattle.image_store.specs.Safe.{planned-count as plan-counted, planned-whole, planned-in-order}
+use Rattle.image_store.specs.Levels.{level-sorted}
 use Rattle.outcome.specs.Outcome.{finished}
 use Rattle.outcome.specs.RenamePlan.{renamePlan}
 use Rattle.outcome.specs.RenamePlanLaws.{rename-rows, rename-planned}
 use Rattle.outcome.specs.Called.{Called}
-use Rattle.outcome.specs.PlanRows.{results-all, results-fit, well-formed}
-
--- rows of one group stand in order, with others of no lower group behind them
-level-sorted : (h : Shape) (s : List ℕ) (g : ℕ) (us ws : List Write) → All (λ w. w .group ≡ g) us → All (λ w. g ≤ w .group) ws → Sorted (images h s) ws
-    → Sorted (images h s) (us ++ ws)
-level-sorted h s g [] ws e l d = d
-level-sorted h s g (u ∷ us) ws e l d =
-    let level : All (λ w. g ≤ w .group) us = all-map (λ w. w .group ≡ g) (λ w. g ≤ w .group) (λ w f. omega arith) us (e .1) in
-    (rw (e .0) (all-join (λ w. g ≤ w .group) us ws level l), level-sorted h s g us ws (e .1) l d)
+use Rattle.outcome.specs.PlanRows.{results-all, well-formed}
 
 module _ (h : Shape) (s : List ℕ) (m : Move) (called : List ℕ) where
   group-at-least : (n : ℕ) → n ≤ resultGroup → All (λ w. n ≤ w .group) (results h s m)
@@ -65,10 +56,7 @@ module _ {h : Shape} {s : List ℕ} {m : Move} {called : List ℕ} (c : Called h
   -- the plan has as many rows as the job says
   pub planned-count : rowCount (planned h s m called plan) ≡ length (renameRows h s m called)
   planned-count =
-      let 𝓦 = well-formed c in
-      let fits : All (Fits h) (rowsIn h s (renamePlan h s m called)) =
-      (𝓦 .set-fits, (𝓦 .fits .0, all-join (Fits h) (results h s m) (clearRow h ∷ []) (results-fit c) (𝓦 .clear-fits, tt))) in
-      rw (rename-planned h s m called plan) at (plan-count h s (c .read) plan (rowsIn h s (renamePlan h s m called)) long (rows-few h s m called) fits)
+      rw (rename-planned h s m called plan) at (plan-counted h s (renamePlan h s m called) (well-formed c) plan long (rows-few h s m called))
       ∙ ap (λ (ws : List Write). length ws) (rename-rows h s m called)
 
   -- In any order that the groups permit, by the job that applies one row (the papers' landing), the finished image.

@@ -4,22 +4,15 @@ use mathlib.Core.Logic.{_≢_}
 use mathlib.Core.Bool.{Bool, true, false, _&&_, cond}
 use mathlib.Core.List.{List}
 use Prim.Native.Nat.{ℕ, _<_}
-use native.Mathlib.Nat.{zero-add}
 use native.Mathlib.Omega.{arith}
-use lib.Dec.{eqb, lit<}
-use lib.ListN.{length, getD-replicate}
-use lib.Seq.{ext-getD}
+use lib.Dec.{eqb}
 use borrow.Author.Tests.{eqb-true, eqb-false, eq-eqb, ne-eqb, not-true}
-use Rattle.seq.specs.Bytes.{zeros}
 use Rattle.seq.specs.Truth.{and-left, and-right}
-use Rattle.seq.specs.SearchLaws.{all-at}
 use Rattle.layout.specs.declared.Shape.{Shape}
 use Rattle.layout.specs.Limits.{absent}
-use Rattle.layout.specs.RecordLaws.{record-length}
-use Rattle.layout.specs.View.{View, viewOf, entryAt, journalAt, entryUsed, isSymlink}
+use Rattle.layout.specs.View.{View, viewOf, entryAt, entryUsed, isSymlink}
 use Rattle.encode.specs.Facts.{Names}
 use Rattle.encode.specs.Entry.{entryBytes, retargeted}
-use Rattle.consistency.specs.Sound.{journalClear}
 use Rattle.edits.specs.Kinds.{IsSymlink, EntryUsed}
 use Rattle.edits.specs.Tests.{kind-is}
 use Rattle.edits.specs.ConsistentView.{ConsistentView}
@@ -34,7 +27,7 @@ use Rattle.results.specs.Results.{entriesAfter, freeRecord}
 use Rattle.results.specs.InImage.{InImage}
 use Rattle.moves.specs.Plan.{moveOf, newEntry}
 use Rattle.image_store.specs.Image.{recordOf}
-use Rattle.image_store.specs.ImageLaws.{record-is}
+use Rattle.outcome.specs.Whole.{clear-zeros}
 use Rattle.outcome.specs.Called.{textOf, Called}
 
 -- The planner's move frees that text.
@@ -121,9 +114,4 @@ module _ {h : Shape} {s : List ℕ} {m : Move} {called : List ℕ} (c : Called h
   new-entry-names = rw entry-bytes (new-names (c .read .laid) (c .bodies) (c .allowed) (c .short))
 
   pub journal-zeros : recordOf h s journalKey ≡ freeRecord h 4
-  unfolding journalClear zeros
-  journal-zeros =
-      let long : length (journalAt h s) ≡ 32 = record-length h s 4 0 (c .read .laid .long) (omega arith) (omega arith) in
-      record-is h s journalKey (record { in-image = lit< tt; in-section = lit< tt })
-      ∙ ext-getD 0 (journalAt h s) (freeRecord h 4) (long ∙ refl)
-      (λ k b. eqb-true _ _ (rw zero-add at (all-at _ 32 (c .clear) k (omega arith))) ∙ sym (getD-replicate {A = ℕ} 32 k 0 0 (omega arith)))
+  journal-zeros = clear-zeros (c .read) (c .clear)

@@ -13,7 +13,6 @@ use Rattle.seq.specs.Count.{bit}
 use Rattle.seq.specs.CountLaws.{count-edited}
 use Rattle.layout.specs.declared.Shape.{Shape}
 use Rattle.layout.specs.Limits.{absent}
-use Rattle.layout.specs.Facts.{Read}
 use Rattle.layout.specs.View.{View, viewOf, inodeAt, textAt}
 use Rattle.encode.specs.Facts.{Says}
 use Rattle.encode.specs.InodeLaws.{says-itself}
@@ -22,7 +21,6 @@ use Rattle.consistency.specs.Sound.{journalClear}
 use Rattle.consistency.specs.Consistent.{consistent, checkNumber}
 use Rattle.consistency.specs.ConsistentLaws.{consistent-checked}
 use Rattle.consistency.specs.RecordFacts.{Bodies}
-use Rattle.consistency.specs.FactLaws.{is-consistent}
 use Rattle.edits.specs.Kinds.{IsDirectory, IsSymlink}
 use Rattle.edits.specs.KindsLaws.{kind?}
 use Rattle.edits.specs.Tests.{kind-test, no-kind, is-targets, no-targets}
@@ -32,25 +30,20 @@ use Rattle.edits.specs.Finished.{slots-differ, from-directory}
 use Rattle.edits.specs.Written.{Touched, Written}
 use Rattle.edits.specs.WrittenLaws.{same-entry, written-consistent}
 use Rattle.results.specs.declared.Move.{Move}
-use Rattle.results.specs.Results.{targetsAfter, entriesAfter, childrenAfter, linksAfter, freeRecord, holderAfter}
+use Rattle.results.specs.Results.{targetsAfter, entriesAfter, childrenAfter, linksAfter, freeRecord}
 use Rattle.results.specs.Edited.{edited-old, edited-new, edited-else}
 use Rattle.results.specs.Links.{links-directory, links-other}
-use Rattle.results.specs.Records.{replaced-freed, moved-directory-says, moved-other-says, holder-says, replaced-says}
+use Rattle.results.specs.Records.{replaced-freed, replaced-says}
 use Rattle.afresh.specs.Recount.{Agrees, Made}
 use Rattle.afresh.specs.RecountLaws.{entries-agree, children-agree, entries-made, children-made}
+use Rattle.afresh.specs.Inodes.{inode-long}
 use Rattle.outcome.specs.Outcome.{finished}
+use Rattle.outcome.specs.Whole.{consistent-of}
+use Rattle.outcome.specs.Inodes.{moved-says, moved-leaf-says, moved-links, parent-says}
 use Rattle.outcome.specs.Called.{Called}
 use Rattle.outcome.specs.CalledLaws.{before-good, replaced-is, is-replaced, replaced-present, replaced-below, freed-text, in-image, entry-bytes, new-entry-names}
 use Rattle.outcome.specs.Finished.{finished-ok, new-written, old-cleared, moved-written, from-written, into-written, replaced-written, text-cleared, entry-kept, inode-kept, finished-text, handle-kept, journal-kept}
-use Rattle.outcome.specs.PlanRows.{inode-long, links-small}
-
--- an image is consistent by its parts
-consistent-of : {h : Shape} {x : List ℕ} → Read x h → journalClear h x ≡ true → Bodies h x → consistent x ≡ true
-consistent-of {h} {x} r clear bodies = is-consistent x (record {
-  layout = r .good;
-  journal = subst (λ (k : Shape). journalClear k x ≡ true) (r .shape) clear;
-  bodies = subst (λ (k : Shape). Bodies k x) (r .shape) bodies;
-})
+use Rattle.outcome.specs.PlanRows.{links-small}
 
 module _ {h : Shape} {s : List ℕ} {m : Move} {called : List ℕ} (c : Called h s m called) where
   abbrev t : List ℕ
@@ -64,29 +57,18 @@ module _ {h : Shape} {s : List ℕ} {m : Move} {called : List ℕ} (c : Called h
 
   -- ---- each inode
 
-  moved-says : IsDirectory v (m .moved)
+  moved-directory : IsDirectory v (m .moved)
       → Says (inodeAt h s (m .moved)) (inodeAt h t (m .moved)) (v .links (m .moved)) (m .into) (v .modified (m .moved)) (m .now)
-  unfolding viewOf
-  moved-says d =
-      rw (moved-written c) (moved-directory-says _ (inode-long c (m .moved) (d .0)) (m .now) (c .time) (m .into)
-      (omega (arith, in-image c .into, c .read .laid .inodes-most)) (d .1))
+  moved-directory = moved-says (c .read .laid) t m (c .time) (in-image c .moved) (moved-written c) (in-image c .into)
 
-  moved-leaf-says : (IsDirectory v (m .moved) → ⊥)
+  moved-leaf : (IsDirectory v (m .moved) → ⊥)
       → Says (inodeAt h s (m .moved)) (inodeAt h t (m .moved)) (v .links (m .moved)) (v .field (m .moved)) (v .modified (m .moved)) (m .now)
-  unfolding viewOf
-  moved-leaf-says n =
-      rw (moved-written c) (moved-other-says _ (inode-long c (m .moved) (in-image c .moved)) (m .now) (c .time) (m .into) (λ k. n (in-image c .moved, k)))
+  moved-leaf = moved-leaf-says (c .read .laid) t m (c .time) (in-image c .moved) (moved-written c)
 
-  parent-says : (i : ℕ) → (i ≡ m .from) ⊎ (i ≡ m .into) → Says (inodeAt h s i) (inodeAt h t i) (linksAfter v m i) (v .field i) (m .now) (m .now)
-  unfolding viewOf
-  parent-says i e = rw (written e) (holder-says _ (inode-long c i (below e)) (m .now) (c .time) _ (links-small c i))
-    where
-      below : (i ≡ m .from) ⊎ (i ≡ m .into) → i < h .inodes
-      below = ⊎-elim (λ e. rw e (in-image c .from)) (λ e. rw e (in-image c .into))
-
-      written : (i ≡ m .from) ⊎ (i ≡ m .into) → inodeAt h t i ≡ holderAfter h s m i
-      written (inl e) = subst (λ (k : ℕ). inodeAt h t k ≡ holderAfter h s m k) (sym e) (from-written c)
-      written (inr e) = subst (λ (k : ℕ). inodeAt h t k ≡ holderAfter h s m k) (sym e) (into-written c)
+  holder : (i : ℕ) → (i ≡ m .from) ⊎ (i ≡ m .into) → Says (inodeAt h s i) (inodeAt h t i) (linksAfter v m i) (v .field i) (m .now) (m .now)
+  holder i = ⊎-elim
+      (λ e. rw e (parent-says (c .read .laid) t _ _ (m .now) (c .time) (in-image c .from) (links-small c (m .from)) (from-written c)))
+      (λ e. rw e (parent-says (c .read .laid) t _ _ (m .now) (c .time) (in-image c .into) (links-small c (m .into)) (into-written c)))
 
   -- the replaced inode has entries left, or has none and is freed
   left-says : (i : ℕ) → Replaced v (m .new) i → entriesAfter v m i ≢ 0
@@ -96,7 +78,7 @@ module _ {h : Shape} {s : List ℕ} {m : Move} {called : List ℕ} (c : Called h
       let e = is-replaced c i r in
       subst (λ (k : ℕ). entriesAfter v m k ≢ 0 → Says (inodeAt h s k) (inodeAt h t k) (linksAfter v m k) (v .field k) (v .modified k) (m .now)) e
       (λ n. rw (replaced-written c (replaced-present c (r .0)))
-      (replaced-says _ (inode-long c (m .replaced) (rw e (replaced-below c i r))) (m .now) (c .time) h _ _ n (links-small c (m .replaced)))) n
+      (replaced-says _ (inode-long h s (c .read .laid) (m .replaced) (rw e (replaced-below c i r))) (m .now) (c .time) h _ _ n (links-small c (m .replaced)))) n
 
   freed-zero : (i : ℕ) → Replaced v (m .new) i → entriesAfter v m i ≡ 0 → inodeAt h t i ≡ freeRecord h 0
   freed-zero i r z =
@@ -127,15 +109,15 @@ module _ {h : Shape} {s : List ℕ} {m : Move} {called : List ℕ} (c : Called h
     where
       go : Dec (i ≡ m .moved) → Dec (IsDirectory v (m .moved)) → Dec (i ≡ m .from) → Dec (i ≡ m .into) → Dec (Replaced v (m .new) i)
           → Dec (entriesAfter v m i ≡ 0) → Inode i
-      go (yes e) (yes d) p q r z = turned e d (v .links (m .moved)) (v .modified (m .moved)) (m .now) (rw e (moved-says d))
-      go (yes e) (no d) p q r z = kept (v .links (m .moved)) (v .modified (m .moved)) (m .now) (rw e (moved-leaf-says d))
-      go (no n) d (yes e) q r z = kept _ _ _ (parent-says i (inl e))
-      go (no n) d (no p) (yes e) r z = kept _ _ _ (parent-says i (inr e))
+      go (yes e) (yes d) p q r z = turned e d (v .links (m .moved)) (v .modified (m .moved)) (m .now) (rw e (moved-directory d))
+      go (yes e) (no d) p q r z = kept (v .links (m .moved)) (v .modified (m .moved)) (m .now) (rw e (moved-leaf d))
+      go (no n) d (yes e) q r z = kept _ _ _ (holder i (inl e))
+      go (no n) d (no p) (yes e) r z = kept _ _ _ (holder i (inr e))
       go (no n) d (no p) (no q) (yes r) (yes z) = freed r z
       go (no n) d (no p) (no q) (yes r) (no z) = kept _ _ _ (left-says i r z)
       go (no n) d (no p) (no q) (no r) z =
           kept (v .links i) (v .modified i) (v .changed i)
-          (rw (untouched i l (⊎-elim n (⊎-elim p (⊎-elim q r)))) (says-itself (inodeAt h s i) (inode-long c i l)))
+          (rw (untouched i l (⊎-elim n (⊎-elim p (⊎-elim q r)))) (says-itself (inodeAt h s i) (inode-long h s (c .read .laid) i l)))
 
   -- ---- the counts
 
@@ -183,12 +165,12 @@ module _ {h : Shape} {s : List ℕ} {m : Move} {called : List ℕ} (c : Called h
       let other : m .moved ≢ i = λ z. c .allowed .other u (e ∙ sym z) in
       let here : targets v i (m .new) ≡ true = is-targets v i (m .new) (u .1) e in
       let there : targets v i (m .old) ≡ false = no-targets v i (m .old) (λ _ z. other (sym (c .allowed .old-target) ∙ z)) in
-      let old : targetsAfter v m i (m .old) ≡ false = edited-old m (m .old) _ _ refl in
-      let new : targetsAfter v m i (m .new) ≡ false = edited-new m (m .new) _ _ (λ z. differ (sym z)) refl ∙ ne-eqb _ _ other in
+      let old : targetsAfter v m i (m .old) ≡ false = edited-old m (m .old) _ _ _ refl in
+      let new : targetsAfter v m i (m .new) ≡ false = edited-new m (m .new) _ _ _ (λ z. differ (sym z)) refl ∙ ne-eqb _ _ other in
       omega (
         arith,
         count-edited (targets v i) (targetsAfter v m i) (v .entries) (m .old ∷ m .new ∷ [])
-            (c .allowed .old-used .0, (differ, tt), (c .allowed .new-below, tt, tt)) (λ j _ off. edited-else m j _ _ (off .0) (off .1 .0)),
+            (c .allowed .old-used .0, (differ, tt), (c .allowed .new-below, tt, tt)) (λ j _ off. edited-else m j _ _ _ (off .0) (off .1 .0)),
         ap bit here,
         ap bit there,
         ap bit old,
@@ -228,14 +210,6 @@ module _ {h : Shape} {s : List ℕ} {m : Move} {called : List ℕ} (c : Called h
       go (turned e d _ _ _ x) = absurd (still e d)
       go (freed r z) = absurd (left-some i r n z)
 
-  moved-links : w .links (m .moved) ≡ v .links (m .moved)
-  unfolding viewOf
-  moved-links = go (kind? v (m .moved) 2)
-    where
-      go : Dec (IsDirectory v (m .moved)) → w .links (m .moved) ≡ v .links (m .moved)
-      go (yes d) = moved-says d .links
-      go (no n) = moved-leaf-says n .links
-
   -- a text is freed exactly where its symlink is
   text-freed : (i : ℕ) → Gone v w (m .new) i → IsSymlink v i → (m .text ≢ absent) × (m .text ≡ v .field i)
   unfolding viewOf
@@ -262,11 +236,11 @@ module _ {h : Shape} {s : List ℕ} {m : Move} {called : List ℕ} (c : Called h
     inode = untouched;
     freed = λ i l g. freed-zero i (g .0) (gone-none i g);
     head = head;
-    reparented = λ d. moved-says d .field;
+    reparented = λ d. moved-directory d .field;
     field = field;
-    parents = λ i e. parent-says i e .links ∙ parent-count i (holds i e);
+    parents = λ i e. holder i e .links ∙ parent-count i (holds i e);
     replaced = λ i r n. left-says i r (left-some i r n) .links ∙ left-count i r (left-some i r n);
-    links = moved-links;
+    links = moved-links (c .read .laid) t m (c .time) (in-image c .moved) (moved-written c) (in-image c .into);
     text = λ x l n. finished-text c x l (text-stays x l n);
     text-freed = λ i g y. let (n, e) = text-freed i g y in subst (λ (x : ℕ). textAt h t x ≡ freeRecord h 2) e (text-cleared c n);
     handle = handle-kept c;

@@ -1,6 +1,9 @@
 pub mod Outcome
 pub mod RenamePlan
 pub mod RenamePlanLaws
+pub mod Rows
+pub mod Whole
+pub mod Inodes
 pub mod Called
 pub mod CalledLaws
 pub mod Finished

@@ -1,49 +1,37 @@
 -- The rows of a rename meet what the journal asks of rows: each replaces one record whole, no two the same one, in groups that follow. Assumes nothing.
 use mathlib.Core.Path.{_≡_, refl, sym, ap}
 use mathlib.Core.Logic.{_≢_}
-use mathlib.Core.Bool.{Bool, true, false, not}
-use mathlib.Core.List.{List, [], _∷_, _++_, append-assoc}
+use mathlib.Core.Bool.{not}
+use mathlib.Core.List.{List, _∷_, _++_, append-assoc}
 use Prim.Native.Nat.{ℕ, _≤_, _<_}
 use native.Mathlib.Omega.{arith}
 use lib.Dec.{eqb, lit<, lit≤}
-use lib.ListN.{length}
-use borrow.Author.Tests.{eqb-false, not-true}
 use Rattle.layout.specs.declared.Shape.{Shape}
 use Rattle.layout.specs.Limits.{absent}
 use Rattle.layout.specs.Place.{Key}
-use Rattle.layout.specs.RecordLaws.{record-length}
-use Rattle.layout.specs.View.{viewOf, inodeAt}
-use Rattle.encode.specs.JournalLaws.{journal-length}
+use Rattle.layout.specs.View.{viewOf}
+use Rattle.encode.specs.Journal.{renameKind}
 use Rattle.edits.specs.Finished.{slots-differ, moved-not-from, moved-not-into}
 use Rattle.plan.specs.Form.{clearGroup, entryGroup}
 use Rattle.plan.specs.Write.{Write, inodeKey, entryKey, textKey}
-use Rattle.plan.specs.Filled.{AllWrites}
-use Rattle.plan.specs.WriteLaws.{other-section, other-index}
+use Rattle.plan.specs.WriteLaws.{other-section}
 use Rattle.results.specs.declared.Move.{Move}
-use Rattle.results.specs.Results.{present, when, linksAfter, oldRow, movedRow, holderRow, replacedRow, textRow, intoRows, replacedRows, textRows, results}
+use Rattle.results.specs.Results.{present, linksAfter, oldRow, movedRow, holderRow, replacedRow, textRow, intoRows, replacedRows, textRows, results}
 use Rattle.results.specs.Links.{links-le}
 use Rattle.results.specs.Owed.{results-write, clear-writes}
 use Rattle.crash_theorem.specs.Pick.{All}
 use Rattle.crash_theorem.specs.PickLaws.{all-join}
 use Rattle.crash_theorem.specs.Store.{Distinct, Spares}
 use Rattle.crash_theorem.specs.Plan.{WellFormed}
-use Rattle.moves.specs.Plan.{journalFor, journalRow, entryRow}
+use Rattle.moves.specs.Plan.{entryRow}
 use Rattle.image_store.specs.Image.{Fits}
 use Rattle.image_store.specs.ImageLaws.{first-ok, images}
 use Rattle.outcome.specs.RenamePlan.{renamePlan, asked}
+use Rattle.outcome.specs.Rows.{writes-fit, start-fits, all-when, all-apart, distinct-when, one-when, section, index}
 use Rattle.outcome.specs.Called.{Called}
 use Rattle.outcome.specs.CalledLaws.{before-good, in-image, replaced-not-moved, replaced-not-from, replaced-not-into, new-entry-names, journal-zeros}
 
--- rows that an operation may write fit
-writes-fit : (h : Shape) (ws : List Write) → AllWrites h ws → All (Fits h) ws
-writes-fit h [] a = tt
-writes-fit h (w ∷ ws) a = (record { writes = a .0 }, writes-fit h ws (a .1))
-
 -- ---- what holds of each result
-
-all-when : (P : Write → Type 0) (b : Bool) (w : Write) → (b ≡ true → P w) → All P (when b w)
-all-when P true w f = (f refl, tt)
-all-when P false w f = tt
 
 pub results-are : (h : Shape) (s : List ℕ) (m : Move) → results h s m ≡ oldRow h s m ∷ movedRow h s m ∷ holderRow h s m (m .from) ∷ asked h s m
 unfolding results
@@ -55,33 +43,16 @@ module _ (h : Shape) (s : List ℕ) (m : Move) (P : Write → Type 0) where
   module _ (replaced : m .replaced ≢ absent → P (replacedRow h s m)) (text : m .text ≢ absent → P (textRow h s m)) where
     freeing-all : All P (replacedRows h s m ++ textRows h s m)
     freeing-all = all-join P (replacedRows h s m) (textRows h s m)
-        (all-when P (present (m .replaced)) _ (λ e. replaced (eqb-false _ _ (not-true _ e))))
-        (all-when P (present (m .text)) _ (λ e. text (eqb-false _ _ (not-true _ e))))
+        (all-apart P (m .replaced) absent _ replaced) (all-apart P (m .text) absent _ text)
 
     module _ (into : m .into ≢ m .from → P (holderRow h s m (m .into))) where
       asked-all : All P (asked h s m)
-      asked-all = all-join P (intoRows h s m) _ (all-when P (not (eqb (m .into) (m .from))) _ (λ e. into (eqb-false _ _ (not-true _ e)))) freeing-all
+      asked-all = all-join P (intoRows h s m) _ (all-apart P (m .into) (m .from) _ into) freeing-all
 
       pub results-all : P (oldRow h s m) → P (movedRow h s m) → P (holderRow h s m (m .from)) → All P (results h s m)
       results-all old moved from = rw results-are (old, (moved, (from, asked-all)))
 
-distinct-when : (h : Shape) (s : List ℕ) (b : Bool) (w : Write) (ws : List Write) → (b ≡ true → Spares (images h s) ws (w .key)) → Distinct (images h s) ws
-    → Distinct (images h s) (when b w ++ ws)
-distinct-when h s true w ws f d = (f refl, d)
-distinct-when h s false w ws f d = d
-
-one-when : (h : Shape) (s : List ℕ) (b : Bool) (w : Write) → Distinct (images h s) (when b w)
-one-when h s true w = (tt, tt)
-one-when h s false w = tt
-
 -- ---- records that the rows do not replace
-
--- records of different sections, and of one section
-section : {j k a b : ℕ} → eqb j k ≡ false → _≢_ {A = Key} (record { section = j; index = a }) (record { section = k; index = b })
-section {j} {k} e = other-section _ _ (eqb-false j k e)
-
-index : {k a b : ℕ} → a ≢ b → _≢_ {A = Key} (record { section = k; index = a }) (record { section = k; index = b })
-index n = other-index _ _ n
 
 module _ (h : Shape) (s : List ℕ) (m : Move) where
   -- of another section: handles and the journal record
@@ -110,9 +81,6 @@ module _ (h : Shape) (s : List ℕ) (m : Move) where
 module _ {h : Shape} {s : List ℕ} {m : Move} {called : List ℕ} (c : Called h s m called) where
   -- ---- each row replaces a record whole
 
-  pub inode-long : (i : ℕ) → i < h .inodes → length (inodeAt h s i) ≡ 32
-  inode-long i l = record-length h s 0 i (c .read .laid .long) (omega arith) l
-
   pub links-small : (i : ℕ) → linksAfter (viewOf h s) m i < 65536
   unfolding viewOf
   links-small i = omega (arith, links-le (viewOf h s) m i, c .read .laid .entries-most)
@@ -128,17 +96,6 @@ module _ {h : Shape} {s : List ℕ} {m : Move} {called : List ℕ} (c : Called h
       valid = record { in-image = lit< tt; in-section = in-image c .new };
       allowed = refl;
       whole = new-entry-names c .long;
-    };
-  }
-
-  journal-fits : Fits h (journalRow h s m called)
-  journal-fits = record {
-    writes = record {
-      first = lit≤ tt;
-      last = lit≤ tt;
-      valid = record { in-image = lit< tt; in-section = lit< tt };
-      allowed = refl;
-      whole = journal-length (journalFor m);
     };
   }
 
@@ -174,7 +131,7 @@ module _ {h : Shape} {s : List ℕ} {m : Move} {called : List ℕ} (c : Called h
   pub well-formed : WellFormed (images h s) (renamePlan h s m called)
   well-formed = record {
     ok = first-ok h s (c .read);
-    set-fits = journal-fits;
+    set-fits = start-fits h renameKind m;
     clear-fits = record { writes = clear-writes h };
     fits = (entry-fits, results-fit);
     distinct = (entry-spared h s m (m .new) (λ e. slots-differ (before-good c) (c .allowed) (sym e)), results-distinct);

@@ -1,5 +1,7 @@
 pub mod Request
 pub mod RequestLaws
+pub mod Flags
+pub mod FlagLaws
 pub mod Path
 pub mod Portable
 pub mod Groups

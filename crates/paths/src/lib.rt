@@ -1,5 +1,6 @@
-// Requests, the groups of a caller, permission, names looked up, portable names, and the components of a path.
+// Requests and their flags, the groups of a caller, permission, names looked up, portable names, and the components of a path.
 pub mod find;
+pub mod flags;
 pub mod groups;
 pub mod path;
 pub mod permission;

@@ -1,4 +1,4 @@
-// A request: who asks, from where, and when.
+// A request: who asks, from where, when, and for which form of a rename.
 use layout::Shape;
 use layout::limits;
 ghost use mathlib.Core.Path.{_≡_};
@@ -26,6 +26,7 @@ pub struct Request {
     pub current: u16,
     pub starts: Starts,
     pub now: u64,
+    pub flags: u32,
 }
 
 // Whether the current directory is one, neither path holds a zero byte, and the further groups are not too many.

@@ -7,7 +7,7 @@ use native.Mathlib.Omega.{arith}
 use lib.ListN.{length, length-append, length-map}
 use Rattle.layout.specs.declared.Shape.{Shape}
 use Rattle.layout.specs.Place.{Key, place}
-use Rattle.plan.specs.Form.{Row, rowOf, rowPut, rowsPut}
+use Rattle.plan.specs.Form.{Row, rowOf, rowPut, rowsPut, cleared}
 use Rattle.plan.specs.Many.{rows-join}
 use Rattle.plan.specs.Write.{Write, rowFrom, rowsFrom}
 use Rattle.plan.specs.Filled.{AllWrites, Filled}
@@ -49,3 +49,8 @@ module _ (h : Shape) where
   filled-join {p} {q} {r} {i} {j} {k} {us} {ws} a b =
       let e : r ≡ rowsPut (rowsPut p i (rowsFrom h us)) (i + length us) (rowsFrom h ws) = b .plan ∙ rw (a .plan, a .next) in
       record { plan = e ∙ sym (rows-behind us ws p i); next = omega (arith, a .next, b .next, length-append us ws) }
+
+  -- a cleared plan, filled
+  pub plan-filled : (p : List ℕ) {z d : List ℕ} {n : ℕ} {ws : List Write} → z ≡ cleared p → Filled h z 0 ws d n
+      → (d ≡ rowsPut (cleared p) 0 (rowsFrom h ws)) × (n ≡ length ws)
+  plan-filled p {ws = ws} e f = (f .plan ∙ ap (λ (x : List ℕ). rowsPut x 0 (rowsFrom h ws)) e, omega (arith, f .next))

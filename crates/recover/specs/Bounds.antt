@@ -1,18 +1,18 @@
 -- The rows of a recovery fit a plan. Assumes nothing.
 use mathlib.Core.Path.{_≡_, subst}
 use mathlib.Core.Bool.{Bool, true, false, _||_, cond}
-use mathlib.Core.List.{List, [], _∷_}
+use mathlib.Core.List.{List, [], _∷_, _++_}
 use mathlib.Core.Option.{Option, none, some}
-use Prim.Native.Nat.{ℕ, zero, suc, _≤_}
+use Prim.Native.Nat.{ℕ, _≤_}
 use native.Mathlib.Omega.{arith}
-use lib.Dec.{ltb, lit≤}
+use lib.Dec.{eqb, ltb, lit≤}
 use lib.ListN.{length, length-append}
 use Rattle.layout.specs.declared.Shape.{Shape}
 use Rattle.layout.specs.Errno.{inconsistent, shortBuffer}
 use Rattle.layout.specs.Contents.{layoutGood, shapeOf}
 use Rattle.layout.specs.View.{viewOf, journalAt}
 use Rattle.encode.specs.declared.journal.Journal.{Journal}
-use Rattle.encode.specs.Journal.{journalOf, journalFormed}
+use Rattle.encode.specs.Journal.{renameKind, exchangeKind, journalOf, journalFormed}
 use Rattle.consistency.specs.Sound.{journalClear}
 use Rattle.consistency.specs.Consistent.{consistent}
 use Rattle.plan.specs.Form.{planRows, planBytes}
@@ -20,7 +20,11 @@ use Rattle.plan.specs.Write.{Write, storeAll}
 use Rattle.results.specs.declared.Move.{Move}
 use Rattle.results.specs.Results.{results, clearRow}
 use Rattle.results.specs.ResultRows.{results-le}
-use Rattle.drafts.specs.Draft.{renameFits, moveFrom, entryStands, intoGood, undoing, finishing, moveDraft, renameDraft, kindDraft, draft}
+use Rattle.exchanges.specs.Exchange.{exchangeResults}
+use Rattle.exchanges.specs.ExchangeRows.{exchange-le}
+use Rattle.drafts.specs.PendingRename.{renameFits, moveFrom, entryStands, intoGood, undoing, finishing, moveDraft, renameDraft}
+use Rattle.drafts.specs.PendingExchange.{exchangeFits, finishingExchange, exchangeDraft}
+use Rattle.drafts.specs.Draft.{kindDraft, draft}
 use Rattle.recover.specs.Recover.{ifConsistent, pendingRows, recover}
 use Rattle.recover.specs.Job.{Recovered, refused, done, byRows, byJournal, recovered}
 
@@ -34,22 +38,29 @@ few-cond true p q f g = f
 few-cond false p q f g = g
 
 module _ (h : Shape) (x : List ℕ) where
-  finishing-few : (m : Move) → length (finishing h x m) ≤ planRows
-  finishing-few m = omega (arith, length-append (results h x m) (clearRow h ∷ []), results-le h x m)
+  -- at most six, and the cleared journal record
+  finishing-few : (ws : List Write) → length ws ≤ 6 → length (ws ++ clearRow h ∷ []) ≤ planRows
+  finishing-few ws few = omega (arith, length-append ws (clearRow h ∷ []))
 
   move-few : (m : Move) → Few (moveDraft h x m)
   unfolding moveDraft
   move-few m =
       few-cond (entryStands (viewOf h x) m) _ (some (undoing h x))
-      (few-cond (intoGood (viewOf h x) m) (some (finishing h x m)) none (finishing-few m) tt) (lit≤ tt)
+      (few-cond (intoGood (viewOf h x) m) (some (finishing h x m)) none (finishing-few (results h x m) (results-le h x m)) tt) (lit≤ tt)
 
   rename-few : (j : Journal) → Few (renameDraft h x j)
   unfolding renameDraft
   rename-few j = few-cond (renameFits h x j) (moveDraft h x (moveFrom (viewOf h x) j)) none (move-few (moveFrom (viewOf h x) j)) tt
 
+  exchange-few : (j : Journal) → Few (exchangeDraft h x j)
+  unfolding exchangeDraft
+  exchange-few j =
+      let m = moveFrom (viewOf h x) j in
+      few-cond (exchangeFits h x j) (some (finishingExchange h x m)) none (finishing-few (exchangeResults h x m) (exchange-le h x m)) tt
+
   kind-few : (k : ℕ) (j : Journal) → Few (kindDraft h x k j)
-  kind-few zero j = rename-few j
-  kind-few (suc k) j = tt
+  kind-few k j =
+      few-cond (eqb k renameKind) (renameDraft h x j) _ (rename-few j) (few-cond (eqb k exchangeKind) (exchangeDraft h x j) none (exchange-few j) tt)
 
   draft-few : Few (draft h x)
   unfolding draft

@@ -26,7 +26,7 @@ use Rattle.plan.specs.Filled.{AllWrites, Filled}
 use Rattle.drafts.specs.declared.draft.Draft.the-variants.{Unfit, Rows}
 use Rattle.drafts.specs.Draft.{draft}
 use Rattle.drafts.specs.Drafted.{Drafted}
-use Rattle.drafts.specs.Fit.{draft-writes}
+use Rattle.drafts.specs.DraftLaws.{draft-writes}
 use Rattle.recover.specs.declared.Answer.{Answer}
 use Rattle.recover.specs.Recover.{ifConsistent, pendingRows}
 use Rattle.recover.specs.Job.{Recovered, outcomeOf, refused, done, byRows, byJournal, recovered}

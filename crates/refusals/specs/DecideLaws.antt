@@ -8,11 +8,11 @@ use borrow.Author.Tests.{eqb-false, not-true, eq-eqb, ne-eqb}
 use Rattle.seq.specs.Truth.{and-left, and-right, by-test}
 use Rattle.layout.specs.View.{View}
 use Rattle.refusals.specs.declared.case.Answer.{Answer}
-use Rattle.refusals.specs.declared.case.Answer.the-variants.{Refused, Same, Planned}
+use Rattle.refusals.specs.declared.case.Answer.the-variants.{Refused, Same, Planned, Exchanged}
 use Rattle.refusals.specs.declared.case.Case.{Case}
 use Rattle.refusals.specs.Case.{sameFile}
 use Rattle.refusals.specs.Steps.{Rule, numberOf, decide, parentRules, kindRules, targetRules, steps}
-use Rattle.refusals.specs.Decide.{numbers, refusing}
+use Rattle.refusals.specs.Decide.{answers, numbers, refusing, parentsFirst}
 
 -- one rule
 pub decide-here : (r : Rule) (rs : List Rule) → r .test ≡ true → decide (r ∷ rs) ≡ r .answer
@@ -21,18 +21,23 @@ decide-here r rs e = rw e
 pub decide-on : (r : Rule) (rs : List Rule) → r .test ≡ false → decide (r ∷ rs) ≡ decide rs
 decide-on r rs e = rw e
 
--- the number decided is a rule's, or 0
+-- what is decided is a rule's answer, or that the call is planned
+pub decide-answer : (p : Answer → Bool) (rs : List Rule) → p Planned ≡ true → answers p rs ≡ true → p (decide rs) ≡ true
+decide-answer p [] none each = none
+decide-answer p (r ∷ rs) none each =
+    by-test (λ a. p a ≡ true) (r .test) (r .answer) (decide rs) (λ e. and-left _ (answers p rs) each)
+    (λ e. decide-answer p rs none (and-right (p (r .answer)) _ each))
+
+-- so the number decided is a rule's, or 0
 pub decide-number : (p : ℕ → Bool) (rs : List Rule) → p 0 ≡ true → numbers p rs ≡ true → p (numberOf (decide rs)) ≡ true
-decide-number p [] none each = none
-decide-number p (r ∷ rs) none each =
-    by-test (λ a. p (numberOf a) ≡ true) (r .test) (r .answer) (decide rs) (λ e. and-left _ (numbers p rs) each)
-    (λ e. decide-number p rs none (and-right (p (numberOf (r .answer))) _ each))
+decide-number p rs none each = decide-answer (λ a. p (numberOf a)) rs none each
 
 -- an answer with a number is a refusal by it
 numbered : (a : Answer) → (numberOf a ≡ 0 → ⊥) → a ≡ Refused (numberOf a)
 numbered (Refused n) some = refl
 numbered Same some = absurd (some refl)
 numbered Planned some = absurd (some refl)
+numbered Exchanged some = absurd (some refl)
 
 -- A list whose rules refuse decides by its number: a refusal ends the order, and 0 leaves it to the rules behind.
 module _ (ys : List Rule) where
@@ -55,34 +60,43 @@ module _ (ys : List Rule) where
       go rest true none = absurd (eqb-false _ _ (not-true (eqb (numberOf (r .answer)) 0) (and-left _ (refusing rs) each)) none)
       go rest false none = rest none
 
--- the ways out of the order of refusal, by the numbers of its parts
-module _ (v : View) (c : Case) where
+-- the ways out by the part that both orders begin with; rs are the rules behind it
+module _ (v : View) (c : Case) (rs : List Rule) where
   abbrev first : Rule
   first = record { test = sameFile c; answer = Same }
 
-  abbrev rest : List Rule
-  rest = parentRules v c ++ (kindRules v c ++ targetRules v c)
-
-  pub steps-same : c .moved ≡ c .replaced → decide (steps v c) ≡ Same
-  steps-same e = decide-here first rest (eq-eqb _ _ e)
+  pub first-same : c .moved ≡ c .replaced → decide (parentsFirst v c rs) ≡ Same
+  first-same e = decide-here first (parentRules v c ++ rs) (eq-eqb _ _ e)
 
   module _ (other : c .moved ≡ c .replaced → ⊥) where
-    past-first : decide (steps v c) ≡ decide rest
-    past-first = decide-on first rest (ne-eqb _ _ other)
+    past-first : decide (parentsFirst v c rs) ≡ decide (parentRules v c ++ rs)
+    past-first = decide-on first (parentRules v c ++ rs) (ne-eqb _ _ other)
 
+    pub first-parents : (numberOf (decide (parentRules v c)) ≡ 0 → ⊥) → decide (parentsFirst v c rs) ≡ Refused (numberOf (decide (parentRules v c)))
+    first-parents some = past-first ∙ decide-refused rs (parentRules v c) some
+
+    pub past-parents : numberOf (decide (parentRules v c)) ≡ 0 → decide (parentsFirst v c rs) ≡ decide rs
+    past-parents parents = past-first ∙ decide-passed rs (parentRules v c) refl parents
+
+-- the ways out of the order of refusal of a rename, by the numbers of its parts
+module _ (v : View) (c : Case) where
+  abbrev rest : List Rule
+  rest = kindRules v c ++ targetRules v c
+
+  pub steps-same : c .moved ≡ c .replaced → decide (steps v c) ≡ Same
+  steps-same e = first-same v c rest e
+
+  module _ (other : c .moved ≡ c .replaced → ⊥) where
     pub steps-parents : (numberOf (decide (parentRules v c)) ≡ 0 → ⊥) → decide (steps v c) ≡ Refused (numberOf (decide (parentRules v c)))
-    steps-parents some = past-first ∙ decide-refused (kindRules v c ++ targetRules v c) (parentRules v c) some
+    steps-parents some = first-parents v c rest other some
 
     module _ (parents : numberOf (decide (parentRules v c)) ≡ 0) where
-      past-parents : decide (steps v c) ≡ decide (kindRules v c ++ targetRules v c)
-      past-parents = past-first ∙ decide-passed (kindRules v c ++ targetRules v c) (parentRules v c) refl parents
-
       pub steps-kinds : (numberOf (decide (kindRules v c)) ≡ 0 → ⊥) → decide (steps v c) ≡ Refused (numberOf (decide (kindRules v c)))
-      steps-kinds some = past-parents ∙ decide-refused (targetRules v c) (kindRules v c) some
+      steps-kinds some = past-parents v c rest other parents ∙ decide-refused (targetRules v c) (kindRules v c) some
 
       module _ (kinds : numberOf (decide (kindRules v c)) ≡ 0) where
         past-kinds : decide (steps v c) ≡ decide (targetRules v c)
-        past-kinds = past-parents ∙ decide-passed (targetRules v c) (kindRules v c) refl kinds
+        past-kinds = past-parents v c rest other parents ∙ decide-passed (targetRules v c) (kindRules v c) refl kinds
 
         pub steps-target : (numberOf (decide (targetRules v c)) ≡ 0 → ⊥) → decide (steps v c) ≡ Refused (numberOf (decide (targetRules v c)))
         steps-target some = past-kinds ∙ decide-refused [] (targetRules v c) some

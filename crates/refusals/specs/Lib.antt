@@ -5,8 +5,10 @@ pub mod WithinLaws
 pub mod Kinds
 pub mod KindsLaws
 pub mod Steps
+pub mod Exchange
 pub mod KindLaws
 pub mod Decide
 pub mod DecideLaws
+pub mod ExchangeLaws
 pub mod Passed
 pub mod PassedLaws

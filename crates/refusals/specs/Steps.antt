@@ -6,7 +6,7 @@ use Prim.Native.Nat.{ℕ}
 use Rattle.layout.specs.Errno.{EROFS, EXDEV, EBUSY, EACCES, EPERM, EINVAL, ENOTDIR, EISDIR, ENOTEMPTY, EMLINK, ENOSPC}
 use Rattle.layout.specs.View.{View}
 use Rattle.refusals.specs.declared.case.Answer.{Answer}
-use Rattle.refusals.specs.declared.case.Answer.the-variants.{Refused, Same, Planned}
+use Rattle.refusals.specs.declared.case.Answer.the-variants.{Refused, Same, Planned, Exchanged}
 use Rattle.refusals.specs.declared.case.Case.{Case}
 use Rattle.refusals.specs.Case.{sameFile, readOnlyParent, otherSystem, mounted, parentDenied, movedStuck, replacedStuck, insideItself, replacesOther, replacesDirectory, slashedFile, movedDenied, notEmpty, busy, fullParent, noSlot}
 
@@ -15,6 +15,7 @@ abbrev pub numberOf : Answer → ℕ
 numberOf (Refused n) = n
 numberOf Same = 0
 numberOf Planned = 0
+numberOf Exchanged = 0
 
 -- A test of the order, and how a call is answered where it is the first that holds.
 pub record Rule : Type 0 where

@@ -1,4 +1,4 @@
-// The case that a rename is judged by, and its answers.
+// The case that a rename or an exchange is judged by, and the answers.
 use paths::request::Credentials;
 
 // What both walks have found, and who asks: the inode that moves, from slot old of directory from to slot new of directory into; the inode
@@ -16,9 +16,10 @@ pub struct Case {
     pub current: usize,
 }
 
-// How a rename is answered: refused by a number, nothing to do since both names are of one file, or planned.
+// How a call is answered: refused by a number, nothing to do since both names are of one file, planned as a rename, or as an exchange.
 pub enum Answer {
     Refused(u8),
     Same,
     Planned,
+    Exchanged,
 }

@@ -15,4 +15,4 @@ pub record Alike (a b : Credentials) : Type 0 where
 
 -- a request with another caller
 abbrev pub askedBy : Request → Credentials → Request
-askedBy q who = record { who = who; current = q .current; starts = q .starts; now = q .now }
+askedBy q who = record { who = who; current = q .current; starts = q .starts; now = q .now; flags = q .flags }

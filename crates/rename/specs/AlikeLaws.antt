@@ -1,7 +1,7 @@
 -- A rename is answered by the caller's user and groups, however they are listed: callers who are alike get the same answer and the same plan. A list of none
 -- is answered by the effective group alone. Assumes nothing.
 use mathlib.Core.Path.{_≡_, refl, sym, ap, ap₂, _∙_}
-use mathlib.Core.Bool.{not}
+use mathlib.Core.Bool.{not, cond}
 use mathlib.Core.List.{List, _∷_, _++_}
 use Prim.Native.Nat.{ℕ, zero, suc, _<_}
 use lib.Dec.{eqb, leb}
@@ -12,6 +12,7 @@ use Rattle.layout.specs.View.{View}
 use Rattle.paths.specs.declared.request.Credentials.{Credentials}
 use Rattle.paths.specs.declared.request.Request.{Request}
 use Rattle.paths.specs.Request.{requestGood}
+use Rattle.paths.specs.Flags.{asksExchange, flagsGood}
 use Rattle.paths.specs.Groups.{inGroup}
 use Rattle.paths.specs.GroupLaws.{alone, further-same}
 use Rattle.paths.specs.Permission.{searchBit, writeBit, allows}
@@ -22,13 +23,15 @@ use Rattle.walk.specs.declared.start.Start.the-variants.{Closed, At}
 use Rattle.walk.specs.Walk.{startOf, startAt, walkFrom, begun, walk}
 use Rattle.walk.specs.Both.{Ends, oldFinal, newFinal, walksOf}
 use Rattle.refusals.specs.declared.case.Answer.{Answer}
-use Rattle.refusals.specs.declared.case.Answer.the-variants.{Refused, Same, Planned}
+use Rattle.refusals.specs.declared.case.Answer.the-variants.{Refused, Same, Planned, Exchanged}
 use Rattle.refusals.specs.Case.{stickyDenied}
 use Rattle.refusals.specs.Steps.{numberOf, Rule, refuse, decide, steps}
+use Rattle.refusals.specs.Exchange.{exchangeSteps}
 use Rattle.results.specs.declared.Move.{Move}
-use Rattle.moves.specs.Plan.{moveOf, renameRows, planned}
-use Rattle.rename.specs.Order.{directoryOf, inodeOf, nameOf, caseOf, view, walks, early, late, order}
-use Rattle.rename.specs.Job.{answer, move, called, rowsBy, planBy, countBy, renamed, planAfter}
+use Rattle.exchanges.specs.Exchange.{exchangeRows, exchangePlanned}
+use Rattle.moves.specs.Plan.{moveOf, exchangeOf, renameRows, planned}
+use Rattle.rename.specs.Order.{directoryOf, inodeOf, nameOf, caseOf, flagRules, caseRules, view, walks, early, late, order}
+use Rattle.rename.specs.Job.{answer, move, exchange, called, rowsBy, planBy, countBy, renamed, planAfter}
 use Rattle.rename.specs.Alike.{Alike, askedBy}
 
 module _ (v : View) {a b : Credentials} (alike : Alike a b) where
@@ -85,6 +88,20 @@ module _ (v : View) (q : Request) {b : Credentials} (alike : Alike (q .who) b) w
         sticky-alike (directoryOf (e .new .found)) (inodeOf (e .new .found)),
       )
 
+  exchange-alike : (e : Ends) → exchangeSteps v (caseOf v q e) ≡ exchangeSteps v (caseOf v (askedBy q b) e)
+  exchange-alike e =
+      rw (
+        allows-alike v alike (directoryOf (e .old .found)) writeBit,
+        allows-alike v alike (directoryOf (e .new .found)) writeBit,
+        allows-alike v alike (inodeOf (e .old .found)) writeBit,
+        allows-alike v alike (inodeOf (e .new .found)) writeBit,
+        sticky-alike (directoryOf (e .old .found)) (inodeOf (e .old .found)),
+        sticky-alike (directoryOf (e .new .found)) (inodeOf (e .new .found)),
+      )
+
+  rules-alike : (e : Ends) → caseRules v q (caseOf v q e) ≡ caseRules v (askedBy q b) (caseOf v (askedBy q b) e)
+  rules-alike e = ap₂ (λ (x y : List Rule). flagRules q (caseOf v q e) ++ cond (asksExchange q) x y) (exchange-alike e) (steps-alike e)
+
   move-alike : (e : Ends) → moveOf v (caseOf v q e) (q .now) ≡ moveOf v (caseOf v (askedBy q b) e) (q .now)
   unfolding moveOf
   move-alike e = refl
@@ -100,16 +117,17 @@ module _ (s plan : List ℕ) (q : Request) (old new : List ℕ) {b : Credentials
   same-walks = walks-alike v q alike old new
 
   same-early : early s plan q old new ≡ early s plan p old new
+  unfolding flagsGood
   same-early = rw (request-alike v q alike old new)
 
   same-late : late s plan q old new ≡ late s plan p old new
-  same-late = ap (by q) same-walks ∙ ap (behind (walks s plan p old new)) (steps-alike v q alike (walks s plan p old new))
+  same-late = ap (by q) same-walks ∙ ap (behind (walks s plan p old new)) (rules-alike v q alike (walks s plan p old new))
     where
       behind : Ends → List Rule → List Rule
       behind e rules = refuse (not (eqb (e .old .number) 0)) (e .old .number) ∷ refuse (not (eqb (e .new .number) 0)) (e .new .number) ∷ rules
 
       by : Request → Ends → List Rule
-      by r e = behind e (steps v (caseOf v r e))
+      by r e = behind e (caseRules v r (caseOf v r e))
 
   same-answer : answer s plan q old new ≡ answer s plan p old new
   unfolding order
@@ -118,6 +136,9 @@ module _ (s plan : List ℕ) (q : Request) (old new : List ℕ) {b : Credentials
   same-move : move s plan q old new ≡ move s plan p old new
   same-move = ap (λ (e : Ends). moveOf v (caseOf v q e) (q .now)) same-walks ∙ move-alike v q alike (walks s plan p old new)
 
+  same-exchange : exchange s plan q old new ≡ exchange s plan p old new
+  same-exchange = ap (λ (e : Ends). exchangeOf (caseOf v q e) (q .now)) same-walks
+
   same-name : called s plan q old new ≡ called s plan p old new
   same-name = ap (λ (e : Ends). nameOf (e .new .found)) same-walks
 
@@ -125,16 +146,19 @@ module _ (s plan : List ℕ) (q : Request) (old new : List ℕ) {b : Credentials
   same-rows (Refused n) = refl
   same-rows Same = refl
   same-rows Planned = ap₂ (λ (m : Move) (name : List ℕ). length (renameRows (shapeOf s) s m name)) same-move same-name
+  same-rows Exchanged = ap (λ (m : Move). length (exchangeRows (shapeOf s) s m)) same-exchange
 
   same-plan : (x : Answer) → planBy s plan q old new x ≡ planBy s plan p old new x
   same-plan (Refused n) = refl
   same-plan Same = refl
   same-plan Planned = ap₂ (λ (m : Move) (name : List ℕ). planned (shapeOf s) s m name plan) same-move same-name
+  same-plan Exchanged = ap (λ (m : Move). exchangePlanned (shapeOf s) s m plan) same-exchange
 
   same-count : (x : Answer) (n : ℕ) → countBy s plan q old new x n ≡ countBy s plan p old new x n
   same-count (Refused m) n = refl
   same-count Same n = refl
   same-count Planned n = refl
+  same-count Exchanged n = refl
 
   count-alike : (side : Ends → End)
       → countBy s plan q old new (decide (early s plan q old new)) (side (walks s plan q old new) .steps)

@@ -11,6 +11,7 @@ use Rattle.layout.specs.View.{viewOf, View}
 use Rattle.consistency.specs.Consistent.{recordsNumber}
 use Rattle.paths.specs.declared.request.Request.{Request}
 use Rattle.paths.specs.Request.{requestGood}
+use Rattle.paths.specs.Flags.{flagsGood}
 use Rattle.component.specs.Step.{Finding}
 use Rattle.walk.specs.declared.both.Walks.{Walks}
 use Rattle.walk.specs.Ends.{Existing, Missing}
@@ -40,6 +41,7 @@ pub record WalksBegin (s plan : List ℕ) (q : Request) (old new : List ℕ) (h 
   pub read : Read s h
   pub fine : recordsNumber h s ≡ 0
   pub good : requestGood (viewOf h s) q old new ≡ true
+  pub flags : flagsGood q ≡ true
 
 -- The parts of an answer are small: no more rows than a plan has, and no walk above the bound (rule 61).
 pub record Small (r : Renamed) : Type 0 where

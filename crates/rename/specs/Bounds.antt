@@ -15,21 +15,27 @@ use Rattle.component.specs.Step.{End}
 use Rattle.walk.specs.Bound.{walk-bound}
 use Rattle.walk.specs.Both.{oldFinal, newFinal, oldWalk, walksOf}
 use Rattle.refusals.specs.declared.case.Answer.{Answer}
-use Rattle.refusals.specs.declared.case.Answer.the-variants.{Refused, Same, Planned}
+use Rattle.refusals.specs.declared.case.Answer.the-variants.{Refused, Same, Planned, Exchanged}
 use Rattle.refusals.specs.Steps.{decide}
 use Rattle.plan.specs.Form.{planRows}
 use Rattle.results.specs.declared.Move.{Move}
 use Rattle.results.specs.Results.{results, clearRow}
 use Rattle.results.specs.ResultRows.{results-le}
+use Rattle.exchanges.specs.Exchange.{exchangeResults, exchangeRows}
+use Rattle.exchanges.specs.ExchangeRows.{exchange-le}
 use Rattle.moves.specs.Plan.{renameRows}
 use Rattle.rename.specs.declared.Renamed.{Renamed}
 use Rattle.rename.specs.Order.{view, early}
-use Rattle.rename.specs.Job.{answer, move, called, rowsBy, countBy, renamed}
+use Rattle.rename.specs.Job.{answer, move, exchange, called, rowsBy, countBy, renamed}
 use Rattle.rename.specs.Answers.{RenameAnswers, Small}
 
 rows-le : (h : Shape) (s : List ℕ) (m : Move) (name : List ℕ) → length (renameRows h s m name) ≤ planRows
 unfolding renameRows
 rows-le h s m name = omega (arith, results-le h s m, length-append (results h s m) (clearRow h ∷ []))
+
+exchanged-le : (h : Shape) (s : List ℕ) (m : Move) → length (exchangeRows h s m) ≤ planRows
+unfolding exchangeRows
+exchanged-le h s m = omega (arith, exchange-le h s m, length-append (exchangeResults h s m) (clearRow h ∷ []))
 
 old-bound : (v : View) (q : Request) (old new : List ℕ) → walksOf v q old new .old .steps ≤ stepLimit
 unfolding walksOf
@@ -46,11 +52,13 @@ module _ (s plan : List ℕ) (q : Request) (old new : List ℕ) where
   answered-rows (Refused n) = zero-le
   answered-rows Same = zero-le
   answered-rows Planned = rows-le (shapeOf s) s (move s plan q old new) (called s plan q old new)
+  answered-rows Exchanged = exchanged-le (shapeOf s) s (exchange s plan q old new)
 
   counted : (a : Answer) (n : ℕ) → n ≤ stepLimit → countBy s plan q old new a n ≤ stepLimit
   counted (Refused k) n l = zero-le
   counted Same n l = zero-le
   counted Planned n l = l
+  counted Exchanged n l = l
 
   pub renamed-small : Small (renamed s plan q old new)
   unfolding renamed

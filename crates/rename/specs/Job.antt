@@ -1,4 +1,4 @@
--- The job rename as definitions: its number, its rows, both walk counts, and the whole plan buffer after it, for any bytes (rules 63 and 78). A reader has to
+-- The job rename, and with it the exchange, as definitions: its number, its rows, both walk counts, and the whole plan buffer after it, for any bytes (rules 63 and 78). A reader has to
 -- believe this file. Assumes nothing.
 use mathlib.Core.List.{List}
 use Prim.Native.Nat.{ℕ}
@@ -6,11 +6,13 @@ use lib.ListN.{length}
 use Rattle.layout.specs.Contents.{shapeOf}
 use Rattle.paths.specs.declared.request.Request.{Request}
 use Rattle.refusals.specs.declared.case.Answer.{Answer}
-use Rattle.refusals.specs.declared.case.Answer.the-variants.{Refused, Same, Planned}
+use Rattle.refusals.specs.declared.case.Answer.the-variants.{Refused, Same, Planned, Exchanged}
+use Rattle.refusals.specs.declared.case.Case.{Case}
 use Rattle.refusals.specs.Steps.{numberOf, decide}
 use Rattle.plan.specs.Form.{cleared}
 use Rattle.results.specs.declared.Move.{Move}
-use Rattle.moves.specs.Plan.{moveOf, renameRows, planned}
+use Rattle.exchanges.specs.Exchange.{exchangeRows, exchangePlanned}
+use Rattle.moves.specs.Plan.{moveOf, exchangeOf, renameRows, planned}
 use Rattle.rename.specs.declared.Renamed.{Renamed}
 use Rattle.rename.specs.Order.{view, walks, caseOf, nameOf, early, order}
 
@@ -19,9 +21,15 @@ module _ (s plan : List ℕ) (q : Request) (old new : List ℕ) where
   abbrev pub answer : Answer
   answer = decide (order s plan q old new)
 
-  -- the move, and the name that was missing
+  -- the case, its move, the name that was missing, and its exchange
+  abbrev pub case : Case
+  case = caseOf (view s plan q old new) q (walks s plan q old new)
+
   abbrev pub move : Move
-  move = moveOf (view s plan q old new) (caseOf (view s plan q old new) q (walks s plan q old new)) (q .now)
+  move = moveOf (view s plan q old new) case (q .now)
+
+  abbrev pub exchange : Move
+  exchange = exchangeOf case (q .now)
 
   abbrev pub called : List ℕ
   called = nameOf (walks s plan q old new .new .found)
@@ -31,17 +39,20 @@ module _ (s plan : List ℕ) (q : Request) (old new : List ℕ) where
   rowsBy (Refused n) = 0
   rowsBy Same = 0
   rowsBy Planned = length (renameRows (shapeOf s) s move called)
+  rowsBy Exchanged = length (exchangeRows (shapeOf s) s exchange)
 
   abbrev pub planBy : Answer → List ℕ
   planBy (Refused n) = plan
   planBy Same = cleared plan
   planBy Planned = planned (shapeOf s) s move called plan
+  planBy Exchanged = exchangePlanned (shapeOf s) s exchange plan
 
   -- a count, 0 where no walk began
   abbrev pub countBy : Answer → ℕ → ℕ
   countBy (Refused n) steps = 0
   countBy Same steps = 0
   countBy Planned steps = steps
+  countBy Exchanged steps = steps
 
   unfoldable pub renamed : Renamed
   renamed = record {

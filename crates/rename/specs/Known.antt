@@ -1,5 +1,5 @@
--- What is known of the case where both walks are whole: its numbers name inodes in use, and a planned move lies in the image. Assumes nothing.
-use mathlib.Core.Path.{_≡_, refl}
+-- What is known of the case where both walks are whole: its numbers name inodes in use, and a planned move, or exchange, lies in the image. Assumes nothing.
+use mathlib.Core.Path.{_≡_, refl, sym, ap, _∙_}
 use mathlib.Core.Logic.{_≢_}
 use mathlib.Core.Bool.{Bool, true, false, _&&_, not}
 use mathlib.Core.List.{List}
@@ -23,7 +23,8 @@ use Rattle.refusals.specs.Case.{exists, noSlot}
 use Rattle.refusals.specs.CaseIn.{CaseIn}
 use Rattle.results.specs.Results.{entriesAfter}
 use Rattle.results.specs.InImage.{InImage}
-use Rattle.moves.specs.Plan.{moveWith, freedText, moveOf}
+use Rattle.exchanges.specs.InImage.{BothInImage}
+use Rattle.moves.specs.Plan.{moveWith, freedText, moveOf, exchangeOf}
 use Rattle.rename.specs.Order.{directoryOf, slotOf, inodeOf, slashOf, nameOf, caseOf}
 use Rattle.rename.specs.Answers.{NewFound, by-entry, by-name}
 
@@ -113,3 +114,21 @@ module _ (h : Shape) (s : List ℕ) (r : Readable h s) (q : Request) (e : Ends) 
     replaced = λ some. isUsed-below h s _ (case-in .replaced some);
     text = λ some. let (link, is) = freed-link v c time some in rw is (r .symlinks (c .replaced) link);
   }
+
+  -- an exchange lies in the image: both slots were found, and they differ since their targets do
+  slots-two : c .replaced ≢ absent → c .moved ≢ c .replaced → NewFound v (e .new .found) → (c .new < h .entries) × (c .old ≢ c .new)
+  unfolding viewOf
+  slots-two some other (by-entry x _) = (x .below, λ z. other (sym (first .target) ∙ ap (v .target) z ∙ x .target))
+  slots-two some other (by-name none _ _) = absurd (some none)
+
+  pub exchange-in : (time : ℕ) → c .replaced ≢ absent → c .moved ≢ c .replaced → BothInImage h (exchangeOf c time)
+  unfolding viewOf
+  exchange-in time some other =
+      let (below, apart) = slots-two some other second in
+      record {
+        slots = record { old = first .below; new = below; apart = apart };
+        moved = isUsed-below h s _ (case-in .moved);
+        from = isKind-below h s _ 2 (case-in .from);
+        into = isKind-below h s _ 2 (case-in .into);
+        replaced = isUsed-below h s _ (case-in .replaced some);
+      }

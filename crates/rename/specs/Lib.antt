@@ -1,4 +1,6 @@
 pub mod Order
+pub mod Flagged
+pub mod FlagLaws
 pub mod Job
 pub mod Answers
 pub mod Outs
@@ -7,3 +9,5 @@ pub mod Known
 pub mod Walked
 pub mod Alike
 pub mod AlikeLaws
+pub mod Unflagged
+pub mod UnflaggedLaws

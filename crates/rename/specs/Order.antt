@@ -1,22 +1,25 @@
--- The whole order of refusal of a rename, for any bytes: buffer, layout, journal record, bodies, request, old's walk, new's walk, steps 1 to 13 (rules 63 and
--- 64). A reader has to believe this file. Assumes nothing.
-use mathlib.Core.Bool.{Bool, false, not}
+-- The whole order of refusal of a rename or an exchange, for any bytes: buffer, layout, journal record, bodies, request, flags, old's walk, new's walk, what the
+-- flags ask of new's name, the steps (rules 63 to 64c). A reader has to believe this file. Assumes nothing.
+use mathlib.Core.Bool.{Bool, false, _&&_, not, cond}
 use mathlib.Core.List.{List, [], _∷_, _++_}
 use Prim.Native.Nat.{ℕ}
 use lib.Dec.{eqb, ltb}
 use lib.ListN.{length}
 use Rattle.seq.specs.Search.{first}
 use Rattle.layout.specs.Limits.{absent}
-use Rattle.layout.specs.Errno.{shortBuffer, inconsistent, journalPending, wrongRequest}
+use Rattle.layout.specs.Errno.{ENOENT, EEXIST, EINVAL, shortBuffer, inconsistent, journalPending, wrongRequest}
 use Rattle.layout.specs.Contents.{layoutGood, shapeOf}
 use Rattle.layout.specs.View.{View, viewOf, entryUsed}
 use Rattle.consistency.specs.Sound.{journalClear, bodiesGood}
 use Rattle.paths.specs.declared.request.Request.{Request}
 use Rattle.paths.specs.Request.{requestGood}
+use Rattle.paths.specs.Flags.{asksNoReplace, asksExchange, flagsGood}
 use Rattle.component.specs.Step.{Finding, existing, missing, nothing}
 use Rattle.walk.specs.Both.{Ends, walksOf}
 use Rattle.refusals.specs.declared.case.Case.{Case}
+use Rattle.refusals.specs.Case.{exists}
 use Rattle.refusals.specs.Steps.{Rule, refuse, steps}
+use Rattle.refusals.specs.Exchange.{exchangeSteps}
 use Rattle.plan.specs.Form.{planBytes}
 
 -- the lowest free slot, or the number of slots where none is free
@@ -63,6 +66,14 @@ caseOf v q e = record {
   current = q .current;
 }
 
+-- rules 64a and 64b: what the flags ask of new's name: that it is missing, or that it exists
+abbrev pub flagRules : Request → Case → List Rule
+flagRules q c = refuse (asksNoReplace q && exists c) EEXIST ∷ refuse (asksExchange q && not (exists c)) ENOENT ∷ []
+
+-- rule 64c: and then the steps of an exchange, or those of a rename
+abbrev pub caseRules : View → Request → Case → List Rule
+caseRules v q c = flagRules q c ++ cond (asksExchange q) (exchangeSteps v c) (steps v c)
+
 module _ (s plan : List ℕ) (q : Request) (old new : List ℕ) where
   abbrev pub view : View
   view = viewOf (shapeOf s) s
@@ -78,14 +89,15 @@ module _ (s plan : List ℕ) (q : Request) (old new : List ℕ) where
       ∷ refuse (not (journalClear (shapeOf s) s)) journalPending
       ∷ refuse (not (bodiesGood (shapeOf s) s)) inconsistent
       ∷ refuse (not (requestGood view q old new)) wrongRequest
+      ∷ refuse (not (flagsGood q)) EINVAL
       ∷ []
 
-  -- old's walk, new's walk, and the steps
+  -- old's walk, new's walk, and what is asked of the case that they have found
   abbrev pub late : List Rule
   late =
       refuse (not (eqb (walks .old .number) 0)) (walks .old .number)
       ∷ refuse (not (eqb (walks .new .number) 0)) (walks .new .number)
-      ∷ steps view (caseOf view q walks)
+      ∷ caseRules view q (caseOf view q walks)
 
   unfoldable pub order : List Rule
   order = early ++ late

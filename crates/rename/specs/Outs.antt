@@ -9,7 +9,7 @@ use native.Mathlib.Omega.{arith}
 use lib.ListN.{length}
 use borrow.Author.Tests.{eq-eqb, ne-eqb, lt-ltb, le-ltb}
 use Rattle.layout.specs.declared.Shape.{Shape}
-use Rattle.layout.specs.Errno.{shortBuffer, inconsistent, wrongRequest}
+use Rattle.layout.specs.Errno.{EINVAL, shortBuffer, inconsistent, wrongRequest}
 use Rattle.layout.specs.Facts.{Read}
 use Rattle.layout.specs.Contents.{layoutGood}
 use Rattle.layout.specs.View.{View, viewOf}
@@ -17,15 +17,16 @@ use Rattle.consistency.specs.Sound.{journalClear, bodiesGood}
 use Rattle.consistency.specs.Consistent.{recordsNumber}
 use Rattle.paths.specs.declared.request.Request.{Request}
 use Rattle.paths.specs.Request.{requestGood}
+use Rattle.paths.specs.Flags.{flagsGood}
 use Rattle.walk.specs.Walk.{halt}
 use Rattle.walk.specs.Both.{Ends, walksOf, newWalk}
 use Rattle.refusals.specs.declared.case.Answer.{Answer}
 use Rattle.refusals.specs.declared.case.Answer.the-variants.{Refused, Planned}
-use Rattle.refusals.specs.Steps.{numberOf, decide, steps}
+use Rattle.refusals.specs.Steps.{numberOf, decide}
 use Rattle.refusals.specs.DecideLaws.{decide-refused, decide-passed}
 use Rattle.plan.specs.Form.{planBytes}
 use Rattle.rename.specs.declared.Renamed.{Renamed}
-use Rattle.rename.specs.Order.{walks, caseOf, early, late, order}
+use Rattle.rename.specs.Order.{walks, caseOf, caseRules, early, late, order}
 use Rattle.rename.specs.Job.{rowsBy, planBy, renamed, planAfter}
 use Rattle.rename.specs.Answers.{RenameAnswers, refusedEarly}
 
@@ -88,10 +89,16 @@ module _ (s plan : List ℕ) (q : Request) (old new : List ℕ) where
             early-refused wrongRequest (λ z. omega arith)
             (rw (le-ltb _ _ long, read .good, ← read .shape, records-fine .0, records-fine .1, bad))
 
+        -- its flags
+        pub answers-flags : requestGood (viewOf h s) q old new ≡ true → flagsGood q ≡ false → RenameAnswers s plan q old new (refusedEarly EINVAL) plan
+        answers-flags good bad =
+            early-refused EINVAL (λ z. omega arith)
+            (rw (le-ltb _ _ long, read .good, ← read .shape, records-fine .0, records-fine .1, good, bad))
+
         -- the walks begin
-        module _ (good : requestGood (viewOf h s) q old new ≡ true) where
+        module _ (good : requestGood (viewOf h s) q old new ≡ true) (flags : flagsGood q ≡ true) where
           begins : decide (early s plan q old new) ≡ Planned
-          begins = rw (le-ltb _ _ long, read .good, ← read .shape, records-fine .0, records-fine .1, good)
+          begins = rw (le-ltb _ _ long, read .good, ← read .shape, records-fine .0, records-fine .1, good, flags)
 
           abbrev ends : Ends
           ends = walksOf (viewOf h s) q old new
@@ -122,8 +129,8 @@ module _ (s plan : List ℕ) (q : Request) (old new : List ℕ) where
               go (yes z) = rw (← same-ends, eq-eqb (ends .old .number) 0 z, ne-eqb (ends .new .number) 0 some)
               go (no n) = rw (← same-ends, ne-eqb (ends .old .number) 0 n, refused-same n)
 
-          -- both are whole: the steps answer
-          pub answers-steps : ends .new .number ≡ 0 → (a : Answer) → a ≡ decide (steps (viewOf h s) (caseOf (viewOf h s) q ends))
+          -- both are whole: the case answers
+          pub answers-case : ends .new .number ≡ 0 → (a : Answer) → a ≡ decide (caseRules (viewOf h s) q (caseOf (viewOf h s) q ends))
               → RenameAnswers s plan q old new (answerWith a) (planBy s plan q old new a)
-          answers-steps none a e =
+          answers-case none a e =
               late-answered a (rw (← same-ends, eq-eqb (ends .old .number) 0 (walked-old (viewOf h s) q old new none), eq-eqb (ends .new .number) 0 none, ← read .shape) (sym e))

@@ -1,4 +1,4 @@
-// The job rename: judged in the order of refusal, and planned row by row.
+// The job rename, which is also asked for an exchange: judged in the order of refusal, and planned row by row.
 use component::state::Found;
 use layout::Shape;
 use layout::contents::Contents;
@@ -15,14 +15,18 @@ ghost use Rattle.layout.specs.Facts.{Laid, Read};
 ghost use Rattle.layout.specs.View.{viewOf};
 ghost use Rattle.consistency.specs.Consistent.{recordsNumber};
 ghost use Rattle.paths.specs.Request.{requestGood};
+ghost use Rattle.paths.specs.Flags.{flagsGood};
 ghost use Rattle.component.specs.State.{Ranged};
 ghost use Rattle.walk.specs.Answer.{endOf};
 ghost use Rattle.plan.specs.Form.{planBytes};
 ghost use Rattle.results.specs.InImage.{InImage};
-ghost use Rattle.moves.specs.Plan.{moveOf, renameRows, planned};
+ghost use Rattle.exchanges.specs.Exchange.{exchangeRows, exchangePlanned};
+ghost use Rattle.exchanges.specs.InImage.{BothInImage};
+ghost use Rattle.moves.specs.Plan.{moveOf, exchangeOf, renameRows, planned};
 ghost use Rattle.rename.specs.Order.{nameOf};
 ghost use Rattle.rename.specs.Answers.{refusedEarly, RenameAnswers};
 
+pub mod flagged;
 pub mod found;
 
 // How the job is answered: its number, how many rows the plan has, and the component checks that the walks of old and new began.
@@ -72,9 +76,17 @@ fn write(plan: &mut [u8], image: &[u8], h: Shape, c: Case, time: u64, new: Walke
     }
 }
 
-// Both walks of a good request, and what the steps make of them.
+// Plans the exchange of the case. Answers how many rows there are.
+fn exchange(plan: &mut [u8], image: &[u8], h: Shape, c: Case, time: u64) -> usize
+    requires { ⌜ (planBytes ≤ length (now plan)) × Laid h (now image) × BothInImage h (exchangeOf c time) ⌝ }
+    ensures { λ r. ⌜ (now (plan .exit) ≡ exchangePlanned h (now (image .entry)) (exchangeOf c time) (now (plan .entry))) × (r ≡ length (exchangeRows h (now (image .entry)) (exchangeOf c time))) ⌝ }
+{
+    exchanges::rows::fill(plan, image, h, moves::exchange_of(c, time))
+}
+
+// Both walks of a good request, and what is made of the case that they have found.
 fn walked(image: &[u8], h: Shape, q: Request, old: &[u8], new: &[u8], plan: &mut [u8]) -> Renamed
-    requires { ⌜ (planBytes ≤ length (now plan)) × Read (now image) h × (recordsNumber h (now image) ≡ 0) × (requestGood (viewOf h (now image)) q (now old) (now new) ≡ true) ⌝ }
+    requires { ⌜ (planBytes ≤ length (now plan)) × Read (now image) h × (recordsNumber h (now image) ≡ 0) × (requestGood (viewOf h (now image)) q (now old) (now new) ≡ true) × (flagsGood q ≡ true) ⌝ }
     ensures { λ r. ⌜ RenameAnswers (now (image .entry)) (now (plan .entry)) q (now (old .entry)) (now (new .entry)) r (now (plan .exit)) ⌝ }
 {
     let w = walk::both::both(image, h, q, old, new);
@@ -90,11 +102,12 @@ fn walked(image: &[u8], h: Shape, q: Request, old: &[u8], new: &[u8], plan: &mut
         return r;
     }
     let c = found::case_of(image, h, q, first, second);
-    let answer = refusals::steps::judge(image, h, c);
+    let answer = flagged::judge(image, h, q, c);
     match answer {
         Answer::Refused(number) => r.number = number,
         Answer::Same => plan::clear(plan),
         Answer::Planned => r.rows = write(plan, image, h, c, q.now, second),
+        Answer::Exchanged => r.rows = exchange(plan, image, h, c, q.now),
     }
     r
 }
@@ -110,6 +123,9 @@ fn asked(image: &[u8], h: Shape, q: Request, old: &[u8], new: &[u8], plan: &mut 
     }
     if !paths::request::good(image, h, q, old, new) {
         return refused(errno::WRONG_REQUEST);
+    }
+    if !paths::flags::good(q) {
+        return refused(errno::EINVAL);
     }
     walked(image, h, q, old, new, plan)
 }

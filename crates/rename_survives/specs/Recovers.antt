@@ -1,26 +1,20 @@
 -- Recovery takes back or finishes a rename, on every image on its way: what the crash theorem asks of it. Assumes nothing.
-use mathlib.Core.Path.{_≡_, refl, sym, ap, _∙_, subst}
-use mathlib.Core.Logic.{_≢_, _⊎_}
+use mathlib.Core.Path.{_≡_, refl, sym, ap, _∙_}
+use mathlib.Core.Logic.{_≢_}
 use mathlib.Core.Bool.{Bool, true, false}
 use mathlib.Core.List.{List, [], _∷_, _++_}
 use mathlib.Core.Option.{some}
-use Prim.Native.Nat.{ℕ, _≤_, _<_}
+use Prim.Native.Nat.{ℕ, _<_}
 use native.Mathlib.Decide.{ℕ-discrete}
 use native.Mathlib.Omega.{arith}
 use lib.Dec.{eqb, lit<}
 use borrow.Author.Tests.{eqb-true, eqb-false, eq-eqb, ne-eqb, lt-ltb, not-true}
-use Rattle.seq.specs.Bytes.{zeros}
 use Rattle.seq.specs.Truth.{refuted, and-left, and-right}
-use Rattle.seq.specs.SearchLaws.{all-not}
 use Rattle.layout.specs.declared.Shape.{Shape}
 use Rattle.layout.specs.Limits.{absent}
-use Rattle.layout.specs.View.{View, viewOf, inodeAt, entryAt, journalAt, entryUsed, isDirectory}
-use Rattle.encode.specs.declared.journal.Journal.{Journal}
+use Rattle.layout.specs.View.{View, viewOf, inodeAt, entryAt, entryUsed, isDirectory}
 use Rattle.encode.specs.Facts.{InRange}
-use Rattle.encode.specs.Journal.{journalOf, journalFormed, journalBytes, journalHead}
-use Rattle.encode.specs.JournalLaws.{journal-formed, journal-of-bytes}
-use Rattle.consistency.specs.Sound.{journalClear}
-use Rattle.consistency.specs.Consistent.{consistent}
+use Rattle.encode.specs.Journal.{renameKind, journalBytes}
 use Rattle.edits.specs.Kinds.{IsDirectory}
 use Rattle.edits.specs.Tests.{kind-test}
 use Rattle.edits.specs.Finished.{slots-differ, from-directory, moved-below-root, moved-not-from, moved-not-into}
@@ -28,28 +22,30 @@ use Rattle.plan.specs.Write.{Write, entryKey, journalKey, storeAll}
 use Rattle.plan.specs.WriteLaws.{other-section}
 use Rattle.results.specs.declared.Move.{Move}
 use Rattle.results.specs.Results.{holderAfter, results, clearRow}
-use Rattle.crash_theorem.specs.Pick.{All}
-use Rattle.crash_theorem.specs.PickLaws.{all-join}
-use Rattle.crash_theorem.specs.Store.{putAll}
+use Rattle.results.specs.Start.{journalFor}
 use Rattle.crash_theorem.specs.Change.{Change}
 use Rattle.crash_theorem.specs.Obligations.{OnTheWay}
 use Rattle.crash_theorem.specs.Plan.{Plan, WellFormed, Recovers, behindOf}
 use Rattle.crash_theorem.specs.Planned.{clear-settles, behind-all, reached, decided-record, undecided-record}
-use Rattle.moves.specs.Plan.{journalFor, newEntry}
-use Rattle.drafts.specs.Draft.{belowOrAbsent, renameFits, moveFrom, entryStands, intoGood, undoing, finishing, moveDraft, renameDraft, kindDraft, draft}
-use Rattle.drafts.specs.Fit.{move-undone, move-finished}
-use Rattle.recover.specs.Recover.{ifConsistent, pendingRows, recover}
-use Rattle.image_store.specs.Image.{Fits, recordOf}
+use Rattle.moves.specs.Plan.{newEntry}
+use Rattle.drafts.specs.PendingRename.{belowOrAbsent, renameFits, moveFrom, entryStands, intoGood, undoing, finishing, moveDraft}
+use Rattle.drafts.specs.Fit.{rename-move, move-undone, move-finished}
+use Rattle.recover.specs.Recover.{ifConsistent, recover}
+use Rattle.image_store.specs.Image.{recordOf}
 use Rattle.image_store.specs.ImageLaws.{record-is, images, puts-store}
+use Rattle.image_store.specs.Mixed.{Mixed}
+use Rattle.image_store.specs.MixedLaws.{way-mixed}
 use Rattle.outcome.specs.Outcome.{finished}
 use Rattle.outcome.specs.RenamePlan.{renamePlan}
 use Rattle.outcome.specs.Called.{Called}
 use Rattle.outcome.specs.CalledLaws.{before-good, in-image, replaced-not-moved, replaced-not-from, replaced-not-into, new-entry-names}
 use Rattle.outcome.specs.Finished.{finished-after, from-written, into-written}
 use Rattle.outcome.specs.Consistent.{before-consistent, finished-clear, finished-consistent}
-use Rattle.outcome.specs.PlanRows.{results-fit, well-formed}
+use Rattle.outcome.specs.PlanRows.{well-formed}
+use Rattle.rename_survives.specs.Run.{renameChange}
 use Rattle.rename_survives.specs.Way.{parent-typed, mixed-results}
-use Rattle.rename_survives.specs.Run.{PartWritten, renameChange}
+use Rattle.rename_survives.specs.Pending.{in-range, by-record, answered, nothing-pending}
+use Rattle.rename_survives.specs.Behind.{behind-stored, behind-answered}
 
 below-or : (i n : ℕ) → (i ≢ absent → i < n) → belowOrAbsent i n ≡ true
 below-or i n f = go (ℕ-discrete i absent)
@@ -57,13 +53,6 @@ below-or i n f = go (ℕ-discrete i absent)
     go : Dec (i ≡ absent) → belowOrAbsent i n ≡ true
     go (yes e) = rw e
     go (no d) = rw (ne-eqb _ _ d, lt-ltb _ _ (f d))
-
-small : (i n : ℕ) → (i ≢ absent → i < n) → n ≤ 65536 → i < 65536
-small i n f l = go (ℕ-discrete i absent)
-  where
-    go : Dec (i ≡ absent) → i < 65536
-    go (yes e) = omega arith
-    go (no d) = omega (arith, f d)
 
 module _ {h : Shape} {s : List ℕ} {m : Move} {called : List ℕ} (c : Called h s m called) where
   abbrev v : View
@@ -81,19 +70,10 @@ module _ {h : Shape} {s : List ℕ} {m : Move} {called : List ℕ} (c : Called h
   abbrev 𝓒 : Change (images h s)
   𝓒 = renameChange h s m called
 
-  -- ---- the journal record is read back
+  -- ---- the journal record fits
 
-  in-range : InRange (journalFor m)
-  in-range = record {
-    kind = lit< tt;
-    old = omega (arith, in-image c .old, c .read .laid .entries-most);
-    new = omega (arith, in-image c .new, c .read .laid .entries-most);
-    moved = omega (arith, in-image c .moved, c .read .laid .inodes-most);
-    replaced = small (m .replaced) (h .inodes) (in-image c .replaced) (omega (arith, c .read .laid .inodes-most));
-    parent = omega (arith, in-image c .from, c .read .laid .inodes-most);
-    text = small (m .text) (h .texts) (in-image c .text) (omega (arith, c .read .laid .texts-most));
-    time = c .time;
-  }
+  range : InRange (journalFor renameKind m)
+  range = in-range h s (c .read .laid) renameKind (lit< tt) m (in-image c) (c .time)
 
   -- the move, with the new parent that the new slot names
   abbrev moveTo : ℕ → Move
@@ -103,23 +83,12 @@ module _ {h : Shape} {s : List ℕ} {m : Move} {called : List ℕ} (c : Called h
   not-replaced : (k : ℕ) → k < h .inodes → (m .replaced ≢ absent → m .replaced ≢ k) → m .replaced ≢ k
   not-replaced k l f e = f (λ z. omega (arith, sym z ∙ e, c .read .laid .inodes-most)) e
 
-  module _ {x : List ℕ} (mixed : PartWritten h s m called x) (journal : recordOf h x journalKey ≡ journalBytes (journalFor m)) where
+  module _ {x : List ℕ} (mixed : Mixed h s t x) (journal : recordOf h x journalKey ≡ journalBytes (journalFor renameKind m)) where
     directory : (i : ℕ) → IsDirectory v i → inodeAt h t i ≡ holderAfter h s m i → isDirectory (viewOf h x) i ≡ true
     unfolding viewOf
     directory i d e = kind-test (viewOf h x) i 2 (d .0, parent-typed c mixed i (d .0) e ∙ d .1)
 
-    journal-is : journalAt h x ≡ journalBytes (journalFor m)
-    journal-is = sym (record-is h x journalKey (record { in-image = lit< tt; in-section = lit< tt })) ∙ journal
-
-    not-clear : journalClear h x ≡ false
-    unfolding journalClear zeros journalBytes journalHead
-    not-clear = rw journal-is (all-not _ 32 0 (omega arith) refl)
-
-    read-journal : journalOf (journalAt h x) ≡ journalFor m
-    read-journal = ap journalOf journal-is ∙ journal-of-bytes (journalFor m) in-range
-
-    -- so it fits
-    fits : renameFits h x (journalFor m) ≡ true
+    fits : renameFits h x (journalFor renameKind m) ≡ true
     unfolding renameFits
     fits =
         let good = before-good c in
@@ -138,16 +107,11 @@ module _ {h : Shape} {s : List ℕ} {m : Move} {called : List ℕ} (c : Called h
           directory (m .from) (from-directory good ok) (from-written c),
         )
 
-    drafted : draft h x ≡ moveDraft h x (moveFrom (viewOf h x) (journalFor m))
-    unfolding draft renameDraft
-    drafted =
-        let formed : journalFormed (journalAt h x) ≡ true = ap journalFormed journal-is ∙ journal-formed (journalFor m) in
-        rw formed (ap (λ (j : Journal). kindDraft h x (j .kind) j) read-journal ∙ rw fits)
-
-    -- and what recovery does hangs on the new slot
+    -- so what recovery does hangs on the new slot
     by-slot : recover h x ≡ ifConsistent h x (moveDraft h x (moveTo (viewOf h x .parent (m .new))))
-    unfolding recover pendingRows
-    by-slot = rw not-clear (ap (ifConsistent h x) drafted)
+    by-slot =
+        by-record h x renameKind m range journal
+        ∙ ap (ifConsistent h x) (rename-move h x (journalFor renameKind m) fits (moveFrom (viewOf h x) (journalFor renameKind m)) refl)
 
     -- while the slot is as before
     module _ (same : entryAt h x (m .new) ≡ entryAt h s (m .new)) where
@@ -190,60 +154,40 @@ module _ {h : Shape} {s : List ℕ} {m : Move} {called : List ℕ} (c : Called h
 
   -- ---- on the way
 
-  way-mixed : (d : Bool) {x : List ℕ} → OnTheWay 𝓒 d x → PartWritten h s m called x
-  way-mixed d {x} i = record {
-    either = λ k n. subst (λ (y : List ℕ). (recordOf h x k ≡ recordOf h s k) ⊎ (recordOf h x k ≡ recordOf h y k)) (finished-after c) (i .mixed k n);
-  }
+  mixed-at : (d : Bool) {x : List ℕ} → OnTheWay 𝓒 d x → Mixed h s t x
+  mixed-at d i = way-mixed refl (finished-after c) d i
 
   new-slot : (y : List ℕ) → recordOf h y (entryKey (m .new)) ≡ entryAt h y (m .new)
   new-slot y = record-is h y (entryKey (m .new)) (record { in-image = lit< tt; in-section = in-image c .new })
 
-  -- rows whose outcome is consistent are answered
-  answered : (x : List ℕ) (ws : List Write) → All (Fits h) ws → (y : List ℕ) → consistent y ≡ true → putAll (images h s) x ws ≡ y
-      → ifConsistent h x (some ws) ≡ some ws
-  answered x ws f y g e =
-      let k : consistent (storeAll h x ws) ≡ true = ap consistent (sym (puts-store h s x ws f) ∙ e) ∙ g in
-      rw k
-
-  undo-fits : All (Fits h) (undoing h s)
-  undo-fits = (𝓦 .clear-fits, tt)
-
-  back : (x : List ℕ) → OnTheWay 𝓒 false x → recordOf h x journalKey ≡ journalBytes (journalFor m) → recover h x ≡ some (undoing h s)
+  back : (x : List ℕ) → OnTheWay 𝓒 false x → recordOf h x journalKey ≡ journalBytes (journalFor renameKind m) → recover h x ≡ some (undoing h s)
   back x i j =
       let same : recordOf h x (entryKey (m .new)) ≡ recordOf h s (entryKey (m .new)) =
       undecided-record plan (recover h) 𝓦 i (entryKey (m .new)) (other-section _ _ (λ e. omega arith)) tt in
-      taken-back (way-mixed false i) j (sym (new-slot x) ∙ same ∙ new-slot s)
-      ∙ answered x (undoing h s) undo-fits s (before-consistent c)
-      (reached plan (recover h) 𝓦 false (undoing h s) (λ k a. a) tt i (clear-settles plan (recover h) 𝓦 false, tt))
+      let leads = reached plan (recover h) 𝓦 false (undoing h s) (λ k a. a) tt i (clear-settles plan (recover h) 𝓦 false, tt) in
+      taken-back (mixed-at false i) j (sym (new-slot x) ∙ same ∙ new-slot s)
+      ∙ answered h x (undoing h s) (sym (puts-store h s x (undoing h s) (𝓦 .clear-fits, tt)) ∙ leads) (before-consistent c)
 
-  behind-fits : All (Fits h) (behindOf (images h s) plan)
-  behind-fits = all-join (Fits h) (results h s m) (clearRow h ∷ []) (results-fit c) undo-fits
-
-  module _ {x : List ℕ} (i : OnTheWay 𝓒 true x) (j : recordOf h x journalKey ≡ journalBytes (journalFor m)) where
+  module _ {x : List ℕ} (i : OnTheWay 𝓒 true x) (j : recordOf h x journalKey ≡ journalBytes (journalFor renameKind m)) where
     new-there : entryAt h x (m .new) ≡ newEntry h s m called
     new-there = sym (new-slot x) ∙ decided-record plan (recover h) 𝓦 tt i
 
-    leads : putAll (images h s) x (behindOf (images h s) plan) ≡ t
-    leads = reached plan (recover h) 𝓦 true (behindOf (images h s) plan) (λ k a. a) tt i (behind-all plan (recover h) 𝓦) ∙ finished-after c
-
     -- On every image on the way recovery's rows are the rename's own, byte for byte,
     pub recover-rows : finishing h x m ≡ results h s m ++ clearRow h ∷ []
-    recover-rows = finishing-is (way-mixed true i) j new-there
+    recover-rows = finishing-is (mixed-at true i) j new-there
 
     -- and stored they give the finished image.
     pub recover-stored : storeAll h x (finishing h x m) ≡ t
-    recover-stored = ap (storeAll h x) recover-rows ∙ sym (puts-store h s x (behindOf (images h s) plan) behind-fits) ∙ leads
+    recover-stored = ap (storeAll h x) recover-rows ∙ behind-stored plan 𝓦 (finished-after c) i
 
     on : recover h x ≡ some (behindOf (images h s) plan)
-    on = finished-off (way-mixed true i) j new-there ∙ answered x (behindOf (images h s) plan) behind-fits t (finished-consistent c) leads
+    on = behind-answered plan 𝓦 (finished-after c) i (finished-consistent c) (finished-off (mixed-at true i) j new-there)
 
   pub at-before : recover h s ≡ some []
-  unfolding recover
-  at-before = rw (c .clear, before-consistent c)
+  at-before = nothing-pending h s (c .clear) (before-consistent c)
 
   pub at-finished : recover h t ≡ some []
-  unfolding recover
-  at-finished = rw (finished-clear c, finished-consistent c)
+  at-finished = nothing-pending h t (finished-clear c) (finished-consistent c)
 
   -- What the crash theorem asks of recovery.
   pub recovers : Recovers (images h s) plan (recover h)

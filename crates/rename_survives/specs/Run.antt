@@ -1,26 +1,22 @@
 -- A rename as the crash theorem sees it: its change, the job that recovers, and where it stands after events. Assumes nothing.
 use mathlib.Core.Path.{_≡_}
-use mathlib.Core.Logic.{_⊎_, _≢_}
+use mathlib.Core.Logic.{_⊎_}
 use mathlib.Core.List.{List}
 use Prim.Native.Nat.{ℕ}
 use Rattle.layout.specs.declared.Shape.{Shape}
-use Rattle.layout.specs.Place.{Key}
 use Rattle.layout.specs.View.{viewOf}
 use Rattle.edits.specs.Kinds.{EntryUsed}
 use Rattle.plan.specs.Jobs.{Job}
-use Rattle.plan.specs.Write.{journalKey}
 use Rattle.results.specs.declared.Move.{Move}
 use Rattle.crash_theorem.specs.Change.{Change}
 use Rattle.crash_theorem.specs.Events.{EventOf, State}
 use Rattle.crash_theorem.specs.Plan.{change}
 use Rattle.recover.specs.Recover.{recover}
 use Rattle.recover.specs.Job.{recovered}
-use Rattle.image_store.specs.Image.{recordOf}
 use Rattle.image_store.specs.ImageLaws.{images}
 use Rattle.image_store.specs.JobLaws.{jobs}
 use Rattle.image_store.specs.Recovery.{RecoveryJob}
 use Rattle.image_store.specs.Operation.{plannedChange, stateAfter}
-use Rattle.outcome.specs.Outcome.{finished}
 use Rattle.outcome.specs.RenamePlan.{renamePlan}
 
 -- a rename as the crash theorem sees it
@@ -45,7 +41,3 @@ module _ (h : Shape) (s : List ℕ) (m : Move) (called buffer : List ℕ) where
 
   abbrev pub renameState : List (EventOf (jobs h s)) → State (List ℕ) Job
   renameState es = stateAfter h s (renamePlan h s m called) buffer recoveryJob es
-
--- Of the image x every record but the journal's is as before or as finished.
-pub record PartWritten (h : Shape) (s : List ℕ) (m : Move) (called x : List ℕ) : Type 0 where
-  pub either : (k : Key) → k ≢ journalKey → (recordOf h x k ≡ recordOf h s k) ⊎ (recordOf h x k ≡ recordOf h (finished h s m called) k)

@@ -1,4 +1,5 @@
 pub mod Results
+pub mod Start
 pub mod RecountLaws
 pub mod InImage
 pub mod Edited

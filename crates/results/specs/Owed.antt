@@ -23,7 +23,7 @@ use Rattle.results.specs.InImage.{InImage}
 use Rattle.results.specs.Again.{moved-length, holder-length, replaced-length}
 
 -- an inode with bytes of its length
-inode-writes : (h : Shape) (i : ℕ) (body : List ℕ) → i < h .inodes → length body ≡ 32 → Writes h resultGroup (inodeKey i) body
+pub inode-writes : (h : Shape) (i : ℕ) (body : List ℕ) → i < h .inodes → length body ≡ 32 → Writes h resultGroup (inodeKey i) body
 inode-writes h i body l whole = record {
   first = lit≤ tt;
   last = lit≤ tt;
@@ -32,7 +32,7 @@ inode-writes h i body l whole = record {
   whole = whole;
 }
 
-when-writes : (h : Shape) (b : Bool) (w : Write) → (b ≡ true → Writes h (w .group) (w .key) (w .body)) → AllWrites h (when b w)
+pub when-writes : (h : Shape) (b : Bool) (w : Write) → (b ≡ true → Writes h (w .group) (w .key) (w .body)) → AllWrites h (when b w)
 when-writes h true w f = (f refl, tt)
 when-writes h false w f = tt
 

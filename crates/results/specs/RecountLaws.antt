@@ -1,4 +1,4 @@
--- A count of the entries as a move edits two slots of them, from the count as they stand. Assumes nothing.
+-- A count of the entries as two slots of them are edited, from the count as they stand. Assumes nothing.
 use mathlib.Core.Path.{_≡_, refl, sym, ap}
 use mathlib.Core.Logic.{_≢_}
 use mathlib.Core.Bool.{Bool, true, false, _&&_, not}
@@ -27,16 +27,21 @@ two-is m n e = record {
   apart = eqb-false _ _ (not-true (eqb (m .old) (m .new)) (search (and-left, and-right)));
 }
 
--- the old slot counts for nothing and the new one as the edit makes it, in the place of what they counted for
-module _ (m : Move) (n : ℕ) (two : Two m n) (p : ℕ → Bool) (made : Bool) where
-  pub recounted : count (λ j. edited m j made (p j)) n + (bit (p (m .old)) + bit (p (m .new))) ≡ count p n + bit made
+-- the two slots count as the edit leaves them, in the place of what they counted for
+module _ (m : Move) (n : ℕ) (two : Two m n) (p : ℕ → Bool) (old new : Bool) where
+  pub recounted : count (λ j. edited m j old new (p j)) n + (bit (p (m .old)) + bit (p (m .new))) ≡ count p n + (bit old + bit new)
   recounted =
-      let here : edited m (m .old) made (p (m .old)) ≡ false = simp (eq-eqb (m .old) (m .old) refl) in
-      let there : edited m (m .new) made (p (m .new)) ≡ made = simp (ne-eqb (m .new) (m .old) (λ e. two .apart (sym e)), eq-eqb (m .new) (m .new) refl) in
+      let here : edited m (m .old) old new (p (m .old)) ≡ old = simp (eq-eqb (m .old) (m .old) refl) in
+      let there : edited m (m .new) old new (p (m .new)) ≡ new = simp (ne-eqb (m .new) (m .old) (λ e. two .apart (sym e)), eq-eqb (m .new) (m .new) refl) in
       omega (
         arith,
-        count-edited p (λ j. edited m j made (p j)) n (m .old ∷ m .new ∷ []) (two .old, (two .apart, tt), (two .new, tt, tt)) (λ j l off.
+        count-edited p (λ j. edited m j old new (p j)) n (m .old ∷ m .new ∷ []) (two .old, (two .apart, tt), (two .new, tt, tt)) (λ j l off.
             simp (ne-eqb j (m .old) (off .0), ne-eqb j (m .new) (off .1 .0))),
         ap bit here,
         ap bit there,
       )
+
+-- a slot that is cleared counts for nothing
+pub recounted-cleared : (m : Move) (n : ℕ) → Two m n → (p : ℕ → Bool) (made : Bool)
+    → count (λ j. edited m j false made (p j)) n + (bit (p (m .old)) + bit (p (m .new))) ≡ count p n + bit made
+recounted-cleared m n two p made = omega (arith, recounted m n two p false made)

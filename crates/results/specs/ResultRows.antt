@@ -20,15 +20,15 @@ use Rattle.results.specs.Results.{present, when, oldRow, movedRow, holde
 
 -- a row where it is asked for
 module _ (h : Shape) (w : Write) {p : List ℕ} {i : ℕ} where
-  when-one : (b : Bool) {q : List ℕ} → b ≡ true → q ≡ rowPut p i (rowFrom h w) → Filled h p i (when b w) q (i + 1)
+  pub when-one : (b : Bool) {q : List ℕ} → b ≡ true → q ≡ rowPut p i (rowFrom h w) → Filled h p i (when b w) q (i + 1)
   when-one true e f = filled-one h w f
   when-one false e f = absurd (not-both false e refl)
 
-  when-none : (b : Bool) → b ≡ false → Filled h p i (when b w) p i
+  pub when-none : (b : Bool) → b ≡ false → Filled h p i (when b w) p i
   when-none true e = absurd (not-both true refl e)
   when-none false e = filled-none h p i
 
-when-le : (b : Bool) (w : Write) → length (when b w) ≤ 1
+pub when-le : (b : Bool) (w : Write) → length (when b w) ≤ 1
 when-le true w = omega arith
 when-le false w = omega arith
 

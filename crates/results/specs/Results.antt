@@ -23,14 +23,16 @@ present n = not (eqb n absent)
 
 -- ---- the entries as edited, counted on the image as it stands
 
--- what slot j counts for: the old slot for nothing, the new one as the edit makes it, whatever stands there, and any other as it stands
-abbrev pub edited : Move → ℕ → Bool → Bool → Bool
-edited m j made stands = cond (eqb j (m .old)) false (cond (eqb j (m .new)) made stands)
+-- what slot j counts for: the old slot and the new one as the edit leaves them, whatever stands there, and any other as it stands
+abbrev pub edited : Move → ℕ → Bool → Bool → Bool → Bool
+edited m j old new stands = cond (eqb j (m .old)) old (cond (eqb j (m .new)) new stands)
 
 module _ (v : View) (m : Move) where
+  -- a rename clears the old slot, which then counts for nothing
+
   -- the entry in slot j, as edited, targets inode i
   abbrev pub targetsAfter : ℕ → ℕ → Bool
-  targetsAfter i j = edited m j (eqb (m .moved) i) (targets v i j)
+  targetsAfter i j = edited m j false (eqb (m .moved) i) (targets v i j)
 
   -- rule 88: how many entries are left that target inode i
   unfoldable pub entriesAfter : ℕ → ℕ
@@ -38,7 +40,7 @@ module _ (v : View) (m : Move) where
 
   -- the entry in slot j, as edited, lies in directory d and targets a directory
   abbrev pub holdsAfter : ℕ → ℕ → Bool
-  holdsAfter d j = edited m j (eqb (m .into) d && isDirectory v (m .moved)) (holdsDirectory v d j)
+  holdsAfter d j = edited m j false (eqb (m .into) d && isDirectory v (m .moved)) (holdsDirectory v d j)
 
   -- rule 88: how many child directories directory d has then
   unfoldable pub childrenAfter : ℕ → ℕ

@@ -101,7 +101,7 @@ fn edits_two(h: Shape, m: Move) -> bool
 }
 
 // What an entry counts for.
-fn one_if(counted: bool) -> usize
+pub fn one_if(counted: bool) -> usize
     ensures { λ r. ⌜ (r ≡ bit counted) × (r ≤ 1) ⌝ }
 {
     if counted {
@@ -126,7 +126,7 @@ pub fn entries_after(image: &[u8], h: Shape, m: Move, i: usize) -> usize
 }
 
 // Whether the entry that a move makes lies in directory d and targets a directory.
-fn makes_child(image: &[u8], h: Shape, m: Move, d: usize) -> bool
+pub fn makes_child(image: &[u8], h: Shape, m: Move, d: usize) -> bool
     requires { ⌜ Laid h (now image) ⌝ }
     ensures { λ r. ⌜ r ≡ (eqb (m .into) d && isDirectory (viewOf h (now (image .entry))) (m .moved)) ⌝ }
 {

@@ -1,5 +1,6 @@
-// The rows of a rename behind the deciding one, put into a plan.
+// The rows of a rename that another operation or a recovery shares, put into a plan: all but the new entry.
 use crate::Move;
+use encode::journal::Journal;
 use layout::Shape;
 use layout::limits;
 use layout::limits::TEXT_BYTES;
@@ -9,13 +10,44 @@ ghost use mathlib.Core.Path.{_≡_};
 ghost use Prim.Native.Nat.{_+_, _<_, _≤_};
 ghost use lib.ListN.{length};
 ghost use Rattle.layout.specs.Facts.{Laid};
+ghost use Rattle.encode.specs.Journal.{journalBytes};
 ghost use Rattle.plan.specs.Form.{planRows, planBytes, rowPut};
 ghost use Rattle.plan.specs.Write.{rowFrom};
 ghost use Rattle.plan.specs.Filled.{Filled};
 ghost use Rattle.results.specs.Results.{movedRow, holderRow, alwaysRows, intoRows, replacedRows, results, clearRow};
 ghost use Rattle.results.specs.InImage.{InImage};
+ghost use Rattle.results.specs.Start.{journalFor, startRow};
 
-fn put_moved(plan: &mut [u8], at: usize, image: &[u8], h: Shape, m: Move)
+// The journal record of the move, of an operation of this kind.
+fn journal(kind: u8, m: Move) -> [u8; 32]
+    ensures { λ r. ⌜ r ≡ journalBytes (journalFor kind m) ⌝ }
+{
+    let j = Journal {
+        kind,
+        old: m.old,
+        new: m.new,
+        moved: m.moved,
+        replaced: m.replaced,
+        parent: m.from,
+        text: m.text,
+        time: m.now,
+    };
+    let mut r = [0u8; 32];
+    encode::journal::write(&mut r, j);
+    r
+}
+
+// The row that sets it, in the first place.
+pub fn put_start(plan: &mut [u8], kind: u8, image: &[u8], h: Shape, m: Move)
+    requires { ⌜ (planBytes ≤ length (now plan)) × Laid h (now image) ⌝ }
+    ensures { λ _. ⌜ now (plan .exit) ≡ rowPut (now (plan .entry)) 0 (rowFrom h (startRow kind m)) ⌝ }
+{
+    let r = journal(kind, m);
+    plan::put_row(plan, 0, plan::JOURNAL_GROUP, place::journal(h), &r);
+}
+
+// The moved inode.
+pub fn put_moved(plan: &mut [u8], at: usize, image: &[u8], h: Shape, m: Move)
     requires { ⌜ (planBytes ≤ length (now plan)) × (at < planRows) × Laid h (now image) × (m .moved < h .inodes) ⌝ }
     ensures { λ _. ⌜ now (plan .exit) ≡ rowPut (now (plan .entry)) at (rowFrom h (movedRow h (now (image .entry)) m)) ⌝ }
 {

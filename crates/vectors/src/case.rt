@@ -13,6 +13,7 @@ pub enum Job {
     Land,
     Rename,
     Groups,
+    Flags,
     Repair,
 }
 
@@ -23,6 +24,7 @@ fn planned(fd: i32, job: Job, image: &mut [u8], plan: &mut [u8], scratch: &mut [
         Job::Land => land::planned(fd, image, plan),
         Job::Rename => renames::buffered(fd, request::Job::Rename, image, plan),
         Job::Groups => renames::buffered(fd, request::Job::Groups, image, plan),
+        Job::Flags => renames::buffered(fd, request::Job::Flags, image, plan),
         Job::Repair => repairs::buffered(fd, image, plan, scratch),
     }
 }

@@ -35,6 +35,8 @@ const GROUPS_CASE: u8 = 7;
 
 const COMPARE_CASE: u8 = 8;
 
+const FLAGS_CASE: u8 = 9;
+
 // Reads the rest of an item, and answers it where it is a case.
 fn item(
     fd: i32,
@@ -67,6 +69,9 @@ fn item(
     }
     if tag == COMPARE_CASE {
         return compares::case(fd);
+    }
+    if tag == FLAGS_CASE {
+        return case::case(fd, Job::Flags, base, image, plan, scratch);
     }
     reader::complain(b"an item has an unknown tag");
     false
@@ -124,4 +129,5 @@ fn main() {
     run(b"portable");
     run(b"compare");
     run(b"crowded");
+    run(b"exchange");
 }

@@ -19,6 +19,7 @@ use Rattle.tree.specs.Tree.{entriesOf, childDirectories, reaches, textShared}
 use Rattle.consistency.specs.Sound.{textLinked, journalClear, bodiesGood}
 use Rattle.consistency.specs.Consistent.{consistent, recordsNumber, checkNumber}
 use Rattle.paths.specs.Request.{requestGood}
+use Rattle.paths.specs.Flags.{flagsGood}
 use Rattle.paths.specs.Groups.{credentialsOf, inFurther, inGroup}
 use Rattle.paths.specs.Portable.{isPortableByte, isPortable}
 use Rattle.paths.specs.Permission.{allows}
@@ -35,7 +36,8 @@ use Rattle.results.specs.Results.{entriesAfter, childrenAfter, linksAfter, move
 use Rattle.moves.specs.Plan.{moveOf, renameRows, planned}
 use Rattle.rename.specs.Order.{freeSlot, order}
 use Rattle.rename.specs.Job.{renamed, planAfter}
-use Rattle.drafts.specs.Draft.{renameFits, entryStands, intoGood, moveDraft, renameDraft, draft}
+use Rattle.drafts.specs.PendingRename.{renameFits, entryStands, intoGood, moveDraft, renameDraft}
+use Rattle.drafts.specs.Draft.{draft}
 use Rattle.recover.specs.Recover.{pendingRows}
 use Rattle.recover.specs.Job.{recovered}
 use Rattle.outcome.specs.Outcome.{finished}
@@ -96,7 +98,7 @@ pub taken-back : passed back
           ∷ [],
       bench,
     )
-unfolding bench any all first count part put store zeros noZero sameBytes numberAt bytesOf nameIs shapeOf layoutGood recordAt viewOf plainName isDots nameGood clash entriesOf childDirectories reaches textShared textLinked journalClear bodiesGood consistent recordsNumber checkNumber credentialsOf inFurther inGroup allows path.slashes path.untilSlash isPortableByte isPortable isNamed lookup requestGood walkStep walkFrom walk walksOf entryBytes journalOf journalFormed journalHead journalBytes rowAt headerOf rowPut rowsPut cleared noRow rowCount coversSection covers rowFits applicable applyNumber appliedImage movedBytes holderBytes replacedBytes entriesAfter childrenAfter linksAfter results stickyDenied hasEntries isOpened moveOf renameRows planned freeSlot order renamed planAfter renameFits entryStands intoGood moveDraft renameDraft draft pendingRows recovered finished
+unfolding bench any all first count part put store zeros noZero sameBytes numberAt bytesOf nameIs shapeOf layoutGood recordAt viewOf plainName isDots nameGood clash entriesOf childDirectories reaches textShared textLinked journalClear bodiesGood consistent recordsNumber checkNumber credentialsOf inFurther inGroup allows path.slashes path.untilSlash isPortableByte isPortable isNamed lookup requestGood flagsGood walkStep walkFrom walk walksOf entryBytes journalOf journalFormed journalHead journalBytes rowAt headerOf rowPut rowsPut cleared noRow rowCount coversSection covers rowFits applicable applyNumber appliedImage movedBytes holderBytes replacedBytes entriesAfter childrenAfter linksAfter results stickyDenied hasEntries isOpened moveOf renameRows planned freeSlot order renamed planAfter renameFits entryStands intoGood moveDraft renameDraft draft pendingRows recovered finished
 taken-back = refl
 
 -- once the new entry is applied, recovery has six rows, also the second time; they leave the finished image
@@ -120,5 +122,5 @@ pub carried-through : passed through
           ∷ [],
       finishedImage bench dirty owner /a/f /b/g,
     )
-unfolding bench any all first count part put store zeros noZero sameBytes numberAt bytesOf nameIs shapeOf layoutGood recordAt viewOf plainName isDots nameGood clash entriesOf childDirectories reaches textShared textLinked journalClear bodiesGood consistent recordsNumber checkNumber credentialsOf inFurther inGroup allows path.slashes path.untilSlash isPortableByte isPortable isNamed lookup requestGood walkStep walkFrom walk walksOf entryBytes journalOf journalFormed journalHead journalBytes rowAt headerOf rowPut rowsPut cleared noRow rowCount coversSection covers rowFits applicable applyNumber appliedImage movedBytes holderBytes replacedBytes entriesAfter childrenAfter linksAfter results stickyDenied hasEntries isOpened moveOf renameRows planned freeSlot order renamed planAfter renameFits entryStands intoGood moveDraft renameDraft draft pendingRows recovered finished
+unfolding bench any all first count part put store zeros noZero sameBytes numberAt bytesOf nameIs shapeOf layoutGood recordAt viewOf plainName isDots nameGood clash entriesOf childDirectories reaches textShared textLinked journalClear bodiesGood consistent recordsNumber checkNumber credentialsOf inFurther inGroup allows path.slashes path.untilSlash isPortableByte isPortable isNamed lookup requestGood flagsGood walkStep walkFrom walk walksOf entryBytes journalOf journalFormed journalHead journalBytes rowAt headerOf rowPut rowsPut cleared noRow rowCount coversSection covers rowFits applicable applyNumber appliedImage movedBytes holderBytes replacedBytes entriesAfter childrenAfter linksAfter results stickyDenied hasEntries isOpened moveOf renameRows planned freeSlot order renamed planAfter renameFits entryStands intoGood moveDraft renameDraft draft pendingRows recovered finished
 carried-through = refl

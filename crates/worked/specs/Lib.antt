@@ -1,1 +1,2 @@
 pub mod Crashed
+pub mod Exchanged

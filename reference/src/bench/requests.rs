@@ -57,5 +57,5 @@ fn paths(tree: &Tree) -> Vec<Vec<u8>> {
 
 fn request(old: &[u8], new: &[u8]) -> Request {
     let (old, new) = (Operand::new(CURRENT, old), Operand::new(CURRENT, new));
-    Request { who: Credentials::new(SUPERUSER, 0), current: 0, old, new }
+    Request { who: Credentials::new(SUPERUSER, 0), current: 0, flags: 0, old, new }
 }

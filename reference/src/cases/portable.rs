@@ -55,7 +55,7 @@ pub struct Asked {
 
 fn asked(class: &'static str, old: &[u8], new: &[u8], fate: Fate, steps: [u16; 2]) -> Asked {
     let (old, new) = (Operand::new(CURRENT, old), Operand::new(CURRENT, new));
-    let request = Request { who: Credentials::new(OWNER, GROUP), current: 0, old, new };
+    let request = Request { who: Credentials::new(OWNER, GROUP), current: 0, flags: 0, old, new };
     Asked { class, tree: names_tree(), request, fate, steps }
 }
 

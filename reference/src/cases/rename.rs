@@ -57,7 +57,7 @@ const CALLER: Credentials = Credentials::new(OWNER, GROUP);
 
 pub(super) fn request(old: &str, new: &str) -> Request {
     let operand = |path: &str| Operand::new(CURRENT, path.as_bytes());
-    Request { who: CALLER, current: 0, old: operand(old), new: operand(new) }
+    Request { who: CALLER, current: 0, flags: 0, old: operand(old), new: operand(new) }
 }
 
 pub(super) fn case(class: &'static str, tree: &Tree, request: Request, told: Told) -> RenameCase {

@@ -36,31 +36,31 @@ pub struct RepairCase {
 pub type RepairCases = Vec<RepairCase>;
 
 /// A little behind the time of the crash tree, so that an inode that was written differs in few bytes.
-const NOW: u64 = 103;
+pub(super) const NOW: u64 = 103;
 
 /// What stands for no inode or no text in a journal record.
-const NONE: u16 = 65_535;
+pub(super) const NONE: u16 = 65_535;
 
-fn told(class: &'static str, image: Vec<u8>, number: u8, rows: u8) -> RepairCase {
+pub(super) fn told(class: &'static str, image: Vec<u8>, number: u8, rows: u8) -> RepairCase {
     RepairCase { class, image, buffers: None, told: Some(Answer { number, rows }) }
 }
 
-fn repaired(class: &'static str, image: Vec<u8>, rows: u8) -> RepairCase {
+pub(super) fn repaired(class: &'static str, image: Vec<u8>, rows: u8) -> RepairCase {
     told(class, image, DONE, rows)
 }
 
-fn refused(class: &'static str, image: Vec<u8>) -> RepairCase {
+pub(super) fn refused(class: &'static str, image: Vec<u8>) -> RepairCase {
     told(class, image, NOT_REPAIRABLE, 0)
 }
 
 /// The model's answer stands.
-fn open(class: &'static str, image: Vec<u8>) -> RepairCase {
+pub(super) fn open(class: &'static str, image: Vec<u8>) -> RepairCase {
     RepairCase { class, image, buffers: None, told: None }
 }
 
 fn request(old: &str, new: &str) -> Request {
     let operand = |path: &str| Operand::new(CURRENT, path.as_bytes());
-    Request { who: Credentials::new(OWNER, OWNER), current: 0, old: operand(old), new: operand(new) }
+    Request { who: Credentials::new(OWNER, OWNER), current: 0, flags: 0, old: operand(old), new: operand(new) }
 }
 
 fn planned(tree: &Tree, old: &str, new: &str) -> PlannedRename {
@@ -74,17 +74,17 @@ fn kinds() -> [PlannedRename; 4] {
         .map(|(old, new)| planned(&tree, old, new))
 }
 
-fn layout(image: &[u8]) -> Layout {
+pub(super) fn layout(image: &[u8]) -> Layout {
     Layout::read(image).expect("the layout is right")
 }
 
-fn journal_at(image: &[u8]) -> usize {
+pub(super) fn journal_at(image: &[u8]) -> usize {
     layout(image).offsets[JOURNAL]
 }
 
 /// The six numbers of a journal record, in their order.
 #[derive(Clone, Copy, PartialEq, Eq)]
-enum Number {
+pub(super) enum Number {
     OldSlot,
     NewSlot,
     Moved,
@@ -94,19 +94,19 @@ enum Number {
 }
 
 impl Number {
-    const ALL: [Number; 6] =
+    pub(super) const ALL: [Number; 6] =
         [Number::OldSlot, Number::NewSlot, Number::Moved, Number::Replaced, Number::OldParent, Number::Text];
 
     fn place(self, image: &[u8]) -> usize {
         journal_at(image) + 2 + 2 * self as usize
     }
 
-    fn of(self, image: &[u8]) -> u16 {
+    pub(super) fn of(self, image: &[u8]) -> u16 {
         let at = self.place(image);
         u16::from_le_bytes([image[at], image[at + 1]])
     }
 
-    fn set(self, image: &[u8], value: u16) -> Vec<u8> {
+    pub(super) fn set(self, image: &[u8], value: u16) -> Vec<u8> {
         let mut image = image.to_vec();
         let at = self.place(&image);
         put_u16(&mut image, at, value.into());

@@ -36,7 +36,7 @@ pub type WalkCases = Vec<WalkCase>;
 
 /// The walk tree's owner, in root.
 fn request(old: Operand, new: Operand) -> Request {
-    Request { who: Credentials::new(OWNER, GROUP), current: 0, old, new }
+    Request { who: Credentials::new(OWNER, GROUP), current: 0, flags: 0, old, new }
 }
 
 fn from_current(path: &[u8]) -> Operand {

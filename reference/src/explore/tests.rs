@@ -1,6 +1,8 @@
 //! Every rename of small trees, and some of large ones, survives every crash.
 
+mod exchanges;
 mod wrong;
+mod wrong_exchanges;
 
 use super::*;
 use crate::cases::random::Random;
@@ -24,7 +26,7 @@ const NOW: u64 = 103;
 
 fn request(old: &str, new: &str) -> Request {
     let operand = |path: &str| Operand::new(CURRENT, path.as_bytes());
-    Request { who: Credentials::new(OWNER, OWNER), current: 0, old: operand(old), new: operand(new) }
+    Request { who: Credentials::new(OWNER, OWNER), current: 0, flags: 0, old: operand(old), new: operand(new) }
 }
 
 fn planned(tree: &Tree, old: &str, new: &str) -> PlannedRename {
@@ -115,7 +117,7 @@ fn renames_on_full_images_survive_every_crash() {
         let any = || {
             let (old, new) =
                 (random_renames::straight(&tree, false, random), random_renames::straight(&tree, false, random));
-            let request = Request { who: Credentials::new(SUPERUSER, 0), current: 0, old, new };
+            let request = Request { who: Credentials::new(SUPERUSER, 0), current: 0, flags: 0, old, new };
             PlannedRename::new(&image, &request, NOW)
         };
         explore_all("full", std::iter::repeat_with(any).flatten().take(3));

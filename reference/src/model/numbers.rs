@@ -9,6 +9,7 @@ pub const ENOENT: u8 = 2;
 pub const EBADF: u8 = 9;
 pub const EACCES: u8 = 13;
 pub const EBUSY: u8 = 16;
+pub const EEXIST: u8 = 17;
 pub const EXDEV: u8 = 18;
 pub const ENOTDIR: u8 = 20;
 pub const EISDIR: u8 = 21;

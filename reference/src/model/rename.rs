@@ -1,6 +1,7 @@
-//! Renaming: a request is refused, or planned as rows that carry it out once they have landed.
+//! Renaming, and exchanging two names: a request is refused, or planned as rows that carry it out once they have landed.
 
 pub mod call;
+mod exchange;
 pub mod finished;
 pub mod order;
 pub mod parts;

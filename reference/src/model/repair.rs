@@ -1,6 +1,7 @@
-//! Repair: after a crash, a rename whose new name has landed is carried to its end, and any other is taken back (rules
-//! 102 to 111).
+//! Repair: after a crash, a rename whose new name has landed is carried to its end, and any other is taken back; an
+//! exchange is carried to its end (rules 102 to 111).
 
+mod exchange;
 mod journal;
 mod redo;
 
@@ -10,7 +11,7 @@ use super::layout::{Layout, JOURNAL};
 use super::numbers::{BUFFER_TOO_SHORT, DONE, INCONSISTENT, NOT_REPAIRABLE};
 use super::plan::PLAN_LEN;
 use super::refusal::Refusal;
-use journal::Journal;
+use journal::Record;
 use redo::Redo;
 
 const SHORT_PLAN: Refusal = Refusal::new(102, "short plan", BUFFER_TOO_SHORT);
@@ -76,11 +77,16 @@ fn recovered(bytes: &[u8], plan_len: usize, scratch_len: usize) -> Result<Redo, 
     }
 }
 
-/// What the journal record asks for. Where the new name has not landed, that is only to clear the record (rule 107).
+/// What the journal record asks for. Where the new name of a rename has not landed, that is only to clear the record
+/// (rule 107).
 fn with_journal(image: &Image, mut redo: Redo) -> Result<Redo, Refusal> {
-    let journal = Journal::read(image, &redo.layout)?;
-    if let Some(new_parent) = journal.new_parent(image)? {
-        redo.finish(&journal, new_parent);
+    match Record::read(image, &redo.layout)? {
+        Record::Rename(journal) => {
+            if let Some(new_parent) = journal.new_parent(image)? {
+                redo.finish(&journal, new_parent);
+            }
+        }
+        Record::Exchange(exchange) => redo.finish_exchange(&exchange, exchange.new_parent(image)),
     }
     redo.clear(redo::JOURNAL_LAST, JOURNAL, 0);
     Ok(redo)

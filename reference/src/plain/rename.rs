@@ -16,6 +16,7 @@ use crate::model::walk::Role;
 type Record = [u8; 32];
 
 /// Answers for any bytes (rule 78). The plan changes only where the number is 0, and then in its first 648 bytes alone.
+/// The request's flags are not looked at.
 pub fn rename(bytes: &[u8], request: &Request, now: u64, plan: &mut [u8]) -> Answer {
     let mut steps = [0, 0];
     let (number, rows) = match planned(bytes, request, now, plan, &mut steps) {

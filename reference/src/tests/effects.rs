@@ -1,6 +1,6 @@
 //! What the cases of landing, rename and repair leave in images and buffers.
 
-use super::made::{all_renames, LANDINGS, RENAMES, REPAIRS};
+use super::made::{all_renames, all_repairs, renames_with_flags, LANDINGS, RENAMES, REPAIRS};
 use crate::cases::random::Random;
 use crate::cases::{rename::part as rename_part, repair::part as repair_part};
 use crate::model::check::check;
@@ -51,7 +51,7 @@ fn every_shape_of_a_rename_is_planned() {
 
 #[test]
 fn renames_change_buffers_in_their_plan_alone_and_only_at_0() {
-    for renaming in all_renames() {
+    for renaming in all_renames().chain(renames_with_flags()) {
         let before = renaming.buffer.bytes();
         let mut plan = before.clone();
         let number = rename(&renaming.image, &renaming.request, renaming.now, &mut plan).number;
@@ -63,7 +63,7 @@ fn renames_change_buffers_in_their_plan_alone_and_only_at_0() {
 #[test]
 fn whole_plans_of_renames_lead_to_the_finished_image() {
     let random = &mut Random::new(10);
-    for Renaming { image, buffer, request, now } in all_renames() {
+    for Renaming { image, buffer, request, now } in all_renames().chain(renames_with_flags()) {
         let mut plan = buffer.bytes();
         let answer = rename(image, request, *now, &mut plan);
         if answer.number != DONE {
@@ -91,7 +91,7 @@ fn every_number_of_rows_is_planned_by_repair() {
 
 #[test]
 fn repairs_change_buffers_only_where_they_may() {
-    for Repairing { image, plan, scratch } in &REPAIRS.cases {
+    for Repairing { image, plan, scratch } in all_repairs() {
         let (mut plan_after, mut scratch_after) = (plan.bytes(), scratch.bytes());
         let number = repair(image, &mut plan_after, &mut scratch_after).number;
         let (of_plan, of_scratch) = match number {
@@ -110,7 +110,7 @@ fn repairs_change_buffers_only_where_they_may() {
 
 #[test]
 fn whole_plans_of_repairs_lead_to_the_image_that_is_shown() {
-    for Repairing { image, plan, scratch } in &REPAIRS.cases {
+    for Repairing { image, plan, scratch } in all_repairs() {
         let (mut plan, mut scratch) = (plan.bytes(), scratch.bytes());
         let Answer { number, rows } = repair(image, &mut plan, &mut scratch);
         if number != DONE {

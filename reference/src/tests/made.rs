@@ -1,6 +1,8 @@
 //! The cases of every part, made once for all the tests and read back as a program of the proved library reads them.
 
-use crate::cases::{check, compare, crowded, groups, land, links, portable, rename, repair, sticky, walk, Collection};
+use crate::cases::{
+    check, compare, crowded, exchange, groups, land, links, portable, rename, repair, sticky, walk, Collection,
+};
 use crate::vectors::{read, Case, Comparing, Landing, Renaming, Repairing, Walking};
 use std::sync::LazyLock;
 
@@ -73,6 +75,8 @@ pub static THROUGH_SYMLINKS: LazyLock<Made<Case>> = LazyLock::new(|| made(links:
 
 pub static PORTABLE_NAMES: LazyLock<Made<Case>> = LazyLock::new(|| made(portable::part::all, Some));
 
+pub static WITH_FLAGS: LazyLock<Made<Case>> = LazyLock::new(|| made(exchange::part::all, Some));
+
 pub static COMPARES: LazyLock<Made<Comparing>> = LazyLock::new(|| {
     made(compare::part::all, |case| match case {
         Case::Compare(names) => Some(names),
@@ -93,6 +97,15 @@ impl Made<Case> {
     pub fn renames(&self) -> impl Iterator<Item = (&Renaming, &String)> {
         self.cases.iter().zip(&self.collection.lines).filter_map(|(case, line)| match case {
             Case::Rename(renaming) | Case::RenameWithGroups(renaming) => Some((renaming, line)),
+            Case::RenameWithFlags(renaming) => Some((renaming, line)),
+            _ => None,
+        })
+    }
+
+    /// Its repairs with their lines.
+    pub fn repairs(&self) -> impl Iterator<Item = (&Repairing, &String)> {
+        self.cases.iter().zip(&self.collection.lines).filter_map(|(case, line)| match case {
+            Case::Repair(repairing) => Some((repairing, line)),
             _ => None,
         })
     }
@@ -104,7 +117,7 @@ const MIXED_PARTS: [&LazyLock<Made<Case>>; 2] = [&THROUGH_SYMLINKS, &PORTABLE_NA
 /// The parts that have renames alone.
 const PARTS_OF_RENAMES: [&LazyLock<Made<Renaming>>; 3] = [&RENAMES, &RENAMES_WITH_GROUPS, &STICKY_RENAMES];
 
-/// The renames of every part.
+/// The renames without flags of every part.
 pub fn all_renames() -> impl Iterator<Item = &'static Renaming> {
     let mixed = MIXED_PARTS.into_iter().flat_map(|made| made.renames().map(|(renaming, _)| renaming));
     PARTS_OF_RENAMES.into_iter().flat_map(|made| &made.cases).chain(mixed)
@@ -114,6 +127,16 @@ pub fn all_renames() -> impl Iterator<Item = &'static Renaming> {
 pub fn all_rename_lines() -> impl Iterator<Item = &'static String> {
     let mixed = MIXED_PARTS.into_iter().flat_map(|made| made.renames().map(|(_, line)| line));
     PARTS_OF_RENAMES.into_iter().flat_map(|made| &made.collection.lines).chain(mixed)
+}
+
+/// The renames with flags, which one part has.
+pub fn renames_with_flags() -> impl Iterator<Item = &'static Renaming> {
+    WITH_FLAGS.renames().map(|(renaming, _)| renaming)
+}
+
+/// The repairs of every part.
+pub fn all_repairs() -> impl Iterator<Item = &'static Repairing> {
+    REPAIRS.cases.iter().chain(WITH_FLAGS.repairs().map(|(repairing, _)| repairing))
 }
 
 /// The walks of every part.

@@ -1,6 +1,7 @@
 //! The model's jobs on small trees and on any bytes.
 
 mod check;
+mod exchange;
 mod finished;
 mod land;
 mod rename;
@@ -36,7 +37,9 @@ fn the_model_knows_nothing_of_the_cases() {
 
 /// A line that names a rule has its number behind the word, or in the table of a job's rules or refusals.
 fn names_a_rule(line: &str) -> bool {
-    ["ule ", "ules ", "rule(", "step(", "unfit(", "Refusal::new("].iter().any(|sign| line.contains(sign))
+    ["ule ", "ules ", "rule(", "step(", "of_a_rename(", "unfit(", "Refusal::new("]
+        .iter()
+        .any(|sign| line.contains(sign))
 }
 
 /// Rules 112 and on are about crashes, of which the explorer makes every one.

@@ -1,6 +1,7 @@
 //! Portable names (rule 53a): every byte on its side, the rule's place in the order, and what it leaves alone.
 
 use super::made::{all_rename_lines, all_renames, PORTABLE_NAMES};
+use super::rules::order::steps_of;
 use crate::cases::rename::part::answer;
 use crate::cases::stand_in::with_stand_in;
 use crate::cases::trees::for_names::{names_tree, THREE};
@@ -11,7 +12,7 @@ use crate::model::numbers::{DONE, EACCES, EINVAL, ENAMETOOLONG, ENOENT, ENOTDIR,
 use crate::model::permission::{Credentials, SUPERUSER};
 use crate::model::refusal::Rule;
 use crate::model::rename::call::Call;
-use crate::model::rename::order::{self, Test, ORDER};
+use crate::model::rename::order;
 use crate::model::request::{Operand, Request, CURRENT};
 use crate::model::walk::{is_portable, walk, walk_both, Role, REFUSALS};
 use crate::vectors::Renaming;
@@ -32,7 +33,7 @@ fn every_byte_is_on_its_side() {
 
 fn request(new: &[u8]) -> Request {
     let operand = |path: &[u8]| Operand::new(CURRENT, path);
-    Request { who: Credentials::new(100, 50), current: 0, old: operand(b"/p/f"), new: operand(new) }
+    Request { who: Credentials::new(100, 50), current: 0, flags: 0, old: operand(b"/p/f"), new: operand(new) }
 }
 
 /// Each byte that a name may have, first and last, where the name is missing and where it exists; and in old, which is
@@ -119,10 +120,7 @@ fn is_refused_for_its_name(renaming: &Renaming) -> bool {
 fn the_name_comes_ahead_of_all_that_is_behind_it() {
     let refused = PORTABLE_NAMES.renames().filter(|(renaming, _)| is_refused_for_its_name(renaming));
     let behind: BTreeSet<_> = refused.map(|(renaming, _)| first(&with_portable_name(renaming))).collect();
-    let steps = ORDER.iter().filter_map(|(_, test)| match test {
-        Test::Parts(refusal, _) => Some(Some((refusal.rule, refusal.clause))),
-        Test::Call(_) => None,
-    });
+    let steps = steps_of(false).map(|(_, refusal)| Some((refusal.rule, refusal.clause)));
     let slash = REFUSALS.iter().find(|refusal| refusal.rule == Rule::new(60)).expect("rule 60 refuses");
     let expected: BTreeSet<_> = steps.chain([None, Some((slash.rule, slash.clause))]).collect();
     assert_eq!(behind, expected);

@@ -38,7 +38,7 @@ fn with_the_new_side() -> Vec<Vec<&'static str>> {
 #[test]
 fn the_new_side_stands_between_the_old_one_and_step_7() {
     let rule = |test: &Test| match test {
-        Test::Parts(refusal, _) => Some(format!("{:?}", refusal.rule)),
+        Test::Parts(refusal, ..) => Some(format!("{:?}", refusal.rule)),
         Test::Call(_) => None,
     };
     let rules: Vec<String> = ORDER.iter().filter_map(|(_, test)| rule(test)).collect();

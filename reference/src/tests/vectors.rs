@@ -2,14 +2,14 @@
 
 use super::made::{
     Made, CHECKS, COMPARES, CROWDED, LANDINGS, PORTABLE_NAMES, RENAMES, RENAMES_WITH_GROUPS, REPAIRS, STICKY_RENAMES,
-    THROUGH_SYMLINKS, WALKS,
+    THROUGH_SYMLINKS, WALKS, WITH_FLAGS,
 };
 use crate::cases::{compare, land, rename, repair, walk, Collection, PARTS};
 use crate::model::check::check;
 use crate::model::compare::compare as compared;
 
 /// Every part by its name, in the order of the answers.
-fn collections() -> [(&'static str, &'static Collection); 11] {
+fn collections() -> [(&'static str, &'static Collection); 12] {
     [
         ("check", &CHECKS.collection),
         ("land", &LANDINGS.collection),
@@ -22,6 +22,7 @@ fn collections() -> [(&'static str, &'static Collection); 11] {
         ("portable", &PORTABLE_NAMES.collection),
         ("compare", &COMPARES.collection),
         ("crowded", &CROWDED.collection),
+        ("exchange", &WITH_FLAGS.collection),
     ]
 }
 
@@ -105,4 +106,12 @@ fn the_stored_walks_and_renames_of_one_part_have_the_stored_answers() {
         made.renames().for_each(|(renaming, line)| assert_eq!(rename::part::answer(renaming).1, *line));
         assert_eq!(made.walks().count() + made.renames().count(), made.collection.lines.len());
     }
+}
+
+#[test]
+fn the_stored_renames_with_flags_and_repairs_have_the_stored_answers() {
+    let made = &WITH_FLAGS;
+    made.renames().for_each(|(renaming, line)| assert_eq!(rename::part::answer(renaming).1, *line));
+    made.repairs().for_each(|(repairing, line)| assert_eq!(repair::part::answer(repairing).1, *line));
+    assert_eq!(made.renames().count() + made.repairs().count(), made.collection.lines.len());
 }

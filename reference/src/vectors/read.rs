@@ -1,7 +1,7 @@
 //! Reads a file of test vectors back, strictly.
 
 use super::{Buffer, Case, Comparing, Landing, Renaming, Repairing, Scratch, Walking};
-use super::{BASE, CHECK, COMPARE, LAND, RENAME, RENAME_WITH_GROUPS, REPAIR, WALK};
+use super::{BASE, CHECK, COMPARE, LAND, RENAME, RENAME_WITH_FLAGS, RENAME_WITH_GROUPS, REPAIR, WALK};
 use super::{LONGEST_BASE, LONGEST_CASE, LONGEST_PATH, LONGEST_PLAN, LONGEST_SCRATCH, MOST_EDITS, MOST_GROUPS};
 use crate::model::permission::Credentials;
 use crate::model::request::{Operand, Request};
@@ -20,9 +20,12 @@ pub fn read(data: &[u8]) -> Option<Vec<Case>> {
             CHECK => cases.push(Case::Check(reader.image(&base)?)),
             WALK => cases.push(Case::Walk(reader.walking(&base)?)),
             LAND => cases.push(Case::Land(reader.landing(&base)?)),
-            RENAME => cases.push(Case::Rename(reader.renaming(&base, Reader::no_groups)?)),
+            RENAME => cases.push(Case::Rename(reader.renaming(&base, Reader::nothing_more)?)),
             REPAIR => cases.push(Case::Repair(reader.repairing(&base)?)),
             RENAME_WITH_GROUPS => cases.push(Case::RenameWithGroups(reader.renaming(&base, Reader::groups)?)),
+            RENAME_WITH_FLAGS => {
+                cases.push(Case::RenameWithFlags(reader.renaming(&base, Reader::flags_and_groups)?));
+            }
             COMPARE => cases.push(Case::Compare(reader.comparing()?)),
             _ => return None,
         }
@@ -86,24 +89,31 @@ impl<'a> Reader<'a> {
         Some(Walking { image, request })
     }
 
-    /// The two kinds of rename cases differ in how the groups are told.
-    fn renaming(&mut self, base: &[u8], groups: fn(&mut Self) -> Option<Vec<u32>>) -> Option<Renaming> {
+    /// The kinds of rename cases differ in what they tell behind the time.
+    fn renaming(&mut self, base: &[u8], more: fn(&mut Self, &mut Request) -> Option<()>) -> Option<Renaming> {
         let image = self.image(base)?;
         let buffer = self.buffer()?;
         let mut request = self.caller()?;
         let now = self.u64()?;
-        request.who.further = groups(self)?;
+        more(self, &mut request)?;
         let request = self.paths(request)?;
         Some(Renaming { image, buffer, request, now })
     }
 
-    fn no_groups(&mut self) -> Option<Vec<u32>> {
-        Some(vec![])
+    fn nothing_more(&mut self, _: &mut Request) -> Option<()> {
+        Some(())
     }
 
-    fn groups(&mut self) -> Option<Vec<u32>> {
+    fn groups(&mut self, request: &mut Request) -> Option<()> {
         let count = usize::from(self.u16()?);
-        (count <= MOST_GROUPS).then(|| (0..count).map(|_| self.u32()).collect())?
+        let listed: Option<Vec<u32>> = (count <= MOST_GROUPS).then(|| (0..count).map(|_| self.u32()).collect())?;
+        request.who.further = listed?;
+        Some(())
+    }
+
+    fn flags_and_groups(&mut self, request: &mut Request) -> Option<()> {
+        request.flags = self.u32()?;
+        self.groups(request)
     }
 
     fn repairing(&mut self, base: &[u8]) -> Option<Repairing> {
@@ -128,7 +138,7 @@ impl<'a> Reader<'a> {
         let who = Credentials::new(self.u32()?, self.u32()?);
         let current = self.u16()?;
         let (old, new) = (Operand::new(self.u8()?, b""), Operand::new(self.u8()?, b""));
-        Some(Request { who, current, old, new })
+        Some(Request { who, current, flags: 0, old, new })
     }
 
     fn paths(&mut self, mut request: Request) -> Option<Request> {

@@ -65,7 +65,7 @@ fn attempt(maze: &Maze, random: &mut Random) -> Attempt {
     let current = *random.pick(&directories);
     let who = Credentials::new(*random.pick(&USERS), *random.pick(&GROUPS));
     let (old, new) = (operand(maze, current, random), operand(maze, current, random));
-    (tree, Request { who, current, old, new })
+    (tree, Request { who, current, flags: 0, old, new })
 }
 
 /// Whether old's walk leads through many symlinks, or a whole one of old's is followed by such a one of new's.

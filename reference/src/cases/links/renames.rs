@@ -57,7 +57,8 @@ fn told(ways: [&Way; 2], symlinks: [usize; 2], rests: [Rest; 2], rows: u8) -> To
 
 fn case(class: &'static str, [old, new]: [Vec<u8>; 2], told: Told) -> RenameCase {
     let operand = |path: Vec<u8>| Operand { start: CURRENT, path };
-    let request = Request { who: Credentials::new(OWNER, GROUP), current: 0, old: operand(old), new: operand(new) };
+    let request =
+        Request { who: Credentials::new(OWNER, GROUP), current: 0, flags: 0, old: operand(old), new: operand(new) };
     RenameCase { class, image: link_tree().encode(), buffer: None, request, now: NOW, told: Some(told) }
 }
 

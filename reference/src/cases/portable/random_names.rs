@@ -69,7 +69,7 @@ fn attempt(tree: &Tree, random: &mut Random) -> RenameCase {
         new.path = with_name(&new.path, &any_name(random));
     }
     let who = Credentials::new(*random.pick(&USERS), *random.pick(&GROUPS));
-    let request = Request { who, current, old, new };
+    let request = Request { who, current, flags: 0, old, new };
     RenameCase { class: "random renames", image: tree.encode(), buffer: None, request, now: NOW, told: None }
 }
 

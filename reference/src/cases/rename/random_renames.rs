@@ -78,7 +78,7 @@ fn attempt(tree: &Tree, random: &mut Random) -> RenameCase {
     let fresh = random.one_in(3);
     let new = if random.one_in(3) { operand(&tree, current, 9, random) } else { straight(&tree, fresh, random) };
     let who = Credentials::new(*random.pick(&USERS), *random.pick(&[0, 50, 60, 300]));
-    let request = Request { who, current, old, new };
+    let request = Request { who, current, flags: 0, old, new };
     RenameCase { class: "random renames", image: tree.encode(), buffer: None, request, now: time(random), told: None }
 }
 

@@ -116,11 +116,11 @@ impl Scene {
         }
     }
 
-    fn moves_a_directory(&self) -> bool {
+    pub fn moves_a_directory(&self) -> bool {
         matches!(self.moved, Directory | Parent | Mount)
     }
 
-    fn replaces_a_directory(&self) -> bool {
+    pub fn replaces_a_directory(&self) -> bool {
         matches!(self.replaced, Empty | Full | MountPoint) || self.is_one_inode() && self.moves_a_directory()
     }
 
@@ -196,7 +196,7 @@ impl Scene {
     }
 
     /// The new side of step 6: the sticky directory is into as well, and holds replaced.
-    fn into_is_sticky(&self) -> bool {
+    pub fn into_is_sticky(&self) -> bool {
         let owns_replaced = self.is_one_inode() && self.owned[0];
         let kept = self.caller == Caller::Other && !owns_replaced && !self.owned[1];
         self.sticky && self.place == SameParent && self.replaced != Nothing && kept

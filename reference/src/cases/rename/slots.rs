@@ -77,7 +77,7 @@ pub fn in_a_full_tree(tree: &Tree, random: &mut Random) -> RenameCases {
 fn to_a_free_name(tree: &Tree, random: &mut Random) -> RenameCase {
     let any = || {
         let (old, new) = (straight(tree, false, random), straight(tree, true, random));
-        let request = Request { who: Credentials::new(SUPERUSER, 0), current: 0, old, new };
+        let request = Request { who: Credentials::new(SUPERUSER, 0), current: 0, flags: 0, old, new };
         RenameCase { class: CLASS, image: tree.encode(), buffer: None, request, now: NOW, told: None }
     };
     std::iter::repeat_with(any).find(|case| stopped_by(case).is_none()).expect("some rename is not refused")

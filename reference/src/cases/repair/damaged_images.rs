@@ -101,12 +101,16 @@ pub fn by_chance(count: usize, random: &mut Random) -> RepairCases {
         let rest = 2..usize::from(planned.rows);
         let ways = [vec![0], vec![0, 1], vec![0, 1, 2, 4], [0, 1].into_iter().chain(rest).collect()];
         for way in ways {
-            let bytes = planned.after(way);
-            let subject = Subject { tree: crash_tree(), layout: layout(&bytes), bytes };
-            cases.extend((0..count).map(|turn| open("random bytes", changed(&subject, turn, random))));
+            cases.extend(changed_by_chance(planned.after(way), count, random));
         }
     }
     cases
+}
+
+/// So many images that differ from this one by chance.
+pub fn changed_by_chance(bytes: Vec<u8>, count: usize, random: &mut Random) -> RepairCases {
+    let subject = Subject { tree: crash_tree(), layout: layout(&bytes), bytes };
+    (0..count).map(|turn| open("random bytes", changed(&subject, turn, random))).collect()
 }
 
 fn changed(subject: &Subject, turn: usize, random: &mut Random) -> Vec<u8> {

@@ -20,7 +20,7 @@ pub fn any_rename(tree: &Tree, random: &mut Random) -> PlannedRename {
     let image = tree.encode();
     let any = || {
         let (old, new) = (straight(tree, false, random), straight(tree, false, random));
-        let request = Request { who: Credentials::new(SUPERUSER, 0), current: 0, old, new };
+        let request = Request { who: Credentials::new(SUPERUSER, 0), current: 0, flags: 0, old, new };
         planned_as_before(&image, &request)
     };
     let is_near = |planned: &PlannedRename| edits(&planned.after([0]), &planned.before).is_some();
@@ -33,7 +33,7 @@ fn planned_as_before(image: &[u8], request: &Request) -> Option<PlannedRename> {
     let (other, other_request) = with_stand_in(image, request);
     let mut planned = PlannedRename::new(&other, &other_request, 1)?;
     let name = final_name(&request.new.path)?;
-    let name_at = usize::from(Row::read(&planned.plan, planned.new_entry).body) + 8;
+    let name_at = usize::from(Row::read(&planned.plan, planned.deciding).body) + 8;
     planned.plan[name_at..name_at + name.len()].copy_from_slice(name);
     planned.before = image.to_vec();
     planned.finished = planned.after(0..planned.rows.into());

@@ -1,6 +1,6 @@
 //! Journal records out of their form: another mark, or a byte that should be zero.
 
-use super::{journal_at, kinds, refused, RepairCases};
+use super::{journal_at, kinds, refused, repaired, RepairCases};
 use crate::explore::PlannedRename;
 
 const CLASS: &str = "form of the journal record";
@@ -10,7 +10,7 @@ const MARKS: [u8; 6] = [0, 2, 3, 128, 129, 255];
 /// Where the record asks for zeros, but for the byte behind the mark.
 const ZEROS: [usize; 10] = [14, 15, 24, 25, 26, 27, 28, 29, 30, 31];
 
-fn with_byte(image: &[u8], at: usize, value: u8) -> Vec<u8> {
+pub fn with_byte(image: &[u8], at: usize, value: u8) -> Vec<u8> {
     let mut image = image.to_vec();
     let journal = journal_at(&image);
     image[journal + at] = value;
@@ -29,10 +29,18 @@ fn of_image(image: &[u8]) -> RepairCases {
     changes.map(|(at, value)| refused(CLASS, with_byte(image, at, value))).collect()
 }
 
-/// Every value of the byte behind the mark.
+/// The kind of an exchange. A rename that frees no text writes a record that fits as an exchange's too.
+const EXCHANGE: u8 = 7;
+
+/// Every value of the byte behind the mark. Taken for an exchange, the rename has both entries, both inodes and both
+/// parents to write.
 fn second_bytes(planned: &PlannedRename) -> RepairCases {
     let image = planned.after([0, 1]);
-    (1..=255).map(|value| refused(CLASS, with_byte(&image, 1, value))).collect()
+    let answered = |value: u8| match value {
+        EXCHANGE => repaired(CLASS, with_byte(&image, 1, value), 7),
+        _ => refused(CLASS, with_byte(&image, 1, value)),
+    };
+    (1..=255).map(answered).collect()
 }
 
 /// One byte alone in a record that is clear otherwise: without two different slots no mark is enough.

@@ -10,7 +10,7 @@ const RANGE: &str = "numbers out of range";
 const EQUAL: &str = "numbers that do not go together";
 const OTHERS: &str = "other numbers in range";
 
-fn section(number: Number) -> usize {
+pub(in crate::cases) fn section(number: Number) -> usize {
     match number {
         Number::OldSlot | Number::NewSlot => ENTRIES,
         Number::Moved | Number::Replaced | Number::OldParent => INODES,

@@ -55,7 +55,7 @@ pub fn all() -> Collection {
 
 impl Collection {
     /// Cases on images some of which are near one. Where a case asks for no buffers, some take turns.
-    fn add_repairs(&mut self, home: &[u8], cases: RepairCases) {
+    pub fn add_repairs(&mut self, home: &[u8], cases: RepairCases) {
         for case in cases {
             let turn = self.lines.len();
             let plan = Buffer { len: PLANS[turn % PLANS.len()], fill: (37 * turn) as u8 };

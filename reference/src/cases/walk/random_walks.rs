@@ -128,7 +128,7 @@ fn case(tree: &Tree, random: &mut Random) -> WalkCase {
         tree.inodes[usize::from(*random.pick(&directories))].mode = *random.pick(&MODES);
     }
     let who = Credentials::new(*random.pick(&USERS), *random.pick(&GROUPS));
-    WalkCase { class: CLASS, tree, request: Request { who, current, old, new }, told: None }
+    WalkCase { class: CLASS, tree, request: Request { who, current, flags: 0, old, new }, told: None }
 }
 
 fn is_short(case: &WalkCase) -> bool {

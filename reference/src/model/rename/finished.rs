@@ -1,9 +1,9 @@
-//! The image that a rename is to lead to, made from the one before without a plan (rules 88 to 93).
+//! The image that a rename or an exchange is to lead to, made from the one before without a plan (rules 88 to 93a).
 
 use crate::model::image::{Image, DIRECTORY, FREE, SYMLINK};
 use crate::model::layout::{Layout, ENTRIES, INODES, SECTIONS, TEXTS};
-use crate::model::request::Request;
-use crate::model::walk::{walk_both, Existing};
+use crate::model::request::{Request, EXCHANGE};
+use crate::model::walk::{walk_both, Existing, Found};
 
 const RECORD_LEN: usize = 32;
 
@@ -13,7 +13,8 @@ struct Draft {
     layout: Layout,
 }
 
-/// The whole image after a rename that is not refused; nothing where a walk is. Two names of one inode both stay.
+/// The whole image after a call that is not refused; nothing where a walk is, or where an exchange has nothing to take.
+/// Two names of one inode both stay.
 pub fn finished(before: &[u8], request: &Request, now: u64) -> Option<Vec<u8>> {
     let layout = Layout::read(before)?;
     let [old, new] = walk_both(&Image::read(before)?, request).found?;
@@ -22,28 +23,50 @@ pub fn finished(before: &[u8], request: &Request, now: u64) -> Option<Vec<u8>> {
         return Some(before.to_vec());
     }
     let mut draft = Draft { bytes: before.to_vec(), layout };
-    let slot = match new.existing {
-        Some(replaced) => replaced.slot.into(),
-        None => draft.lowest_free_slot()?,
-    };
-    draft.name(slot, new.directory, moved.inode, &new.name);
-    draft.clear(ENTRIES, moved.slot.into());
-    draft.put(moved.inode, 24, &now.to_le_bytes());
-    if draft.kind(moved.inode) == DIRECTORY {
-        draft.put(moved.inode, 14, &new.directory.to_le_bytes());
+    match request.flags {
+        EXCHANGE => draft.exchange(moved, new.existing?, [old.directory, new.directory], now),
+        _ => draft.rename(moved, &new, now)?,
     }
     for directory in [old.directory, new.directory] {
         draft.put(directory, 16, &now.to_le_bytes());
         draft.put(directory, 24, &now.to_le_bytes());
-    }
-    if let Some(replaced) = new.existing {
-        draft.take_name_from(replaced, now);
     }
     draft.recount();
     Some(draft.bytes)
 }
 
 impl Draft {
+    /// All of a rename but the parents' times and the counts; nothing where there is no slot for the new name.
+    fn rename(&mut self, moved: Existing, new: &Found, now: u64) -> Option<()> {
+        let slot = match new.existing {
+            Some(replaced) => replaced.slot.into(),
+            None => self.lowest_free_slot()?,
+        };
+        self.name(slot, new.directory, moved.inode, &new.name);
+        self.clear(ENTRIES, moved.slot.into());
+        self.enter(moved.inode, new.directory, now);
+        if let Some(replaced) = new.existing {
+            self.take_name_from(replaced, now);
+        }
+        Some(())
+    }
+
+    /// Rule 93a, but for the parents' times and the counts: each of the two goes where the other was.
+    fn exchange(&mut self, one: Existing, other: Existing, [from, into]: [u16; 2], now: u64) {
+        self.record(ENTRIES, one.slot.into(), RECORD_LEN)[2..4].copy_from_slice(&other.inode.to_le_bytes());
+        self.record(ENTRIES, other.slot.into(), RECORD_LEN)[2..4].copy_from_slice(&one.inode.to_le_bytes());
+        self.enter(one.inode, into, now);
+        self.enter(other.inode, from, now);
+    }
+
+    /// Rules 89 and 89a: an inode comes into a directory, or stays in it.
+    fn enter(&mut self, inode: u16, into: u16, now: u64) {
+        self.put(inode, 24, &now.to_le_bytes());
+        if self.kind(inode) == DIRECTORY {
+            self.put(inode, 14, &into.to_le_bytes());
+        }
+    }
+
     fn record(&mut self, section: usize, number: usize, len: usize) -> &mut [u8] {
         let at = self.layout.position(section, number);
         &mut self.bytes[at..at + len]

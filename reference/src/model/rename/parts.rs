@@ -2,7 +2,7 @@
 
 use crate::model::image::{Image, Inode, DIRECTORY};
 use crate::model::permission::Credentials;
-use crate::model::request::Request;
+use crate::model::request::{Request, EXCHANGE, NO_REPLACE};
 use crate::model::walk::{Existing, Found};
 
 /// The record that a number beyond the count is read as.
@@ -12,6 +12,10 @@ pub struct Parts<'a> {
     pub image: &'a Image<'a>,
     pub who: &'a Credentials,
     pub current: u16,
+    /// An existing new is refused.
+    pub no_replace: bool,
+    /// Moved and replaced change places, and nothing is replaced in truth.
+    pub exchange: bool,
     /// The inode that gets another name (S), and the slot of the name that it loses.
     pub moved: Existing,
     /// The inode that new names already (T), and its slot.
@@ -32,6 +36,8 @@ impl<'a> Parts<'a> {
             image,
             who: &request.who,
             current: request.current,
+            no_replace: request.flags == NO_REPLACE,
+            exchange: request.flags == EXCHANGE,
             moved: old.existing?,
             replaced: new.existing,
             old_parent: old.directory,

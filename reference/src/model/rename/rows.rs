@@ -1,5 +1,6 @@
 //! The rows of a rename, and how they are written into the plan (rules 85 to 92).
 
+use super::exchange;
 use super::parts::Parts;
 use crate::model::image::{Inode, SYMLINK};
 use crate::model::layout::{Layout, ENTRIES, INODES, JOURNAL, SECTIONS, TEXTS};
@@ -7,28 +8,31 @@ use crate::model::plan::{body_position, Row, PLAN_LEN, ROW_LEN};
 use crate::model::walk::Existing;
 
 /// What the journal record has in place of a replaced inode or a freed text, where there is none.
-const NONE: u16 = 65_535;
+pub(super) const NONE: u16 = 65_535;
 
-const JOURNAL_FIRST: u8 = 1;
+pub(super) const JOURNAL_FIRST: u8 = 1;
 const NEW_NAME: u8 = 2;
-const THE_REST: u8 = 3;
-const JOURNAL_LAST: u8 = 4;
+pub(super) const THE_REST: u8 = 3;
+pub(super) const JOURNAL_LAST: u8 = 4;
 
 const PENDING: u8 = 1;
 
+/// The kind of a rename, in the byte behind the mark.
+const RENAME: u8 = 0;
+
 /// A record to be written: its ordering group, its section, its number there, and its bytes.
 pub struct Store {
-    group: u8,
-    section: usize,
-    number: u16,
-    body: Vec<u8>,
+    pub(super) group: u8,
+    pub(super) section: usize,
+    pub(super) number: u16,
+    pub(super) body: Vec<u8>,
 }
 
-fn cleared(section: usize) -> Vec<u8> {
+pub(super) fn cleared(section: usize) -> Vec<u8> {
     vec![0; SECTIONS[section].record_len]
 }
 
-fn put_u16(record: &mut [u8], at: usize, value: u16) {
+pub(super) fn put_u16(record: &mut [u8], at: usize, value: u16) {
     record[at..at + 2].copy_from_slice(&value.to_le_bytes());
 }
 
@@ -36,8 +40,16 @@ fn put_u64(record: &mut [u8], at: usize, value: u64) {
     record[at..at + 8].copy_from_slice(&value.to_le_bytes());
 }
 
-/// Rule 85: every record that the rename writes, in the order of the rows.
+/// Every record that the call writes, in the order of the rows.
 pub fn stores(parts: &Parts, now: u64) -> Vec<Store> {
+    match parts.replaced.filter(|_| parts.exchange) {
+        Some(replaced) => exchange::stores(parts, replaced, now),
+        None => stores_of_a_rename(parts, now),
+    }
+}
+
+/// Rule 85.
+fn stores_of_a_rename(parts: &Parts, now: u64) -> Vec<Store> {
     let inode = |number: u16, body: Vec<u8>| Store { group: THE_REST, section: INODES, number, body };
     let new_slot = parts.replaced.map(|replaced| replaced.slot).or(parts.lowest_free_slot()).unwrap_or(NONE);
     let freed_text = parts.replaced.and_then(|replaced| text_freed_with(parts, replaced));
@@ -75,8 +87,13 @@ fn journal_record(parts: &Parts, new_slot: u16, freed_text: Option<u16>, now: u6
         parts.old_parent,
         freed_text.unwrap_or(NONE),
     ];
+    journal_of(RENAME, numbers, now)
+}
+
+/// Form H: a pending record with its kind, its six numbers and its time.
+pub(super) fn journal_of(kind: u8, numbers: [u16; 6], now: u64) -> Vec<u8> {
     let mut record = cleared(JOURNAL);
-    record[0] = PENDING;
+    (record[0], record[1]) = (PENDING, kind);
     for (i, number) in numbers.into_iter().enumerate() {
         put_u16(&mut record, 2 + 2 * i, number);
     }
@@ -95,14 +112,14 @@ fn new_entry(parts: &Parts) -> Vec<u8> {
 }
 
 /// Rule 92: any time is stored as it is given.
-fn changed_at(inode: Inode, now: u64) -> Vec<u8> {
+pub(super) fn changed_at(inode: Inode, now: u64) -> Vec<u8> {
     let mut record = inode.0.to_vec();
     put_u64(&mut record, 24, now);
     record
 }
 
 /// Rule 89.
-fn moved_inode(parts: &Parts, now: u64) -> Vec<u8> {
+pub(super) fn moved_inode(parts: &Parts, now: u64) -> Vec<u8> {
     let mut record = changed_at(parts.inode(parts.moved.inode), now);
     if parts.moves_a_directory() {
         put_u16(&mut record, 14, parts.new_parent);
@@ -111,7 +128,7 @@ fn moved_inode(parts: &Parts, now: u64) -> Vec<u8> {
 }
 
 /// Rule 90. Only the moved and the replaced inode come or go, so that rule 31 is kept by counting those (rule 88).
-fn parent_inode(parts: &Parts, directory: u16, now: u64) -> Vec<u8> {
+pub(super) fn parent_inode(parts: &Parts, directory: u16, now: u64) -> Vec<u8> {
     let inode = parts.inode(directory);
     let mut record = changed_at(inode, now);
     put_u64(&mut record, 16, now);
@@ -119,8 +136,11 @@ fn parent_inode(parts: &Parts, directory: u16, now: u64) -> Vec<u8> {
     record
 }
 
+/// In an exchange the old parent gains what the new one loses.
 fn directories_gained(parts: &Parts, directory: u16) -> u16 {
-    u16::from(directory == parts.new_parent && parts.moves_a_directory())
+    let moved = directory == parts.new_parent && parts.moves_a_directory();
+    let replaced = parts.exchange && directory == parts.old_parent && parts.replaces_a_directory();
+    u16::from(moved) + u16::from(replaced)
 }
 
 fn directories_lost(parts: &Parts, directory: u16) -> u16 {

@@ -1,4 +1,4 @@
-//! The steps behind both walks, clause by clause (rules 65 to 77).
+//! What is asked behind both walks, clause by clause (rules 64a to 77).
 
 use super::parts::Parts;
 use crate::model::image::LINKS_MAX;
@@ -9,6 +9,16 @@ const READ_ONLY: u8 = 128;
 
 /// The mode bit of a directory in which names are taken from their inodes by owners only.
 const STICKY: u16 = 512;
+
+/// Also where it is another name of the moved inode.
+pub fn new_must_not_exist(parts: &Parts) -> bool {
+    parts.no_replace && parts.replaced.is_some()
+}
+
+/// There is nothing to exchange with.
+pub fn new_must_exist(parts: &Parts) -> bool {
+    parts.replaced.is_none()
+}
 
 /// Old and new are names of one inode, and both stay.
 pub fn one_inode(parts: &Parts) -> bool {
@@ -72,11 +82,23 @@ pub fn moved_is_into(parts: &Parts) -> bool {
     parts.moved.inode == parts.new_parent
 }
 
-/// Climbs from new's directory to root.
-pub fn moved_is_above_into(parts: &Parts) -> bool {
+/// Climbs from a directory to root.
+fn is_above(parts: &Parts, inode: u16, directory: u16) -> bool {
     let parent = |&directory: &u16| (directory != 0).then(|| parts.inode(directory).field());
-    let mut above = std::iter::successors(Some(parts.new_parent), parent).skip(1);
-    above.any(|directory| directory == parts.moved.inode)
+    let mut above = std::iter::successors(Some(directory), parent).skip(1);
+    above.any(|directory| directory == inode)
+}
+
+pub fn moved_is_above_into(parts: &Parts) -> bool {
+    is_above(parts, parts.moved.inode, parts.new_parent)
+}
+
+pub fn replaced_is_from(parts: &Parts) -> bool {
+    parts.replaced.is_some_and(|replaced| replaced.inode == parts.old_parent)
+}
+
+pub fn replaced_is_above_from(parts: &Parts) -> bool {
+    parts.replaced.is_some_and(|replaced| is_above(parts, replaced.inode, parts.old_parent))
 }
 
 pub fn directory_onto_none(parts: &Parts) -> bool {
@@ -95,6 +117,12 @@ pub fn slash_behind_none(parts: &Parts) -> bool {
 pub fn write_denied_on_moved(parts: &Parts) -> bool {
     let moves_up = parts.moves_a_directory() && !parts.within_one_directory();
     moves_up && !may_write(parts.who, parts.inode(parts.moved.inode))
+}
+
+/// An exchange gives the replaced directory another parent as well.
+pub fn write_denied_on_replaced(parts: &Parts) -> bool {
+    let moves_up = parts.replaces_a_directory() && !parts.within_one_directory();
+    moves_up && parts.replaced.is_some_and(|replaced| !may_write(parts.who, parts.inode(replaced.inode)))
 }
 
 pub fn replaced_has_entries(parts: &Parts) -> bool {
@@ -119,6 +147,17 @@ pub fn replaced_is_open(parts: &Parts) -> bool {
 pub fn too_many_links(parts: &Parts) -> bool {
     let gains_a_directory = parts.moves_a_directory() && !parts.within_one_directory() && parts.replaced.is_none();
     gains_a_directory && parts.inode(parts.new_parent).links() == LINKS_MAX
+}
+
+/// Where one of two is a directory, the parent that the other one leaves gains it.
+pub fn too_many_links_by_an_exchange(parts: &Parts) -> bool {
+    let gains = match (parts.moves_a_directory(), parts.replaces_a_directory()) {
+        (true, false) => parts.new_parent,
+        (false, true) => parts.old_parent,
+        _ => return false,
+    };
+    let changes_parents = parts.replaced.is_some() && !parts.within_one_directory();
+    changes_parents && parts.inode(gains).links() == LINKS_MAX
 }
 
 /// Also within one directory: the slot that the old name is in does not count as free.

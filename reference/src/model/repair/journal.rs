@@ -1,20 +1,28 @@
-//! The journal record of a rename as repair reads it: what it says, and whether it fits the image.
+//! The journal record as repair reads it: what it says, and whether it fits the image.
 
+use super::exchange::{self, Exchange};
 use crate::model::image::Image;
 use crate::model::layout::{Layout, ENTRIES, INODES, TEXTS};
 use crate::model::numbers::NOT_REPAIRABLE;
 use crate::model::refusal::Refusal;
 
 /// What stands in place of a replaced inode or a freed text, where there is none. No record has that number.
-const NONE: u16 = 65_535;
+pub(super) const NONE: u16 = 65_535;
 
 const PENDING: u8 = 1;
 
-/// The kind of a rename, in the byte behind the mark.
+/// The kinds of operations, in the byte behind the mark.
 const RENAME: u8 = 0;
+const EXCHANGE: u8 = 7;
 
 /// The two bytes behind the numbers, and the last eight.
 const ZEROS: [usize; 10] = [14, 15, 24, 25, 26, 27, 28, 29, 30, 31];
+
+/// A record that fits, by its kind.
+pub enum Record {
+    Rename(Journal),
+    Exchange(Exchange),
+}
 
 pub struct Journal {
     pub old_slot: u16,
@@ -31,18 +39,18 @@ const fn unfit(rule: u8, clause: &'static str) -> Refusal {
 }
 
 type OutOfForm = fn(&[u8]) -> bool;
-type Unfit = fn(&Journal, &Image, &Layout) -> bool;
+type Misfit = fn(&Journal, &Image, &Layout) -> bool;
 type OutOfPlace = fn(&Journal, &Image, u16) -> bool;
 
 /// Of the record's bytes alone.
 const FORM: [(Refusal, OutOfForm); 3] = [
     (unfit(104, "mark"), |record| record[0] != PENDING),
-    (unfit(104, "kind"), |record| record[1] != RENAME),
+    (unfit(104, "kind"), |record| ![RENAME, EXCHANGE].contains(&record[1])),
     (unfit(104, "zeros"), |record| ZEROS.iter().any(|&at| record[at] != 0)),
 ];
 
-/// Of its numbers.
-const FIT: [(Refusal, Unfit); 12] = [
+/// Of the numbers of a rename.
+const FIT: [(Refusal, Misfit); 12] = [
     (unfit(105, "old slot"), |journal, _, layout| !exists(layout, ENTRIES, journal.old_slot)),
     (unfit(105, "new slot"), |journal, _, layout| !exists(layout, ENTRIES, journal.new_slot)),
     (unfit(105, "moved"), |journal, _, layout| !exists(layout, INODES, journal.moved)),
@@ -66,38 +74,56 @@ const INTO: [(Refusal, OutOfPlace); 3] = [
 
 pub fn refusals() -> impl Iterator<Item = Refusal> {
     let form = FORM.iter().map(|(refusal, _)| *refusal);
-    form.chain(FIT.iter().map(|(refusal, _)| *refusal)).chain(INTO.iter().map(|(refusal, _)| *refusal))
+    let of_a_rename = FIT.iter().map(|(refusal, _)| *refusal).chain(INTO.iter().map(|(refusal, _)| *refusal));
+    form.chain(of_a_rename).chain(exchange::refusals())
 }
 
-fn exists(layout: &Layout, section: usize, number: u16) -> bool {
+pub(super) fn exists(layout: &Layout, section: usize, number: u16) -> bool {
     usize::from(number) < layout.counts[section]
 }
 
+/// The two bytes of a record at some place, as a number.
+pub(super) fn number_at(record: &[u8], at: usize) -> u16 {
+    u16::from_le_bytes([record[at], record[at + 1]])
+}
+
+pub(super) fn time_of(record: &[u8]) -> [u8; 8] {
+    std::array::from_fn(|i| record[16 + i])
+}
+
 /// The first that applies, as an error.
-fn none_of<T>(refusals: &[(Refusal, T)], applies: impl Fn(&T) -> bool) -> Result<(), Refusal> {
+pub(super) fn none_of<T>(refusals: &[(Refusal, T)], applies: impl Fn(&T) -> bool) -> Result<(), Refusal> {
     refusals.iter().find(|(_, test)| applies(test)).map_or(Ok(()), |(refusal, _)| Err(*refusal))
 }
 
-impl Journal {
-    /// A record that fits: rules 104 to 106.
-    pub fn read(image: &Image, layout: &Layout) -> Result<Journal, Refusal> {
+impl Record {
+    /// A record that fits: rules 104 to 106a.
+    pub fn read(image: &Image, layout: &Layout) -> Result<Record, Refusal> {
         none_of(&FORM, |is_out_of_form| is_out_of_form(image.journal))?;
+        match image.journal[1] {
+            EXCHANGE => Exchange::read(image, layout).map(Record::Exchange),
+            _ => Journal::read(image, layout).map(Record::Rename),
+        }
+    }
+}
+
+impl Journal {
+    fn read(image: &Image, layout: &Layout) -> Result<Journal, Refusal> {
         let journal = Journal::numbers(image.journal);
         none_of(&FIT, |is_unfit| is_unfit(&journal, image, layout))?;
         Ok(journal)
     }
 
     fn numbers(record: &[u8]) -> Journal {
-        let number = |at: usize| u16::from_le_bytes([record[at], record[at + 1]]);
-        let perhaps = |at: usize| Some(number(at)).filter(|&number| number != NONE);
+        let perhaps = |at: usize| Some(number_at(record, at)).filter(|&number| number != NONE);
         Journal {
-            old_slot: number(2),
-            new_slot: number(4),
-            moved: number(6),
+            old_slot: number_at(record, 2),
+            new_slot: number_at(record, 4),
+            moved: number_at(record, 6),
             replaced: perhaps(8),
-            old_parent: number(10),
+            old_parent: number_at(record, 10),
             freed_text: perhaps(12),
-            now: std::array::from_fn(|i| record[16 + i]),
+            now: time_of(record),
         }
     }
 

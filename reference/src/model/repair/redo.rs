@@ -1,11 +1,14 @@
-//! A copy of the image on which a rename is carried to its end (rule 108); each record that is written becomes a row.
+//! A copy of the image on which a rename or an exchange is carried to its end (rules 108 and 108a); each record that is
+//! written becomes a row.
 
+use super::exchange::Exchange;
 use super::journal::Journal;
 use crate::model::image::{DIRECTORY, FREE};
 use crate::model::layout::{Layout, ENTRIES, INODES, SECTIONS, TEXTS};
 use crate::model::plan::{body_position, Row, PLAN_LEN, ROW_LEN};
 use std::ops::Range;
 
+const BOTH_NAMES: u8 = 2;
 const THE_REST: u8 = 3;
 pub const JOURNAL_LAST: u8 = 4;
 
@@ -27,7 +30,7 @@ impl Redo {
     /// The old entry goes first, so that all counts are those without it, whether or not it was cleared already.
     pub fn finish(&mut self, journal: &Journal, new_parent: u16) {
         self.clear(THE_REST, ENTRIES, journal.old_slot);
-        self.write_moved(journal, new_parent);
+        self.write_moved(journal.moved, new_parent, journal.now);
         self.write_parent(journal.old_parent, journal.now);
         if new_parent != journal.old_parent {
             self.write_parent(new_parent, journal.now);
@@ -38,6 +41,24 @@ impl Redo {
         if let Some(text) = journal.freed_text {
             self.clear(THE_REST, TEXTS, text);
         }
+    }
+
+    /// Rule 108a: both entries first, so that all counts are those with them. Which inode goes where is told by the
+    /// record, whatever the slots lead to as yet.
+    pub fn finish_exchange(&mut self, exchange: &Exchange, new_parent: u16) {
+        self.write_target(exchange.old_slot, exchange.replaced);
+        self.write_target(exchange.new_slot, exchange.moved);
+        self.write_moved(exchange.moved, new_parent, exchange.now);
+        self.write_parent(exchange.old_parent, exchange.now);
+        if new_parent != exchange.old_parent {
+            self.write_parent(new_parent, exchange.now);
+        }
+        self.write_moved(exchange.replaced, exchange.old_parent, exchange.now);
+    }
+
+    fn write_target(&mut self, slot: u16, target: u16) {
+        let entry = self.begin(BOTH_NAMES, ENTRIES, slot).start;
+        self.put(entry + 2, &target.to_le_bytes());
     }
 
     pub fn clear(&mut self, group: u8, section: usize, number: u16) {
@@ -53,10 +74,10 @@ impl Redo {
         place
     }
 
-    /// Rule 89.
-    fn write_moved(&mut self, journal: &Journal, new_parent: u16) {
-        let inode = self.begin(THE_REST, INODES, journal.moved).start;
-        self.put(inode + 24, &journal.now);
+    /// Rules 89 and 89a.
+    fn write_moved(&mut self, moved: u16, new_parent: u16, now: [u8; 8]) {
+        let inode = self.begin(THE_REST, INODES, moved).start;
+        self.put(inode + 24, &now);
         if self.bytes[inode] == DIRECTORY {
             self.put(inode + 14, &new_parent.to_le_bytes());
         }

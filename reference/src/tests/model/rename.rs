@@ -16,7 +16,7 @@ const NOW: u64 = 500;
 
 fn request(user: u32, start: u8, old: &str, new: &str) -> Request {
     let (old, new) = (Operand::new(start, old.as_bytes()), Operand::new(CURRENT, new.as_bytes()));
-    Request { who: Credentials::new(user, user), current: 0, old, new }
+    Request { who: Credentials::new(user, user), current: 0, flags: 0, old, new }
 }
 
 fn answer(tree: &Tree, request: &Request) -> (Answer, Vec<u8>) {
@@ -116,7 +116,8 @@ fn any_bytes_are_answered() {
         let (old, new) = (path(), path());
         let (start, current) = (random.byte(), random.below(9) as u16);
         let who = Credentials::new(100, random.below(2) as u32);
-        let request = Request { who, current, old: Operand::new(start, &old), new: Operand::new(CURRENT, &new) };
+        let request =
+            Request { who, current, flags: 0, old: Operand::new(start, &old), new: Operand::new(CURRENT, &new) };
         let mut plan: Vec<u8> = vec![random.byte(); 640 + random.below(20)];
         let before = plan.clone();
         let answer = rename(&image, &request, random.word(), &mut plan);

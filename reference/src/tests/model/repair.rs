@@ -45,7 +45,7 @@ fn answer(image: &[u8]) -> (Answer, Vec<u8>, Vec<u8>) {
 fn planned(old: &str, new: &str) -> PlannedRename {
     let operand = |path: &str| Operand::new(CURRENT, path.as_bytes());
     let who = Credentials::new(100, 100);
-    let request = Request { who, current: 0, old: operand(old), new: operand(new) };
+    let request = Request { who, current: 0, flags: 0, old: operand(old), new: operand(new) };
     PlannedRename::new(&bench_tree().encode(), &request, 500).expect("the rename has rows")
 }
 

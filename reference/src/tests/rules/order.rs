@@ -1,11 +1,11 @@
-//! The order of refusal, rules 63 to 77 with 70a: each clause is some rename's answer, and neighbours meet.
+//! The order of refusal without flags, rules 63 to 77 with 70a: each clause is some rename's answer, and neighbours meet.
 
 use crate::cases::stand_in::with_stand_in;
 use crate::model::image::Image;
 use crate::model::layout::{Layout, CONTENTS_LEN, ROW_LEN, SECTIONS};
 use crate::model::refusal::{Refusal, Rule};
 use crate::model::rename::call::Call;
-use crate::model::rename::order::{all_that_apply, Place, Test, ORDER};
+use crate::model::rename::order::{all_that_apply, Of, Place, Test, ORDER};
 use crate::model::walk;
 use crate::model::{numbers::DONE, request};
 use crate::tests::made::{all_rename_lines, all_renames};
@@ -13,12 +13,12 @@ use crate::vectors::Renaming;
 use std::collections::BTreeSet;
 use std::sync::LazyLock;
 
-type Applying = Vec<(Place, Refusal)>;
+pub type Applying = Vec<(Place, Refusal)>;
 
 /// All that apply to each rename, in their order.
 static APPLYING: LazyLock<Vec<Applying>> = LazyLock::new(|| all_renames().map(applying).collect());
 
-fn applying(Renaming { image, buffer, request, .. }: &Renaming) -> Applying {
+pub fn applying(Renaming { image, buffer, request, .. }: &Renaming) -> Applying {
     let view = Image::read(image);
     all_that_apply(&Call::new(image, view.as_ref(), request, buffer.len.into()))
 }
@@ -31,14 +31,23 @@ fn the_first_that_applies_is_the_answer() {
     }
 }
 
+/// Places at which the flags are asked.
+pub const OF_FLAGS: [Place; 2] = [Place::Flags, Place::NewName];
+
+/// The clauses that are asked behind the flags, each with its place, of an exchange or of any other call.
+pub fn steps_of(exchange: bool) -> impl Iterator<Item = (Place, Refusal)> {
+    let asked = move |of: Of, place: &Place| of.includes(exchange) && !OF_FLAGS.contains(place);
+    ORDER.iter().filter_map(move |(place, test)| match test {
+        Test::Parts(refusal, of, _) if asked(*of, place) => Some((*place, *refusal)),
+        _ => None,
+    })
+}
+
 /// Every clause of every place, as far as it can be the answer.
 fn clauses() -> BTreeSet<(Place, &'static str)> {
     let of_walks = |place: Place| walk::REFUSALS.iter().map(move |refusal| (place, refusal.clause));
     let requests = request::REFUSALS.iter().map(|(refusal, _)| (Place::Request, refusal.clause));
-    let steps = ORDER.iter().filter_map(|(place, test)| match test {
-        Test::Parts(refusal, _) => Some((*place, refusal.clause)),
-        Test::Call(_) => None,
-    });
+    let steps = steps_of(false).map(|(place, refusal)| (place, refusal.clause));
     let ahead = [
         (Place::Buffer, "short buffer"),
         (Place::Layout, "bad layout"),
@@ -74,7 +83,7 @@ fn with_good_contents(image: &[u8]) -> Option<Vec<u8>> {
 
 /// What would apply but for the first: under a bad layout, with its table mended; where new's walk is refused for its
 /// final name or for a slash behind that, with a portable name or without the slash; and otherwise what applies anyway.
-fn behind_the_first(renaming: &Renaming, all: &Applying) -> Applying {
+pub fn behind_the_first(renaming: &Renaming, all: &Applying) -> Applying {
     let mut mended = renaming.clone();
     match all.first() {
         Some((Place::Layout, _)) => match with_good_contents(&renaming.image) {
@@ -95,8 +104,12 @@ fn behind_the_first(renaming: &Renaming, all: &Applying) -> Applying {
 
 /// The pairs of places of which the first is some rename's answer, though the second applies as well.
 fn meeting_places() -> BTreeSet<(Place, Place)> {
+    places_met(all_renames().zip(APPLYING.iter()))
+}
+
+pub fn places_met<'a>(renames: impl Iterator<Item = (&'a Renaming, &'a Applying)>) -> BTreeSet<(Place, Place)> {
     let mut met = BTreeSet::new();
-    for (renaming, all) in all_renames().zip(APPLYING.iter()) {
+    for (renaming, all) in renames {
         let Some(&(first, _)) = all.first() else { continue };
         let later = behind_the_first(renaming, all).into_iter().map(|(place, _)| place);
         met.extend(later.filter(|&place| place > first).map(|place| (first, place)));
@@ -104,9 +117,9 @@ fn meeting_places() -> BTreeSet<(Place, Place)> {
     met
 }
 
-/// All places in their order.
+/// All places in their order, but for those of the flags.
 fn places() -> Vec<Place> {
-    let mut places: Vec<Place> = ORDER.iter().map(|(place, _)| *place).collect();
+    let mut places: Vec<Place> = ORDER.iter().map(|(place, _)| *place).filter(|it| !OF_FLAGS.contains(it)).collect();
     places.dedup();
     places
 }
@@ -164,12 +177,9 @@ const CLAUSES_APART: [(&str, &str); 4] = [
 ];
 
 /// The clauses of the steps, two neighbours at a time. Two that answer one number for one step have no order.
-fn neighbouring_clauses() -> Vec<(&'static str, &'static str)> {
-    let steps = ORDER.iter().filter_map(|(_, test)| match test {
-        Test::Parts(refusal, _) => Some(refusal),
-        Test::Call(_) => None,
-    });
-    let pairs = steps.clone().zip(steps.skip(1));
+pub fn neighbouring_clauses(exchange: bool) -> Vec<(&'static str, &'static str)> {
+    let steps = || steps_of(exchange).map(|(_, refusal)| refusal);
+    let pairs = steps().zip(steps().skip(1));
     let ordered = pairs.filter(|(one, other)| (one.rule, one.number) != (other.rule, other.number));
     ordered.map(|(one, other)| (one.clause, other.clause)).collect()
 }
@@ -180,7 +190,7 @@ fn neighbouring_clauses_of_the_steps_meet() {
     for all in APPLYING.iter().filter(|all| all.first().is_some_and(|(place, _)| *place > Place::NewWalk)) {
         met.extend(all[1..].iter().map(|(_, later)| (all[0].1.clause, later.clause)));
     }
-    for pair in neighbouring_clauses() {
+    for pair in neighbouring_clauses(false) {
         assert_eq!(met.contains(&pair), !CLAUSES_APART.contains(&pair), "{pair:?}");
     }
 }

@@ -6,7 +6,7 @@ use Rattle.seq.specs.Truth.{fails, holds}
 use Rattle.layout.specs.RecordLaws.{field-of}
 use Rattle.layout.specs.View.{journalAt}
 use Rattle.encode.specs.Journal.{journalOf, journalFormed}
-use Rattle.drafts.specs.Fit.{draft-unformed, draft-rename, draft-other}
+use Rattle.drafts.specs.DraftLaws.{draft-unformed, draft-rename, draft-exchange, draft-other}
 use Rattle.drafts.proofs.draft.make.Statement.{statement}
 use Rattle.drafts.proofs.draft.make.Tie as tie
 
@@ -38,6 +38,9 @@ read-requires c κs = search needs
 draft-requires : tie.Need-draft-requires
 draft-requires c κs = search needs
 
+draft-requires-2 : tie.Need-draft-requires-2
+draft-requires-2 c κs = search needs
+
 same-length : tie.Need-same-length
 same-length c = search needs
 
@@ -48,10 +51,21 @@ returns-2 c =
     let args = start (arm .before .before .before) .args in
     rw (draft-rename (args .h) (args .image .now) (formed (arm .before .before)) _ (says (arm .before)) (arm .match .keys1)) (drafted .draft .ensures)
 
+same-length-2 : tie.Need-same-length-2
+same-length-2 c = search needs
+
 returns-3 : tie.Need-returns-3
 returns-3 c =
+    let drafted = c .before .before in
+    let arm = drafted .before .before in
+    let args = start (arm .before .before .before) .args in
+    rw (draft-exchange (args .h) (args .image .now) (formed (arm .before .before)) _ (says (arm .before)) (arm .match .keys2)) (drafted .draft2 .ensures)
+
+returns-4 : tie.Need-returns-4
+returns-4 c =
     let args = start (c .before .before .before) .args in
-    rw (draft-other (args .h) (args .image .now) (formed (c .before .before)) _ (says (c .before)) (c .match .rest .1)) tt
+    let r = c .match .rest in
+    rw (draft-other (args .h) (args .image .now) (formed (c .before .before)) _ (says (c .before)) (r .0 .1) (r .1)) tt
 
 pub make-spec : {M : Type 1} → statement M
 make-spec =
@@ -62,6 +76,9 @@ make-spec =
     returns
     read-requires
     draft-requires
+    draft-requires-2
     same-length
     returns-2
-    returns-3)
+    same-length-2
+    returns-3
+    returns-4)

@@ -6,7 +6,7 @@ use Rattle.seq.specs.Truth.{fails, holds}
 use Rattle.layout.specs.View.{View, viewOf}
 use Rattle.plan.specs.WriteLaws.{filled-one}
 use Rattle.results.specs.Results.{clearRow}
-use Rattle.drafts.specs.Draft.{renameFits, entryStands, intoGood, moveDraft, renameDraft}
+use Rattle.drafts.specs.PendingRename.{renameFits, entryStands, intoGood, moveDraft, renameDraft}
 use Rattle.drafts.specs.Fit.{fits-new, move-new, move-image, rename-move, rename-unfit, move-undone, move-unfit, move-finished}
 use Rattle.drafts.proofs.renames.draft.Statement.{statement}
 use Rattle.drafts.proofs.renames.draft.Tie as tie

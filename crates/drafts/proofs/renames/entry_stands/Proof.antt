@@ -5,7 +5,7 @@ use borrow.Author.Needs.{needs}
 use Rattle.layout.specs.View.{viewOf}
 use Rattle.layout.specs.Fields.{entryNameLength, entryTarget}
 use Rattle.layout.specs.RecordLaws.{field-of}
-use Rattle.drafts.specs.Draft.{entryStands}
+use Rattle.drafts.specs.PendingRename.{entryStands}
 use Rattle.drafts.proofs.renames.entry_stands.Statement.{statement}
 use Rattle.drafts.proofs.renames.entry_stands.Tie as tie
 

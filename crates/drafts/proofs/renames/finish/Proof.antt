@@ -1,7 +1,9 @@
 -- `drafts::renames::finish` meets its contract. Assumes nothing.
 use native.Mathlib.Omega.{arith}
 use borrow.Author.Needs.{needs}
-use Rattle.drafts.specs.Fit.{results-below, finishing-filled}
+use Rattle.results.specs.Results.{results}
+use Rattle.results.specs.ResultRows.{results-le}
+use Rattle.drafts.specs.DraftLaws.{rows-below, cleared-filled}
 use Rattle.drafts.proofs.renames.finish.Statement.{statement}
 use Rattle.drafts.proofs.renames.finish.Tie as tie
 
@@ -12,13 +14,13 @@ put-clear-requires : tie.Need-put-clear-requires
 put-clear-requires c κs =
     let made = c .before .before .before in
     let args = made .before .before .before .before .args in
-    (search needs, results-below (args .h) (args .image .now) (args .m) (made .put .ensures), search needs)
+    (search needs, rows-below (args .h) (results (args .h) (args .image .now) (args .m)) (results-le (args .h) (args .image .now) (args .m)) (made .put .ensures), search needs)
 
 add-result : tie.Need-add-result
 add-result c =
     let made = c .before .before .before .before .before .before in
     let args = made .before .before .before .before .args in
-    let l = results-below (args .h) (args .image .now) (args .m) (made .put .ensures) in
+    let l = rows-below (args .h) (results (args .h) (args .image .now) (args .m)) (results-le (args .h) (args .image .now) (args .m)) (made .put .ensures) in
     omega arith
 
 same-length : tie.Need-same-length
@@ -29,7 +31,7 @@ returns c =
     let cleared = c .before .before in
     let made = cleared .before .before .before .before in
     let args = made .before .before .before .before .args in
-    finishing-filled (args .h) (args .image .now) (args .m) (made .put .ensures) (cleared .put-clear .ensures)
+    cleared-filled (args .h) (results (args .h) (args .image .now) (args .m)) (results-le (args .h) (args .image .now) (args .m)) (made .put .ensures) (cleared .put-clear .ensures)
 
 pub finish-spec : {M : Type 1} → statement M
 finish-spec = tie.close (tie.spec put-requires put-clear-requires add-result same-length returns)

@@ -1,7 +1,7 @@
 -- `drafts::renames::fits` meets its contract. Assumes nothing.
 use borrow.Author.Needs.{needs}
 use Rattle.seq.specs.Truth.{fails, holds}
-use Rattle.drafts.specs.Draft.{renameFits}
+use Rattle.drafts.specs.PendingRename.{renameFits}
 use Rattle.drafts.proofs.renames.fits.Statement.{statement}
 use Rattle.drafts.proofs.renames.fits.Tie as tie
 

@@ -2,7 +2,7 @@
 use borrow.Author.Tests.{eq-eqb, ne-eqb}
 use borrow.Author.Needs.{needs}
 use Rattle.seq.specs.Truth.{fails, holds}
-use Rattle.drafts.specs.Draft.{intoGood}
+use Rattle.drafts.specs.PendingRename.{intoGood}
 use Rattle.drafts.proofs.renames.into_good.Statement.{statement}
 use Rattle.drafts.proofs.renames.into_good.Tie as tie
 

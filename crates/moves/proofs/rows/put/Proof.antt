@@ -8,8 +8,8 @@ use Rattle.moves.proofs.rows.put.Tie as tie
 clear-requires : tie.Need-clear-requires
 clear-requires c κs = search needs
 
-put-journal-requires : tie.Need-put-journal-requires
-put-journal-requires c κs = search needs
+put-start-requires : tie.Need-put-start-requires
+put-start-requires c κs = search needs
 
 put-entry-requires : tie.Need-put-entry-requires
 put-entry-requires c κs = search needs
@@ -35,7 +35,7 @@ returns : tie.Need-returns
 returns c =
     let args = c .before .before .before .before .before .before .before .before .before .before .before .before .before .before .before .before .before .before .before .before .before .before .before .args in
     let cleared = c .before .before .before .before .before .before .before .before .before .before .before .before .before .before .before .before .before .before .clear .ensures in
-    let journal = c .before .before .before .before .before .before .before .before .before .before .before .before .before .before .put-journal .ensures in
+    let journal = c .before .before .before .before .before .before .before .before .before .before .before .before .before .before .put-start .ensures in
     let entry = c .before .before .before .before .before .before .before .before .before .before .put-entry .ensures in
     let results = c .before .before .before .before .before .before .put .ensures in
     planned-filled (args .h) (args .image .now) (args .m) (args .called .now) (args .plan .now) cleared
@@ -46,7 +46,7 @@ put-spec =
     tie.close
     (tie.spec
     clear-requires
-    put-journal-requires
+    put-start-requires
     put-entry-requires
     put-requires
     put-clear-requires

@@ -11,7 +11,7 @@ use Rattle.seq.specs.Truth.{holds}
 use Rattle.layout.specs.View.{viewOf, isDirectory}
 use Rattle.tree.specs.Tree.{holdsDirectory, childDirectories}
 use Rattle.results.specs.Results.{holdsAfter, childrenAfter}
-use Rattle.results.specs.RecountLaws.{two-is, recounted}
+use Rattle.results.specs.RecountLaws.{two-is, recounted-cleared}
 use Rattle.results.proofs.recount.children_after.Statement.{statement}
 use Rattle.results.proofs.recount.children_after.Tie as tie
 
@@ -24,7 +24,7 @@ sum c =
     let args = c .before .before .before .before .before .before .before .before .before .before .args in
     let v = viewOf (args .h) (args .image .now) in
     let two = two-is (args .m) (args .h .entries) (holds (c .before .before .before .before .before .before .before .before .edits-two .ensures) (c .before .before .before .before .before .before .before .if1 .left)) in
-    let e = recounted (args .m) (args .h .entries) two (holdsDirectory v (args .d)) (eqb (args .m .into) (args .d) && isDirectory v (args .m .moved)) in
+    let e = recounted-cleared (args .m) (args .h .entries) two (holdsDirectory v (args .d)) (eqb (args .m .into) (args .d) && isDirectory v (args .m .moved)) in
     let old = c .before .before .one-if2 .ensures .0 ∙ ap bit (c .before .before .before .entry-holds-directory .ensures) in
     let new = c .one-if3 .ensures .0 ∙ ap bit (c .before .entry-holds-directory2 .ensures) in
     rw (old, new, c .before .before .before .before .one-if .ensures .0 ∙ ap bit (c .before .before .before .before .before .makes-child .ensures), c .before .before .before .before .before .before .child-directories .ensures .0) e

@@ -10,7 +10,7 @@ use Rattle.seq.specs.Truth.{holds}
 use Rattle.layout.specs.View.{viewOf}
 use Rattle.tree.specs.Tree.{targets, entriesOf}
 use Rattle.results.specs.Results.{targetsAfter, entriesAfter}
-use Rattle.results.specs.RecountLaws.{two-is, recounted}
+use Rattle.results.specs.RecountLaws.{two-is, recounted-cleared}
 use Rattle.results.proofs.recount.entries_after.Statement.{statement}
 use Rattle.results.proofs.recount.entries_after.Tie as tie
 
@@ -23,7 +23,7 @@ sum c =
     let args = c .before .before .before .before .before .before .before .before .before .before .args in
     let v = viewOf (args .h) (args .image .now) in
     let two = two-is (args .m) (args .h .entries) (holds (c .before .before .before .before .before .before .before .before .edits-two .ensures) (c .before .before .before .before .before .before .before .if1 .left)) in
-    let e = recounted (args .m) (args .h .entries) two (targets v (args .i)) (eqb (args .m .moved) (args .i)) in
+    let e = recounted-cleared (args .m) (args .h .entries) two (targets v (args .i)) (eqb (args .m .moved) (args .i)) in
     let old = c .before .before .one-if2 .ensures .0 ∙ ap bit (c .before .before .before .entry-targets .ensures) in
     let new = c .one-if3 .ensures .0 ∙ ap bit (c .before .entry-targets2 .ensures) in
     rw (old, new, c .before .before .before .before .one-if .ensures .0, c .before .before .before .before .before .before .entries-of .ensures) e

@@ -1,9 +1,9 @@
--- `moves::rows::put_journal` meets its contract. Assumes nothing.
-use Rattle.plan.specs.WriteLaws.{row-put}
-use Rattle.moves.specs.Plan.{journalRow}
+-- `results::rows::put_start` meets its contract. Assumes nothing.
 use borrow.Author.Needs.{needs}
-use Rattle.moves.proofs.rows.put_journal.Statement.{statement}
-use Rattle.moves.proofs.rows.put_journal.Tie as tie
+use Rattle.plan.specs.WriteLaws.{row-put}
+use Rattle.results.specs.Start.{startRow}
+use Rattle.results.proofs.rows.put_start.Statement.{statement}
+use Rattle.results.proofs.rows.put_start.Tie as tie
 
 journal-requires : tie.Need-journal-requires
 journal-requires c κs = search needs
@@ -22,12 +22,12 @@ same-length c = search needs
 
 returns : tie.Need-returns
 returns c =
-    let args = c .before .before .before .before .before .before .before .before .before .before .args in
-    row-put (args .h) (journalRow (args .h) (args .image .now) (args .m) (args .called .now)) _ _ (c .before .before .put-row .ensures) (c .before .before .before .before .journal2 .ensures)
+    let args = c .before .before .before .before .before .before .before .before .before .args in
+    row-put (args .h) (startRow (args .kind) (args .m)) _ _ (c .before .before .put-row .ensures) (c .before .before .before .before .journal2 .ensures)
     (c .before .before .before .before .before .before .journal .ensures)
 
-pub put-journal-spec : {M : Type 1} → statement M
-put-journal-spec =
+pub put-start-spec : {M : Type 1} → statement M
+put-start-spec =
     tie.close
     (tie.spec
     journal-requires

@@ -1,0 +1,1 @@
+// Laws only: an exchange survives crashes. The subject stands in specs/.

@@ -1,0 +1,15 @@
+-- `refusals::exchange::replaced_above` meets its contract. Assumes nothing.
+use borrow.Author.Needs.{needs}
+use Rattle.layout.specs.View.{viewOf}
+use Rattle.refusals.proofs.exchange.replaced_above.Statement.{statement}
+use Rattle.refusals.proofs.exchange.replaced_above.Tie as tie
+
+is-above-requires : tie.Need-is-above-requires
+is-above-requires c κs = search needs
+
+returns : tie.Need-returns
+unfolding viewOf
+returns c = c .is-above .ensures
+
+pub replaced-above-spec : {M : Type 1} → statement M
+replaced-above-spec = tie.close (tie.spec is-above-requires returns)
