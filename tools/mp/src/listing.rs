@@ -1,0 +1,1 @@
+//! An image as a listing: one line for each name, handle and kind of spare record.
