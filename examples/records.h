@@ -115,8 +115,8 @@ static void write_group(const char *name, int file, const uint8_t *plan, size_t 
         sync_file(name, file);
 }
 
-/* Writes the records of a plan to the image file, one group after the other, and closes it. */
-static void write_plan(const char *name, int file, const uint8_t *plan, size_t rows)
+/* Writes the records of a plan to the image file, one group after the other, and closes it. Not every example does. */
+static inline void write_plan(const char *name, int file, const uint8_t *plan, size_t rows)
 {
     for (uint8_t group = 1; group <= GROUPS; group++)
         write_group(name, file, plan, rows, group);

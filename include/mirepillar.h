@@ -26,26 +26,31 @@ enum { MP_PLAN_BYTES = 648, MP_PLAN_ROWS = 9, MP_LONGEST_IMAGE = 53448 };
 
 /*
  * The numbers that tell how a job went; which of them a job answers is told with it. The errors of
- * POSIX are numbered as on Linux, whatever <errno.h> says on the host.
+ * POSIX are numbered as on Linux, whatever <errno.h> says on the host; only mp_rename answers them.
  */
 enum {
-    MP_DONE = 0,
-    MP_EPERM = 1,
-    MP_ENOENT = 2,
-    MP_EBADF = 9,
-    MP_EACCES = 13,
-    MP_EBUSY = 16,
-    MP_EEXIST = 17,          /* the new name exists, and MP_NOREPLACE was asked for */
-    MP_EXDEV = 18,
-    MP_ENOTDIR = 20,
-    MP_EISDIR = 21,
-    MP_EINVAL = 22,
-    MP_ENOSPC = 28,
-    MP_EROFS = 30,
-    MP_EMLINK = 31,
-    MP_ENAMETOOLONG = 36,
-    MP_ENOTEMPTY = 39,
-    MP_ELOOP = 40,           /* a path leads through more than 40 symlinks */
+    MP_DONE = 0,             /* done, as the job says */
+    MP_EPERM = 1,            /* EPERM: a sticky directory protects the old or the new name from this caller, or the
+                                new path's last name has a byte that is not portable */
+    MP_ENOENT = 2,           /* ENOENT: a path is empty, or a name does not exist */
+    MP_EBADF = 9,            /* EBADF: the handle that a relative path begins at is closed or does not exist */
+    MP_EACCES = 13,          /* EACCES: search denied on the way, or write denied on a parent or on a directory that
+                                would get another parent */
+    MP_EBUSY = 16,           /* EBUSY: a path has only slashes; a directory is on another file system than its parent;
+                                or what would be removed is the current directory or under an open handle */
+    MP_EEXIST = 17,          /* EEXIST: the new name exists, and MP_NOREPLACE was asked for */
+    MP_EXDEV = 18,           /* EXDEV: the two parents are on different file systems */
+    MP_ENOTDIR = 20,         /* ENOTDIR: a name on the way is no directory; a slash stands behind what is none; or a
+                                directory would replace what is none */
+    MP_EISDIR = 21,          /* EISDIR: what is no directory would replace a directory */
+    MP_EINVAL = 22,          /* EINVAL: a path ends in . or ..; a directory would come to lie inside itself; or the
+                                flags are both, or have an unknown bit */
+    MP_ENOSPC = 28,          /* ENOSPC: no directory entry is free */
+    MP_EROFS = 30,           /* EROFS: a parent is on a read-only file system */
+    MP_EMLINK = 31,          /* EMLINK: a directory would have more than 64 links */
+    MP_ENAMETOOLONG = 36,    /* ENAMETOOLONG: a path has over 255 bytes, or a component over 24 */
+    MP_ENOTEMPTY = 39,       /* ENOTEMPTY: the directory that would be replaced has entries */
+    MP_ELOOP = 40,           /* ELOOP: a path leads through more than 40 symlinks */
     MP_UNSOUND = 201,        /* the image is not consistent */
     MP_WRONG_REQUEST = 202,  /* the current directory is none, a path has a byte 0, or too many groups */
     MP_PENDING = 203,        /* the journal record is not zero: repair first */

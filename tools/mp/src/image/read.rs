@@ -1,6 +1,6 @@
 //! Records read from an image's bytes. Only the layout has to be right: records at fault are read as they stand.
 
-use super::layout::{parts, Part};
+use super::layout::{parts, Part, Section};
 use super::{Entry, Handle, Image, Inode, Journal};
 
 fn u16_at(record: &[u8], at: usize) -> u16 {
@@ -42,17 +42,21 @@ fn handle(record: &[u8]) -> Handle {
     Handle { state: record[0], inode: u16_at(record, 2) }
 }
 
-fn journal(record: &[u8]) -> Journal {
-    Journal {
-        mark: record[0],
-        kind: record[1],
-        old_slot: u16_at(record, 2),
-        new_slot: u16_at(record, 4),
-        moved: u16_at(record, 6),
-        replaced: u16_at(record, 8),
-        old_parent: u16_at(record, 10),
-        text: u16_at(record, 12),
-        time: u64_at(record, 16),
+impl Journal {
+    /// A journal record of 32 bytes; a shorter one is none.
+    pub fn read(record: &[u8]) -> Option<Journal> {
+        let record = record.get(..Section::Journal.size())?;
+        Some(Journal {
+            mark: record[0],
+            kind: record[1],
+            old_slot: u16_at(record, 2),
+            new_slot: u16_at(record, 4),
+            moved: u16_at(record, 6),
+            replaced: u16_at(record, 8),
+            old_parent: u16_at(record, 10),
+            text: u16_at(record, 12),
+            time: u64_at(record, 16),
+        })
     }
 }
 
@@ -71,7 +75,7 @@ impl Image {
             entries: records(bytes, entries).map(entry).collect(),
             texts: records(bytes, texts).map(|record| counted(record[0], &record[1..])).collect(),
             handles: records(bytes, handles).map(handle).collect(),
-            journal: records(bytes, journals).map(journal).next().unwrap_or_default(),
+            journal: records(bytes, journals).find_map(Journal::read).unwrap_or_default(),
         })
     }
 }

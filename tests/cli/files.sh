@@ -1,0 +1,50 @@
+# Files that cannot be read or written: a sentence, and nothing is changed or left half written.
+expect 2 '' 'none cannot be opened: No such file or directory' "$mp" check none
+mkdir -p directory
+expect 2 '' 'directory cannot be read: Is a directory' "$mp" check directory
+zeros 1048577 >long
+expect 2 '' 'long is too long: it has more than 1048576 bytes' "$mp" check long
+expect 2 '' '/dev/zero is too long: it has more than 1048576 bytes' "$mp" check /dev/zero
+expect 2 '' 'directory cannot be written: it is no regular file' "$mp" rename bench third directory
+expect 2 '' 'nowhere/plan cannot be written: No such file or directory' "$mp" rename bench third nowhere/plan
+expect 2 '' 'standard output is closed, so nothing was done' sh -c '"$1" rename bench third closed.plan >&-' sh "$mp"
+missing closed.plan
+expect 2 '' 'standard output cannot be written: No space left on device' sh -c '"$1" check bench >/dev/full' sh "$mp"
+
+# A symlink is followed, and a file keeps its mode.
+cp bench real
+chmod 640 real
+ln -sf real linked
+expect 0 0 '0 done' "$mp" land linked plan 0
+[ -L linked ] || wrong "the symlink was replaced by a file"
+[ "$(stat -c %a real)" = 640 ] || wrong "the image has another mode: $(stat -c %a real)"
+
+# Two files or none: where the scratch cannot be written, no plan is made.
+expect 2 '' 'nowhere/scratch cannot be written' "$mp" repair real none nowhere/scratch
+missing none
+
+# Without the permission to write. The superuser may write anything, so another user tries.
+as_somebody() {
+    if [ "$(id -u)" = 0 ]; then setpriv --reuid=65534 --regid=65534 --clear-groups "$@"; else "$@"; fi
+}
+locked=$(mktemp -d)
+trap 'chmod -R u+w "$locked"; rm -rf "$locked"' EXIT
+cp "$mp" bench third plan "$locked"
+chmod 755 "$locked/mp"
+chmod 644 "$locked/bench" "$locked/third" "$locked/plan"
+chmod 555 "$locked"
+expect 2 '' 'bench cannot be written: Permission denied' as_somebody "$locked/mp" land "$locked/bench" "$locked/plan" 0
+expect 2 '' 'new.plan cannot be written: Permission denied' as_somebody "$locked/mp" rename "$locked/bench" "$locked/third" "$locked/new.plan"
+chmod 000 "$locked/third"
+expect 2 '' 'third cannot be opened: Permission denied' as_somebody "$locked/mp" rename "$locked/bench" "$locked/third" "$locked/new.plan"
+same "$locked/bench" bench
+
+# A disk that is full, where one can be made.
+if unshare -rm true 2>/dev/null; then
+    mkdir -p disk
+    expect 2 '' 'disk/plan cannot be written: No space left on device' unshare -rm sh -c \
+        'mount -t tmpfs -o size=4k none disk && head -c 4096 /dev/zero >disk/full && "$1" rename bench third disk/plan' sh "$mp"
+else
+    echo "tests/cli/run: no disk can be filled here without more rights; that test is left out" >&2
+fi
+nothing_half_written

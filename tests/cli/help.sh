@@ -1,0 +1,21 @@
+# mp alone, help, and command lines that are no command.
+expect_part 0 'Begin with: mp demo' "$mp"
+expect_part 0 'mp help COMMAND tells more' "$mp" help
+expect_part 0 'mp help COMMAND tells more' "$mp" --help
+for command in check rename land repair tree make explore demo soak; do
+    expect_part 0 "mp $command" "$mp" help
+    expect_part 0 'example:' "$mp" help $command
+done
+expect 2 '' 'mp: there is no command "frob"; `mp help` lists them' "$mp" frob
+expect 2 '' 'mp: there is no command "frob"; `mp help` lists them' "$mp" help frob
+expect 2 '' 'mp: there is a word too many: land' "$mp" help check land
+expect 2 '' 'mp: IMAGE is missing' "$mp" check
+expect 2 '' 'mp: there is a word too many: b' "$mp" check a b
+expect 2 '' 'mp: there is no option --frob here' "$mp" check --frob
+expect 2 '' 'mp: option --seed lacks its number' "$mp" land --seed
+expect 2 '' 'mp: option --seed is given twice' "$mp" land --seed 1 --seed 2 a b
+expect 2 '' 'mp: option --exchange takes no value' "$mp" rename --exchange=1 a b c
+expect 2 '' 'mp: option --seed wants a number that is not too large, and got "x"' "$mp" land --seed x bench plan
+expect 2 '' 'mp: option --user wants a number that is not too large, and got "4294967296"' "$mp" explore --user=4294967296 out a b
+expect 2 '' 'mp: option --groups wants a number that is not too large, and got "1,,2"' "$mp" explore --groups 1,,2 out a b
+expect 2 '' 'mp: --frob cannot be opened' "$mp" check -- --frob

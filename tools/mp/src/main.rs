@@ -1,0 +1,7 @@
+//! The program `mp`.
+
+use std::process::ExitCode;
+
+fn main() -> ExitCode {
+    mp::commands::main(std::env::args_os().skip(1).collect())
+}
