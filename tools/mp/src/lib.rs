@@ -3,3 +3,4 @@
 pub mod image;
 pub mod listing;
 pub mod random;
+pub mod random_image;
