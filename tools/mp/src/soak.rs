@@ -10,6 +10,9 @@ use mirepillar::{Number, Plan, CURRENT_DIRECTORY, EXCHANGE, NO_REPLACE};
 /// How many renames are asked for on each image.
 const ASKED_EACH: usize = 8;
 
+/// Of so many images one is of full size: it takes as long as some hundred small ones.
+const FULL_ONCE_IN: usize = 200;
+
 /// What has been done so far.
 #[derive(Clone, Copy, Debug, Default, PartialEq, Eq)]
 pub struct Tally {
@@ -29,7 +32,7 @@ pub struct Breach {
 
 /// Explores the renames of one random image, and adds them up; or stops at the first breach.
 pub fn one_image(random: &mut Random, jobs: Jobs, tally: &mut Tally) -> Option<Breach> {
-    let size = Size::drawn(random);
+    let size = if random.once_in(FULL_ONCE_IN) { Size::Full } else { Size::Small };
     let image = random_image::image(random, size);
     let bytes = image.write();
     tally.images += 1;

@@ -3,9 +3,12 @@
 use super::names::Names;
 use super::{Exploration, Key, Outcome, Phase};
 
-/// What is wrong with a state, if anything is.
-pub fn seen(found: &Exploration, key: Key) -> Option<String> {
-    outcome_is_wrong(found, key).or_else(|| end_is_wrong(found, key)).or_else(|| names_are_wrong(found, key))
+/// What is wrong with a state.
+pub fn seen(found: &Exploration, key: Key) -> Vec<String> {
+    [outcome_is_wrong(found, key), end_is_wrong(found, key), names_are_wrong(found, key)]
+        .into_iter()
+        .flatten()
+        .collect()
 }
 
 /// What a state has to become.

@@ -101,7 +101,7 @@ impl Search<'_> {
         let (number, new) = self.states.number(key);
         if new {
             self.found.states.push(State { key, landings: Vec::new(), cut: None, from });
-            if let Some(sentence) = breach::seen(&self.found, key) {
+            for sentence in breach::seen(&self.found, key) {
                 self.breach(number, sentence);
             }
         }

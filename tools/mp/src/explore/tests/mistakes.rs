@@ -38,7 +38,7 @@ fn a_repair_that_always_takes_back() {
 fn a_repair_that_refuses() {
     fn repair(image: &[u8], plan: &mut [u8], scratch: &mut [u8]) -> Repaired {
         match mirepillar::repair(image, plan, scratch) {
-            Repaired { rows: 7, .. } => Repaired { number: Number::NOT_REPAIRABLE, rows: 0 },
+            answered if answered.rows > 1 => Repaired { number: Number::NOT_REPAIRABLE, rows: 0 },
             answered => answered,
         }
     }
