@@ -21,7 +21,7 @@ expect() {
     run "$@"
     [ "$status" = "$wanted_status" ] || wrong "$*: status $status, expected $wanted_status; it said: $(cat err)"
     [ "$(cat out)" = "$wanted_out" ] || wrong "$*: printed '$(cat out)', expected '$wanted_out'"
-    grep -qF -- "$wanted_err" err || wrong "$*: said '$(cat err)', expected '$wanted_err'"
+    [ -z "$wanted_err" ] || grep -qF -- "$wanted_err" err || wrong "$*: said '$(cat err)', expected '$wanted_err'"
     # A fault of the program itself would be told in other words.
     ! grep -q 'panicked' err || wrong "$*: $(cat err)"
     passed=$((passed + 1))

@@ -13,9 +13,9 @@ same saved third
 [ "$(grep -c fillcolor graph)" = 283 ] || wrong "the graph has not every state"
 grep -q 'this rename survives 283 states' page || wrong "the page has no verdict"
 ! grep -q 'http' page || wrong "the page has outside parts"
-expect 2 '' 'NEW is missing' "$mp" explore bench
+expect 2 '' 'OLD (or REQUEST) is missing' "$mp" explore bench
 expect 2 '' 'none cannot be opened: No such file or directory' "$mp" explore bench none
 expect 2 '' 'option --user goes with OLD and NEW: the file third says it itself' "$mp" explore --user 1 bench third
 expect_part 0 'this rename survives 283 states' "$mp" demo
-expect_part 0 'In 128 of them the file has neither its old name nor its new one.' "$mp" demo
+expect_part 0 'In 64 of them the file has neither its old name nor its new one.' "$mp" demo
 expect 2 '' 'there is a word too many: tree' "$mp" demo tree
