@@ -24,7 +24,7 @@ pub fn user(random: &mut Random) -> u32 {
 }
 
 pub fn time(random: &mut Random) -> u64 {
-    match random.below(4) {
+    match random.below(16) {
         0 => random.next(),
         1 => *random.pick(&[0, u64::MAX]),
         _ => 100 + random.below(500) as u64,
