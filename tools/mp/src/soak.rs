@@ -79,7 +79,7 @@ pub fn request(random: &mut Random, image: &Image) -> Asked {
         cwd: 0,
         old_start: CURRENT_DIRECTORY,
         new_start: CURRENT_DIRECTORY,
-        now: random.next() >> random.below(64),
+        now: random.draw() >> random.below(64),
         flags: *random.pick(&[0, 0, 0, NO_REPLACE, EXCHANGE, EXCHANGE]),
         old,
         new,

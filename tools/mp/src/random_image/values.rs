@@ -13,7 +13,7 @@ pub fn system(random: &mut Random) -> u8 {
 
 pub fn mode(random: &mut Random) -> u16 {
     match random.below(4) {
-        0 => (random.next() & 0o7777) as u16,
+        0 => (random.draw() & 0o7777) as u16,
         _ => *random.pick(&[0o755, 0o755, 0o755, 0o777, 0o700, 0o644, 0o1777, 0o1755, 0o555, 0o070, 0, 0o7777]),
     }
 }
@@ -25,7 +25,7 @@ pub fn user(random: &mut Random) -> u32 {
 
 pub fn time(random: &mut Random) -> u64 {
     match random.below(16) {
-        0 => random.next(),
+        0 => random.draw(),
         1 => *random.pick(&[0, u64::MAX]),
         _ => 100 + random.below(500) as u64,
     }
@@ -34,7 +34,7 @@ pub fn time(random: &mut Random) -> u64 {
 /// A name. The first attempts are mostly short, so that they meet again in other directories; later ones hardly ever do.
 pub fn name(random: &mut Random, attempt: usize) -> Vec<u8> {
     match random.below(12) {
-        _ if attempt >= 4 => format!("{:x}", random.next() >> 20).into_bytes(),
+        _ if attempt >= 4 => format!("{:x}", random.draw() >> 20).into_bytes(),
         0 => any_name(random),
         1 => vec![*random.pick(b"abcxyz"); LONGEST_NAME],
         2 => random.pick(&["...", ".a", "-", "_", "A", "file.txt", "a.b"]).as_bytes().to_vec(),

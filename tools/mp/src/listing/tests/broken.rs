@@ -12,7 +12,7 @@ fn damaged(seed: u64) -> Image {
     let mut bytes = image(&mut random, Size::Small).write();
     for _ in 0..1 + random.below(40) {
         let at = 40 + random.below(bytes.len() - 40);
-        bytes[at] = if random.once_in(3) { random.next() as u8 } else { random.below(8) as u8 };
+        bytes[at] = if random.once_in(3) { random.draw() as u8 } else { random.below(8) as u8 };
     }
     Image::read(&bytes).expect("the layout is right")
 }

@@ -55,7 +55,7 @@ fn mutate(random: &mut Random, listing: &mut Vec<u8>) {
         }
         _ => {
             let at = random.below(listing.len());
-            listing[at] = random.next() as u8;
+            listing[at] = random.draw() as u8;
             return;
         }
     }
