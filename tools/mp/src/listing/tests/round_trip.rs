@@ -8,6 +8,11 @@ use mirepillar::{check, Number};
 
 fn comes_back(image: &Image, seed: u64) {
     let listing = print(image);
+    assert!(
+        listing.bytes().all(|byte| matches!(byte, b'\n' | b' '..=b'~')),
+        "seed {seed}: bytes that are not for terminals"
+    );
+    assert!(listing.lines().all(|line| line.trim() == line && !line.is_empty()), "seed {seed}: blanks at an end");
     let again = parse(listing.as_bytes()).unwrap_or_else(|fault| panic!("seed {seed}: {fault}\n{listing}"));
     assert_eq!(again.write(), image.write(), "seed {seed}\n{listing}");
     assert_eq!(print(&again), listing, "seed {seed}");
@@ -70,7 +75,7 @@ fn stays(random: &mut Random, word: &str) -> bool {
 #[test]
 fn changed_listings_are_refused_or_consistent() {
     let (mut taken, mut refused) = (0, 0);
-    for seed in 0..20_000 {
+    for seed in 0..10_000 {
         let mut random = Random::new(seed);
         let mut listing = print(&image(&mut random, Size::Small)).into_bytes();
         for _ in 0..1 + random.below(3) {
@@ -86,7 +91,7 @@ fn changed_listings_are_refused_or_consistent() {
             Err(_) => refused += 1,
         }
     }
-    assert!(taken > 2_000 && refused > 2_000, "{taken} taken, {refused} refused");
+    assert!(taken > 1_000 && refused > 1_000, "{taken} taken, {refused} refused");
 }
 
 #[test]
