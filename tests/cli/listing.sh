@@ -18,6 +18,7 @@ expect 2 '' 'third is no image: it has 34 bytes, and a table of contents alone h
 cp bench image
 for row in 0 1; do run "$mp" land image plan $row; done
 expect_part 0 'journal pending: rename of inode 3' "$mp" tree image
+expect_part 0 '# mp check answers 203 the note is not all zero: repair first' "$mp" tree image
 
 expect 2 '' 'the listing on standard input, line 2, column 6: there is no directory /b; list it before what is in it' \
     sh -c 'printf "dir /a\nfile /b/f\n" | "$1" make none.img' sh "$mp"

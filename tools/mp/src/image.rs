@@ -61,6 +61,8 @@ pub struct Journal {
     pub old_parent: u16,
     pub text: u16,
     pub time: u64,
+    /// The bytes that belong to none of these, two at 14 and eight at 24: zero in every record that a plan has.
+    pub rest: [u8; 10],
 }
 
 /// All records of an image. A free symlink text is empty.

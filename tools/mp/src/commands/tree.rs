@@ -25,6 +25,10 @@ fn run(arguments: &Arguments) -> Outcome {
     let bytes = files::read(Path::new(path))?;
     let image =
         Image::read(&bytes).map_err(|sentence| format!("{} is no image: {sentence}", Path::new(path).display()))?;
+    let number = mirepillar::check(&bytes);
     print(listing::print(&image).trim_end_matches('\n'))?;
+    if !number.is_done() {
+        print(&format!("# mp check answers {number}"))?;
+    }
     Ok(Verdict::Done)
 }

@@ -46,6 +46,9 @@ impl Journal {
     /// A journal record of 32 bytes; a shorter one is none.
     pub fn read(record: &[u8]) -> Option<Journal> {
         let record = record.get(..Section::Journal.size())?;
+        let mut rest = [0; 10];
+        rest[..2].copy_from_slice(&record[14..16]);
+        rest[2..].copy_from_slice(&record[24..]);
         Some(Journal {
             mark: record[0],
             kind: record[1],
@@ -56,6 +59,7 @@ impl Journal {
             old_parent: u16_at(record, 10),
             text: u16_at(record, 12),
             time: u64_at(record, 16),
+            rest,
         })
     }
 }

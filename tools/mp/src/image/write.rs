@@ -36,9 +36,11 @@ fn handle(handle: &Handle) -> Vec<u8> {
 fn journal(journal: &Journal) -> Vec<u8> {
     let mut record = vec![journal.mark, journal.kind];
     let numbers =
-        [journal.old_slot, journal.new_slot, journal.moved, journal.replaced, journal.old_parent, journal.text, 0];
+        [journal.old_slot, journal.new_slot, journal.moved, journal.replaced, journal.old_parent, journal.text];
     numbers.iter().for_each(|number| record.extend(number.to_le_bytes()));
+    record.extend(&journal.rest[..2]);
     record.extend(journal.time.to_le_bytes());
+    record.extend(&journal.rest[2..]);
     record
 }
 

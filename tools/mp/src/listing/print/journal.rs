@@ -9,6 +9,7 @@ const EXCHANGE: u8 = 7;
 pub fn line(journal: &Journal) -> String {
     match (journal.mark, journal.kind) {
         _ if *journal == Journal::default() => "journal clear\n".to_owned(),
+        _ if journal.rest != Journal::default().rest => unreadable(journal),
         (PENDING, RENAME) => rename(journal),
         (PENDING, EXCHANGE) if journal.text == ABSENT => exchange(journal),
         _ => unreadable(journal),
@@ -35,9 +36,10 @@ fn exchange(journal: &Journal) -> String {
 
 /// A record that no rename and no exchange writes: all its numbers.
 fn unreadable(journal: &Journal) -> String {
-    let Journal { mark, kind, old_slot, new_slot, moved, replaced, old_parent, text, time } = journal;
+    let Journal { mark, kind, old_slot, new_slot, moved, replaced, old_parent, text, time, rest } = journal;
+    let others = rest.iter().filter(|&&byte| byte != 0).count();
     format!(
         "journal unreadable: mark {mark}, kind {kind}, old slot {old_slot}, new slot {new_slot}, moved {moved}, \
-         replaced {replaced}, old parent {old_parent}, text {text}, time {time}\n"
+         replaced {replaced}, old parent {old_parent}, text {text}, time {time}, and {others} other bytes that are not 0\n"
     )
 }

@@ -90,6 +90,12 @@ fn any_other_journal_record_is_told_by_its_numbers() {
     image.journal = Journal { mark: 9, kind: 4, moved: 3, replaced: ABSENT, time: 5, ..Journal::default() };
     has_line(
         &print(&image),
-        "journal unreadable: mark 9, kind 4, old slot 0, new slot 0, moved 3, replaced 65535, old parent 0, text 0, time 5",
+        "journal unreadable: mark 9, kind 4, old slot 0, new slot 0, moved 3, replaced 65535, old parent 0, text 0, time 5, and 0 other bytes that are not 0",
     );
+    image.journal = Journal { rest: [0, 0, 7, 0, 0, 0, 0, 0, 0, 1], ..Journal::default() };
+    has_line(
+        &print(&image),
+        "journal unreadable: mark 0, kind 0, old slot 0, new slot 0, moved 0, replaced 0, old parent 0, text 0, time 0, and 2 other bytes that are not 0",
+    );
+    assert_eq!(Image::read(&image.write()).map(|again| again.journal), Ok(image.journal));
 }
