@@ -86,6 +86,7 @@ int LLVMFuzzerTestOneInput(const uint8_t *data, size_t size)
     struct draws tree = part(&data, &size, size, seed + 3);
     place_buffers(draw_one_in(&order, 2));
     draw_tree(&tree, &image);
+    must(try_check(&image) == MP_DONE, CHECK, "a tree that keeps every rule is consistent");
     draw_request(&asked, &image, &request);
     if (draw_one_in(&order, 32))
         draw_raw_image(&tree, &image);
