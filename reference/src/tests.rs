@@ -11,6 +11,7 @@ mod made;
 mod model;
 mod plain;
 mod portable;
+mod report;
 mod rules;
 mod sticky;
 mod vectors;

@@ -1,4 +1,4 @@
-//! The renames that are measured: from name to name, so that no free slot is needed, and each with rows.
+//! The renames and exchanges that are measured: from name to name, so that no free slot is needed, and each with rows.
 
 use crate::cases::random::Random;
 use crate::cases::trees::builder::Tree;
@@ -6,14 +6,14 @@ use crate::cases::walk::lookups::way_to;
 use crate::explore::PlannedRename;
 use crate::model::permission::{Credentials, SUPERUSER};
 use crate::model::plan::PLAN_LEN;
-use crate::model::request::{Operand, Request, CURRENT};
+use crate::model::request::{Operand, Request, CURRENT, EXCHANGE};
 use crate::model::walk::PATH_MAX;
 use crate::plain;
 use std::collections::BTreeSet;
 
 pub const NOW: u64 = 500;
 
-/// How many renames a batch has.
+/// How many renames, or exchanges, a batch has.
 pub const RENAMES: usize = 1_000;
 
 /// After so many, an image that small has no other.
@@ -21,13 +21,22 @@ const TRIES: usize = 100_000;
 
 /// So many different renames, or all where there are fewer, planned on one image with rows.
 pub fn renames(tree: &Tree) -> Vec<Request> {
+    requests(tree, 0)
+}
+
+/// The same of exchanges.
+pub fn exchanges(tree: &Tree) -> Vec<Request> {
+    requests(tree, EXCHANGE)
+}
+
+fn requests(tree: &Tree, flags: u32) -> Vec<Request> {
     let (image, paths) = (tree.encode(), paths(tree));
     let random = &mut Random::new(1);
     let mut seen = BTreeSet::new();
     let mut requests = vec![];
     for _ in 0..TRIES {
         let pair = (random.below(paths.len()), random.below(paths.len()));
-        let request = request(&paths[pair.0], &paths[pair.1]);
+        let request = request(&paths[pair.0], &paths[pair.1], flags);
         if seen.insert(pair) && plain::rename(&image, &request, NOW, &mut [0; PLAN_LEN]).rows != 0 {
             requests.push(request);
         }
@@ -55,7 +64,7 @@ fn paths(tree: &Tree) -> Vec<Vec<u8>> {
     all.filter(|path| path.len() <= PATH_MAX).collect()
 }
 
-fn request(old: &[u8], new: &[u8]) -> Request {
+fn request(old: &[u8], new: &[u8], flags: u32) -> Request {
     let (old, new) = (Operand::new(CURRENT, old), Operand::new(CURRENT, new));
-    Request { who: Credentials::new(SUPERUSER, 0), current: 0, flags: 0, old, new }
+    Request { who: Credentials::new(SUPERUSER, 0), current: 0, flags, old, new }
 }

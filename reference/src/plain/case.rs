@@ -1,4 +1,4 @@
-//! What both walks of a rename have found, and the steps that may still refuse it (rules 64 to 77).
+//! What both walks of a rename or an exchange have found, and the steps that may still refuse a rename (rules 64 to 77).
 
 use super::image::Image;
 use super::walk::{Found, Name};
@@ -60,12 +60,17 @@ impl<'a> Case<'a> {
         })
     }
 
-    /// Steps 2 to 13: the number of the first that applies.
+    /// Steps 2 to 13 of a rename: the number of the first that applies.
     pub fn refusal(&self) -> Result<(), u8> {
-        self.file_systems()?;
-        self.owners()?;
+        self.parents_refusal()?;
         self.kinds()?;
         self.links_and_slots()
+    }
+
+    /// Steps 2 to 6, which an exchange has too.
+    pub fn parents_refusal(&self) -> Result<(), u8> {
+        self.file_systems()?;
+        self.owners()
     }
 
     /// Steps 2 to 4.
@@ -86,7 +91,7 @@ impl<'a> Case<'a> {
 
     /// Steps 5 and 6.
     fn owners(&self) -> Result<(), u8> {
-        if !may_write(self.who, self.from.inode) || !may_write(self.who, self.into.inode) {
+        if !self.may_write(self.from.inode) || !self.may_write(self.into.inode) {
             return Err(EACCES);
         }
         let is_kept = |inode: Inode, holder: Inode| {
@@ -102,7 +107,7 @@ impl<'a> Case<'a> {
     /// Steps 7 to 9. Only a directory can be above another, so that nothing else is climbed for.
     fn kinds(&self) -> Result<(), u8> {
         let moves_a_directory = is_directory(self.moved.inode);
-        if moves_a_directory && self.moved_is_into_or_above() {
+        if moves_a_directory && self.is_or_is_above(self.moved, self.into) {
             return Err(EINVAL);
         }
         match self.replaced {
@@ -111,7 +116,7 @@ impl<'a> Case<'a> {
             None if self.slash && !moves_a_directory => return Err(ENOTDIR),
             _ => (),
         }
-        if moves_a_directory && !self.is_within_one_directory() && !may_write(self.who, self.moved.inode) {
+        if moves_a_directory && !self.is_within_one_directory() && !self.may_write(self.moved.inode) {
             return Err(EACCES);
         }
         Ok(())
@@ -144,13 +149,17 @@ impl<'a> Case<'a> {
         Ok(())
     }
 
-    fn moved_is_into_or_above(&self) -> bool {
-        let mut at = self.into;
-        while at.number != self.moved.number && at.number != 0 {
+    pub fn may_write(&self, inode: Inode) -> bool {
+        may_write(self.who, inode)
+    }
+
+    /// By the directories' fields.
+    pub fn is_or_is_above(&self, named: Named, mut at: Directory<'a>) -> bool {
+        while at.number != named.number && at.number != 0 {
             let number = at.inode.field();
             at = Directory { number, inode: Inode(&self.image.inodes[usize::from(number)]) };
         }
-        at.number == self.moved.number
+        at.number == named.number
     }
 
     pub fn is_within_one_directory(&self) -> bool {

@@ -1,22 +1,24 @@
-//! The rename: checked, walked, refused or planned (rules 63 to 92).
+//! The rename, and what an exchange has in common with it: checked, walked, refused or planned (rules 63 to 92).
 
 use super::case::{is_directory, Case, Directory, Named};
 use super::check::is_consistent;
+use super::exchange;
 use super::image::Image;
 use super::rows::{put_u16, put_u64, Rows, JOURNAL_FIRST, JOURNAL_LAST, NEW_NAME, NONE, THE_REST};
 use super::walk::walk;
 use crate::model::image::SYMLINK;
 use crate::model::layout::{ENTRIES, INODES, JOURNAL, TEXTS};
-use crate::model::numbers::{BAD_REQUEST, BUFFER_TOO_SHORT, DONE, ENOENT, ENOSPC, INCONSISTENT, JOURNAL_PENDING};
+use crate::model::numbers::{
+    BAD_REQUEST, BUFFER_TOO_SHORT, DONE, EEXIST, EINVAL, ENOENT, ENOSPC, INCONSISTENT, JOURNAL_PENDING,
+};
 use crate::model::plan::PLAN_LEN;
 use crate::model::rename::Answer;
-use crate::model::request::{Request, FURTHER_MAX};
+use crate::model::request::{Request, EXCHANGE, FURTHER_MAX, NO_REPLACE};
 use crate::model::walk::Role;
 
-type Record = [u8; 32];
+pub type Record = [u8; 32];
 
 /// Answers for any bytes (rule 78). The plan changes only where the number is 0, and then in its first 648 bytes alone.
-/// The request's flags are not looked at.
 pub fn rename(bytes: &[u8], request: &Request, now: u64, plan: &mut [u8]) -> Answer {
     let mut steps = [0, 0];
     let (number, rows) = match planned(bytes, request, now, plan, &mut steps) {
@@ -41,17 +43,34 @@ fn planned(bytes: &[u8], request: &Request, now: u64, plan: &mut [u8], steps: &m
     if is_wrong(request, &image) {
         return Err(BAD_REQUEST);
     }
+    if request.has_wrong_flags() {
+        return Err(EINVAL);
+    }
     let old = walk(&image, request, Role::Old, &mut steps[0])?;
     let new = walk(&image, request, Role::New, &mut steps[1])?;
     let case = Case::new(&image, request, old, new).ok_or(ENOENT)?;
-    // Two names of one inode (rule 65) are done without a row.
-    if case.replaced.is_some_and(|replaced| replaced.number == case.moved.number) {
-        return Ok(Rows::new(plan).count);
+    match (request.flags, case.replaced) {
+        (NO_REPLACE, Some(_)) => Err(EEXIST),
+        (EXCHANGE, None) => Err(ENOENT),
+        // Two names of one inode (rule 65) are done without a row.
+        (_, Some(replaced)) if replaced.number == case.moved.number => Ok(Rows::new(plan).count),
+        (EXCHANGE, Some(replaced)) => planned_exchange(&case, replaced, now, plan),
+        _ => planned_rename(&case, now, plan),
     }
+}
+
+fn planned_rename(case: &Case, now: u64, plan: &mut [u8]) -> Result<u8, u8> {
     case.refusal()?;
     let new_slot = case.replaced.map(|replaced| replaced.slot).or_else(|| case.lowest_free_slot()).ok_or(ENOSPC)?;
     let mut rows = Rows::new(plan);
-    put_rows(&mut rows, &case, new_slot, now);
+    put_rows(&mut rows, case, new_slot, now);
+    Ok(rows.count)
+}
+
+fn planned_exchange(case: &Case, replaced: Named, now: u64, plan: &mut [u8]) -> Result<u8, u8> {
+    exchange::refusal(case, replaced)?;
+    let mut rows = Rows::new(plan);
+    exchange::put_rows(&mut rows, case, replaced, now);
     Ok(rows.count)
 }
 
@@ -72,10 +91,10 @@ fn put_rows(rows: &mut Rows, case: &Case, new_slot: u16, now: u64) {
     rows.put(JOURNAL_FIRST, offsets[JOURNAL], &journal_record(case, new_slot, freed_text, now));
     rows.put(NEW_NAME, slot(new_slot), &new_entry(case));
     rows.put(THE_REST, slot(case.moved.slot), &[0; 32]);
-    rows.put(THE_REST, inode(case.moved.number), &moved_inode(case, now));
-    rows.put(THE_REST, inode(case.from.number), &parent_inode(case, case.from, now));
+    rows.put(THE_REST, inode(case.moved.number), &moved_inode(case.moved, case.into, now));
+    rows.put(THE_REST, inode(case.from.number), &parent_inode(case.from, links_after(case, case.from), now));
     if !case.is_within_one_directory() {
-        rows.put(THE_REST, inode(case.into.number), &parent_inode(case, case.into, now));
+        rows.put(THE_REST, inode(case.into.number), &parent_inode(case.into, links_after(case, case.into), now));
     }
     if let Some(replaced) = case.replaced {
         rows.put(THE_REST, inode(replaced.number), &replaced_inode(replaced, now));
@@ -92,7 +111,7 @@ fn freed_text(replaced: Named) -> Option<u16> {
 }
 
 /// Rule 87.
-fn journal_record(case: &Case, new_slot: u16, freed_text: Option<u16>, now: u64) -> Record {
+pub fn journal_record(case: &Case, new_slot: u16, freed_text: Option<u16>, now: u64) -> Record {
     let mut record = [0; 32];
     record[0] = 1;
     put_u16(&mut record, 2, case.moved.slot);
@@ -106,7 +125,7 @@ fn journal_record(case: &Case, new_slot: u16, freed_text: Option<u16>, now: u64)
 }
 
 /// Rule 86: where the name exists already, this is its entry with another target.
-fn new_entry(case: &Case) -> Record {
+pub fn new_entry(case: &Case) -> Record {
     let mut record = [0; 32];
     put_u16(&mut record, 0, case.into.number);
     put_u16(&mut record, 2, case.moved.number);
@@ -116,23 +135,30 @@ fn new_entry(case: &Case) -> Record {
 }
 
 /// Rule 89.
-fn moved_inode(case: &Case, now: u64) -> Record {
-    let mut record = case.image.inodes[usize::from(case.moved.number)];
+pub fn moved_inode(moved: Named, into: Directory, now: u64) -> Record {
+    let mut record = [0; 32];
+    record.copy_from_slice(moved.inode.0);
     put_u64(&mut record, 24, now);
-    if is_directory(case.moved.inode) {
-        put_u16(&mut record, 14, case.into.number);
+    if is_directory(moved.inode) {
+        put_u16(&mut record, 14, into.number);
     }
     record
 }
 
-/// Rule 90. Only the moved and the replaced inode come or go, so that the others need not be counted (rule 88).
-fn parent_inode(case: &Case, directory: Directory, now: u64) -> Record {
+/// Only the moved and the replaced inode come or go, so that the others need not be counted (rule 88).
+fn links_after(case: &Case, directory: Directory) -> u16 {
     let (is_from, is_into) = (directory.number == case.from.number, directory.number == case.into.number);
     let moves = is_directory(case.moved.inode);
     let replaces = case.replaced.is_some_and(|replaced| is_directory(replaced.inode));
     let (gained, lost) = (u16::from(is_into && moves), u16::from(is_from && moves) + u16::from(is_into && replaces));
-    let mut record = case.image.inodes[usize::from(directory.number)];
-    put_u16(&mut record, 12, directory.inode.links() + gained - lost);
+    directory.inode.links() + gained - lost
+}
+
+/// Rule 90.
+pub fn parent_inode(directory: Directory, links: u16, now: u64) -> Record {
+    let mut record = [0; 32];
+    record.copy_from_slice(directory.inode.0);
+    put_u16(&mut record, 12, links);
     put_u64(&mut record, 16, now);
     put_u64(&mut record, 24, now);
     record

@@ -2,8 +2,8 @@
 
 use super::check::{check, is_consistent};
 use super::image::Image;
-use super::journal::Journal;
-use super::rows::{put_u16, Rows, JOURNAL_LAST, THE_REST};
+use super::journal::{Exchange, Journal, Pending};
+use super::rows::{put_u16, Rows, JOURNAL_LAST, NEW_NAME, THE_REST};
 use crate::model::image::{Entry, DIRECTORY};
 use crate::model::layout::{ENTRIES, INODES, JOURNAL, TEXTS};
 use crate::model::numbers::{BUFFER_TOO_SHORT, DONE, INCONSISTENT, NOT_REPAIRABLE};
@@ -50,11 +50,12 @@ type Written = Vec<(u8, Range<usize>)>;
 
 /// Nothing where the journal record does not fit, or where what it leads to is not consistent (rules 104 to 109).
 fn outcome(bytes: &[u8], image: &Image, scratch: &mut [u8]) -> Option<Written> {
-    let journal = Journal::read(image)?;
+    let pending = Pending::read(image)?;
     scratch.copy_from_slice(bytes);
     let mut redo = Redo { image, scratch, written: Vec::with_capacity(ROWS) };
-    if let Some(into) = journal.into {
-        redo.finish(&journal, into);
+    match pending {
+        Pending::Rename(journal) => journal.into.into_iter().for_each(|into| redo.finish(&journal, into)),
+        Pending::Exchange(exchange) => redo.exchange(&exchange),
     }
     redo.clear(JOURNAL_LAST, image.offsets[JOURNAL], 32);
     let written = redo.written;
@@ -96,12 +97,29 @@ impl Counts {
     }
 }
 
+/// Directories below from and into once both entries are exchanged, whatever they target as they stand.
+fn subdirectories(image: &Image, exchange: &Exchange) -> [u16; 2] {
+    let mut counts = [0; 2];
+    for (slot, record) in (0..).zip(image.entries) {
+        let entry = Entry(record);
+        let target = match slot {
+            slot if slot == exchange.old_slot => exchange.replaced,
+            slot if slot == exchange.new_slot => exchange.moved,
+            _ => entry.target(),
+        };
+        let counted = u16::from(entry.name_len() != 0 && image.is_directory(target));
+        counts[0] += u16::from(entry.parent() == exchange.from) & counted;
+        counts[1] += u16::from(entry.parent() == exchange.into) & counted;
+    }
+    counts
+}
+
 impl Redo<'_> {
     /// Rule 108.
     fn finish(&mut self, journal: &Journal, into: u16) {
         let counts = Counts::new(self.image, journal, into);
         self.clear(THE_REST, self.image.offsets[ENTRIES] + 32 * usize::from(journal.old_slot), 32);
-        self.write_moved(journal, into);
+        self.write_moved(journal.moved, into, journal.now);
         self.write_parent(journal.from, 2 + counts.in_from, journal.now);
         if into != journal.from {
             self.write_parent(into, 2 + counts.in_into, journal.now);
@@ -112,6 +130,26 @@ impl Redo<'_> {
         if let Some(text) = journal.freed_text {
             self.clear(THE_REST, self.image.offsets[TEXTS] + 64 * usize::from(text), 64);
         }
+    }
+
+    /// Rule 108a.
+    fn exchange(&mut self, exchange: &Exchange) {
+        let Exchange { from, into, now, .. } = *exchange;
+        let [in_from, in_into] = subdirectories(self.image, exchange);
+        self.write_target(exchange.old_slot, exchange.replaced);
+        self.write_target(exchange.new_slot, exchange.moved);
+        self.write_moved(exchange.moved, into, now);
+        self.write_parent(from, 2 + in_from, now);
+        if into != from {
+            self.write_parent(into, 2 + in_into, now);
+        }
+        self.write_moved(exchange.replaced, from, now);
+    }
+
+    fn write_target(&mut self, slot: u16, target: u16) {
+        let start = self.image.offsets[ENTRIES] + 32 * usize::from(slot);
+        self.written.push((NEW_NAME, start..start + 32));
+        put_u16(&mut self.scratch[start..start + 32], 2, target);
     }
 
     fn clear(&mut self, group: u8, start: usize, len: usize) {
@@ -127,9 +165,9 @@ impl Redo<'_> {
     }
 
     /// Rule 89.
-    fn write_moved(&mut self, journal: &Journal, into: u16) {
-        let record = self.inode(journal.moved);
-        record[24..].copy_from_slice(&journal.now);
+    fn write_moved(&mut self, moved: u16, into: u16, now: [u8; 8]) {
+        let record = self.inode(moved);
+        record[24..].copy_from_slice(&now);
         if record[0] == DIRECTORY {
             put_u16(record, 14, into);
         }

@@ -2,7 +2,7 @@
 
 use crate::bench::bucket::bucket;
 use crate::bench::images::{all, Measured};
-use crate::bench::requests::{renames, RENAMES};
+use crate::bench::requests::{exchanges, renames, RENAMES};
 use crate::cases::trees::builder::Tree;
 use crate::model::check::check;
 use crate::model::image::{DIRECTORY, FREE};
@@ -57,11 +57,13 @@ fn chains_rise_and_fall() {
 }
 
 #[test]
-fn full_images_have_a_thousand_different_renames() {
+fn full_images_have_a_thousand_different_renames_and_exchanges() {
     for name in ["typical", "wide", "chain, rising"] {
-        let requests = renames(of(name));
-        let different: BTreeSet<_> = requests.iter().map(|request| (&request.old.path, &request.new.path)).collect();
-        assert_eq!(different.len(), RENAMES, "{name}");
+        for requests in [renames(of(name)), exchanges(of(name))] {
+            let different: BTreeSet<_> =
+                requests.iter().map(|request| (&request.old.path, &request.new.path)).collect();
+            assert_eq!(different.len(), RENAMES, "{name}");
+        }
     }
 }
 

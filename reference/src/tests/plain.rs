@@ -1,6 +1,6 @@
 //! The program that the library's times are compared with: it answers as the model, to every byte.
 
-use super::made::{all_renames, CHECKS, CROWDED, REPAIRS};
+use super::made::{all_renames, all_repairs, renames_with_flags, CHECKS, CROWDED, LANDINGS};
 use crate::cases::damage::random_changes::{flip, shuffle};
 use crate::cases::damage::subject::Subject;
 use crate::cases::random::Random;
@@ -49,23 +49,24 @@ fn the_stored_images_are_answered_alike() {
 
 #[test]
 fn the_stored_renames_are_answered_alike() {
-    for renaming in all_renames() {
+    for renaming in all_renames().chain(renames_with_flags()) {
         assert_rename(&renaming.image, &renaming.request, renaming.now, renaming.buffer);
     }
 }
 
-/// The kind of an exchange's journal record, of which the program knows nothing.
-const EXCHANGE: u8 = 7;
-
-fn is_of_an_exchange(image: &[u8]) -> bool {
-    Layout::read(image).is_some_and(|layout| image[layout.offsets[JOURNAL] + 1] == EXCHANGE)
+#[test]
+fn the_stored_repairs_are_answered_alike() {
+    all_repairs().for_each(|repairing| assert_repair(&repairing.image, repairing.plan, repairing.scratch));
 }
 
 #[test]
-fn the_stored_repairs_are_answered_alike() {
-    let of_renames = REPAIRS.cases.iter().filter(|repairing| !is_of_an_exchange(&repairing.image));
-    assert!(of_renames.clone().count() >= REPAIRS.cases.len() - 5);
-    of_renames.for_each(|repairing| assert_repair(&repairing.image, repairing.plan, repairing.scratch));
+fn the_stored_landings_are_answered_alike() {
+    for landing in &LANDINGS.cases {
+        let [mut image, mut wanted] = [landing.image.clone(), landing.image.clone()];
+        let number = model::land::land(&mut wanted, &landing.plan, landing.row);
+        assert_eq!(plain::land(&mut image, &landing.plan, landing.row), number);
+        assert!(image == wanted, "the images differ");
+    }
 }
 
 /// Few changes of consistent trees: of those to bytes most lead to a fault, of the others many to none.

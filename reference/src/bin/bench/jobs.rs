@@ -1,5 +1,6 @@
 //! Each job on one image, by both programs: first their answers, which have to be the same, and then their times.
 
+use crate::clock::processor_seconds;
 use crate::library::{Jobs, LIBRARY, PLAIN};
 use mirepillar_reference::bench::requests::RENAMES;
 use mirepillar_reference::bench::times::medians;
@@ -32,7 +33,7 @@ pub fn check(image: &[u8]) -> Outcome {
             }
         }
     };
-    Ok(medians([&mut batch(LIBRARY), &mut batch(PLAIN)], None))
+    Ok(medians(processor_seconds, [&mut batch(LIBRARY), &mut batch(PLAIN)], None))
 }
 
 /// All the requests in their order, and again where they are fewer than a batch. The buffer holds the plan before.
@@ -50,7 +51,25 @@ pub fn rename(image: &[u8], requests: &[Request]) -> Outcome {
             }
         }
     };
-    Ok(medians([&mut batch(LIBRARY), &mut batch(PLAIN)], Some(RENAMES)))
+    Ok(medians(processor_seconds, [&mut batch(LIBRARY), &mut batch(PLAIN)], Some(RENAMES)))
+}
+
+/// One row after the other, in the order of the plan and then again: a row that has landed lands as it did before. What
+/// is timed is one landing, on average over the rows.
+pub fn land(image: &[u8], plan: &[u8], rows: u8) -> Outcome {
+    let [mut one, mut other] = [image.to_vec(), image.to_vec()];
+    for row in 0..rows.into() {
+        same([(LIBRARY.land)(&mut one, plan, row), (PLAIN.land)(&mut other, plan, row)], one == other)?;
+    }
+    let batch = |jobs: Jobs| {
+        let mut image = image.to_vec();
+        move |calls| {
+            for row in (0..u64::from(rows)).cycle().take(calls) {
+                black_box((jobs.land)(black_box(&mut image), black_box(plan), black_box(row)));
+            }
+        }
+    };
+    Ok(medians(processor_seconds, [&mut batch(LIBRARY), &mut batch(PLAIN)], None))
 }
 
 /// The buffers still hold what the repair before has left.
@@ -67,5 +86,5 @@ pub fn repair(image: &[u8]) -> Outcome {
             }
         }
     };
-    Ok(medians([&mut batch(LIBRARY), &mut batch(PLAIN)], None))
+    Ok(medians(processor_seconds, [&mut batch(LIBRARY), &mut batch(PLAIN)], None))
 }

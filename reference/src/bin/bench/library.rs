@@ -27,6 +27,8 @@ extern "C" {
         plan_len: usize,
     ) -> u64;
 
+    fn mp_land(image: *mut u8, image_len: usize, plan: *const u8, plan_len: usize, row: u64) -> u64;
+
     fn mp_repair(
         image: *const u8,
         image_len: usize,
@@ -42,11 +44,13 @@ extern "C" {
 pub struct Jobs {
     pub check: fn(&[u8]) -> u64,
     pub rename: fn(&[u8], &Request, &mut [u8]) -> u64,
+    pub land: fn(&mut [u8], &[u8], u64) -> u64,
     pub repair: fn(&[u8], &mut [u8], &mut [u8]) -> u64,
 }
 
-pub const LIBRARY: Jobs = Jobs { check: library_check, rename: library_rename, repair: library_repair };
-pub const PLAIN: Jobs = Jobs { check: plain_check, rename: plain_rename, repair: plain_repair };
+pub const LIBRARY: Jobs =
+    Jobs { check: library_check, rename: library_rename, land: library_land, repair: library_repair };
+pub const PLAIN: Jobs = Jobs { check: plain_check, rename: plain_rename, land: plain_land, repair: plain_repair };
 
 fn library_check(image: &[u8]) -> u64 {
     // SAFETY: the pointer and the length are those of one slice, which the call only reads.
@@ -79,6 +83,11 @@ fn library_rename(image: &[u8], request: &Request, plan: &mut [u8]) -> u64 {
     }
 }
 
+fn library_land(image: &mut [u8], plan: &[u8], row: u64) -> u64 {
+    // SAFETY: each pointer and length are those of one slice, and only the image is written.
+    unsafe { mp_land(image.as_mut_ptr(), image.len(), plan.as_ptr(), plan.len(), row) }
+}
+
 fn library_repair(image: &[u8], plan: &mut [u8], scratch: &mut [u8]) -> u64 {
     // SAFETY: each pointer and length are those of one slice, and only the plan and the scratch are written.
     unsafe {
@@ -94,6 +103,10 @@ fn plain_rename(image: &[u8], request: &Request, plan: &mut [u8]) -> u64 {
     let answer = plain::rename(image, request, NOW, plan);
     let [old, new] = answer.steps.map(u64::from);
     u64::from(answer.number) + (u64::from(answer.rows) << 8) + (old << 16) + (new << 32)
+}
+
+fn plain_land(image: &mut [u8], plan: &[u8], row: u64) -> u64 {
+    plain::land(image, plan, row).into()
 }
 
 fn plain_repair(image: &[u8], plan: &mut [u8], scratch: &mut [u8]) -> u64 {
