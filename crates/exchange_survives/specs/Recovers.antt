@@ -24,9 +24,9 @@ use Rattle.exchanges.specs.Exchange.{exchangeResults}
 use Rattle.crash_theorem.specs.Obligations.{OnTheWay}
 use Rattle.crash_theorem.specs.Plan.{Plan, behindOf, Recovers}
 use Rattle.crash_theorem.specs.Planned.{behind-all}
-use Rattle.drafts.specs.PendingRename.{moveFrom, intoGood}
-use Rattle.drafts.specs.PendingExchange.{slotStands, slotsStand, exchangeFits, finishingExchange}
-use Rattle.drafts.specs.ExchangeFit.{exchange-finished}
+use Rattle.rename_drafts.specs.PendingRename.{moveFrom, intoGood}
+use Rattle.exchange_drafts.specs.PendingExchange.{slotStands, slotsStand, exchangeFits, finishingExchange}
+use Rattle.exchange_drafts.specs.ExchangeFit.{exchange-finished}
 use Rattle.recover.specs.Recover.{ifConsistent, recover}
 use Rattle.image_store.specs.Image.{recordOf}
 use Rattle.image_store.specs.ImageLaws.{images}

@@ -23,7 +23,7 @@ use Rattle.plan.specs.Form.{headerOf, rowPut, rowsPut, cleared, noRow, rowCount
 use Rattle.plan.specs.Write.{Write, entryKey, journalKey, storeAll}
 use Rattle.results.specs.declared.Move.{Move}
 use Rattle.results.specs.Results.{entriesAfter, childrenAfter, linksAfter, movedBytes, holderBytes, replacedBytes, holderRow, results}
-use Rattle.drafts.specs.PendingRename.{renameFits, entryStands, intoGood, moveDraft, renameDraft}
+use Rattle.rename_drafts.specs.PendingRename.{renameFits, entryStands, intoGood, moveDraft, renameDraft}
 use Rattle.drafts.specs.Draft.{draft}
 use Rattle.recover.specs.Recover.{pendingRows}
 use Rattle.recover.specs.Job.{Recovered, recovered}

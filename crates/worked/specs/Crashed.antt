@@ -37,7 +37,7 @@ use Rattle.results.specs.Results.{entriesAfter, childrenAfter, linksAfter, move
 use Rattle.moves.specs.Plan.{moveOf, renameRows, planned}
 use Rattle.rename.specs.Order.{freeSlot, order}
 use Rattle.rename.specs.Job.{renamed, planAfter}
-use Rattle.drafts.specs.PendingRename.{renameFits, entryStands, intoGood, moveDraft, renameDraft}
+use Rattle.rename_drafts.specs.PendingRename.{renameFits, entryStands, intoGood, moveDraft, renameDraft}
 use Rattle.drafts.specs.Draft.{draft}
 use Rattle.recover.specs.Recover.{pendingRows}
 use Rattle.recover.specs.Job.{recovered}
