@@ -16,7 +16,7 @@ use Rattle.encode.specs.Journal.{renameKind, exchangeKind, journalOf, journalFo
 use Rattle.plan.specs.Write.{Write}
 use Rattle.plan.specs.Filled.{AllWrites}
 use Rattle.plan.specs.WriteLaws.{writes-join}
-use Rattle.results.specs.declared.Move.{Move}
+use Rattle.recounts.specs.declared.Move.{Move}
 use Rattle.results.specs.Results.{results, clearRow}
 use Rattle.results.specs.InImage.{InImage}
 use Rattle.results.specs.Owed.{results-write, clear-writes}

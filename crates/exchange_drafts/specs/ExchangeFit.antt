@@ -13,7 +13,7 @@ use Rattle.layout.specs.Limits.{absent}
 use Rattle.layout.specs.View.{View, viewOf, isDirectory}
 use Rattle.layout.specs.ViewLaws.{isKind-below}
 use Rattle.encode.specs.declared.journal.Journal.{Journal}
-use Rattle.results.specs.declared.Move.{Move}
+use Rattle.recounts.specs.declared.Move.{Move}
 use Rattle.exchanges.specs.InImage.{BothInImage}
 use Rattle.rename_drafts.specs.PendingRename.{different, moveFrom, intoGood}
 use Rattle.exchange_drafts.specs.PendingExchange.{bothInRange, bothDifferent, slotStands, slotsStand, exchangeFits, finishingExchange, exchangeDraft}

@@ -3,8 +3,8 @@
 use encode::journal::Journal;
 use layout::Shape;
 use layout::limits;
+use recounts::Move;
 use rename_drafts::drafted::Draft;
-use results::Move;
 ghost use mathlib.Core.Path.{_≡_};
 ghost use Prim.Native.Nat.{_≤_, _<_};
 ghost use lib.ListN.{length};

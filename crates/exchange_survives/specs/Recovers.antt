@@ -16,7 +16,7 @@ use Rattle.edits.specs.Kinds.{IsDirectory, EntryUsed}
 use Rattle.edits.specs.Tests.{kind-test}
 use Rattle.edits.specs.ExchangedLaws.{slots-apart, side-directory, side-below-root, side-not-own, side-not-there}
 use Rattle.plan.specs.Write.{Write, journalKey, storeAll}
-use Rattle.results.specs.declared.Move.{Move}
+use Rattle.recounts.specs.declared.Move.{Move}
 use Rattle.results.specs.Results.{clearRow}
 use Rattle.results.specs.Start.{journalFor}
 use Rattle.results.specs.InImage.{InImage}

@@ -17,7 +17,7 @@ use Rattle.consistency.specs.Sound.{journalClear}
 use Rattle.consistency.specs.Consistent.{consistent}
 use Rattle.plan.specs.Form.{planRows, planBytes}
 use Rattle.plan.specs.Write.{Write, storeAll}
-use Rattle.results.specs.declared.Move.{Move}
+use Rattle.recounts.specs.declared.Move.{Move}
 use Rattle.results.specs.Results.{results, clearRow}
 use Rattle.results.specs.ResultRows.{results-le}
 use Rattle.exchanges.specs.Exchange.{exchangeResults}

@@ -28,7 +28,7 @@ use Rattle.refusals.specs.Case.{stickyDenied}
 use Rattle.refusals.specs.Rules.{numberOf, Rule, refuse, decide}
 use Rattle.rename_steps.specs.Steps.{steps}
 use Rattle.exchange_steps.specs.Exchange.{exchangeSteps}
-use Rattle.results.specs.declared.Move.{Move}
+use Rattle.recounts.specs.declared.Move.{Move}
 use Rattle.exchanges.specs.Exchange.{exchangeRows, exchangePlanned}
 use Rattle.moves.specs.Plan.{moveOf, exchangeOf, renameRows, planned}
 use Rattle.rename.specs.Order.{directoryOf, inodeOf, nameOf, caseOf, flagRules, caseRules, view, walks, early, late, order}

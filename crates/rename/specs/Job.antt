@@ -10,7 +10,7 @@ use Rattle.refusals.specs.declared.case.Answer.the-variants.{Refused, Same, Pla
 use Rattle.refusals.specs.declared.case.Case.{Case}
 use Rattle.refusals.specs.Rules.{numberOf, decide}
 use Rattle.plan.specs.Form.{cleared}
-use Rattle.results.specs.declared.Move.{Move}
+use Rattle.recounts.specs.declared.Move.{Move}
 use Rattle.exchanges.specs.Exchange.{exchangeRows, exchangePlanned}
 use Rattle.moves.specs.Plan.{moveOf, exchangeOf, renameRows, planned}
 use Rattle.rename.specs.declared.Renamed.{Renamed}

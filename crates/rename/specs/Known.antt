@@ -22,7 +22,7 @@ use Rattle.refusals.specs.declared.case.Case.{Case}
 use Rattle.refusals.specs.Case.{exists}
 use Rattle.rename_steps.specs.Tests.{noSlot}
 use Rattle.refusals.specs.CaseIn.{CaseIn}
-use Rattle.results.specs.Results.{entriesAfter}
+use Rattle.recounts.specs.Recount.{entriesAfter}
 use Rattle.results.specs.InImage.{InImage}
 use Rattle.exchanges.specs.InImage.{BothInImage}
 use Rattle.moves.specs.Plan.{moveWith, freedText, moveOf, exchangeOf}

@@ -13,7 +13,7 @@ use Rattle.layout.specs.Limits.{absent}
 use Rattle.layout.specs.View.{viewOf, isDirectory}
 use Rattle.layout.specs.ViewLaws.{isKind-below}
 use Rattle.encode.specs.declared.journal.Journal.{Journal}
-use Rattle.results.specs.declared.Move.{Move}
+use Rattle.recounts.specs.declared.Move.{Move}
 use Rattle.results.specs.Results.{present}
 use Rattle.results.specs.InImage.{InImage}
 use Rattle.rename_drafts.specs.PendingRename.{belowOrAbsent, numbersInRange, different, renameFits, moveFrom, entryStands, intoGood, undoing, finishing, moveDraft, renameDraft}

@@ -10,7 +10,7 @@ use Rattle.layout.specs.declared.Shape.{Shape}
 use Rattle.layout.specs.View.{View, viewOf, entryUsed, isDirectory}
 use Rattle.encode.specs.declared.journal.Journal.{Journal}
 use Rattle.plan.specs.Write.{Write}
-use Rattle.results.specs.declared.Move.{Move}
+use Rattle.recounts.specs.declared.Move.{Move}
 use Rattle.results.specs.Results.{present, results, clearRow}
 
 -- a number below n, or none

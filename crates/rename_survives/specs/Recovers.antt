@@ -20,7 +20,7 @@ use Rattle.edits.specs.Tests.{kind-test}
 use Rattle.edits.specs.Finished.{slots-differ, from-directory, moved-below-root, moved-not-from, moved-not-into}
 use Rattle.plan.specs.Write.{Write, entryKey, journalKey, storeAll}
 use Rattle.plan.specs.WriteLaws.{other-section}
-use Rattle.results.specs.declared.Move.{Move}
+use Rattle.recounts.specs.declared.Move.{Move}
 use Rattle.results.specs.Results.{holderAfter, results, clearRow}
 use Rattle.results.specs.Start.{journalFor}
 use Rattle.crash_theorem.specs.Change.{Change}
