@@ -6,8 +6,9 @@ use Prim.Native.Nat.{ℕ, _<_}
 use Rattle.layout.specs.declared.Shape.{Shape}
 use Rattle.layout.specs.Limits.{absent}
 use Rattle.layout.specs.View.{viewOf, inodeAt, entryAt}
-use Rattle.results.specs.declared.Move.{Move}
-use Rattle.results.specs.Results.{entriesAfter, movedAfter, holderAfter, replacedAfter}
+use Rattle.recounts.specs.declared.Move.{Move}
+use Rattle.recounts.specs.Recount.{entriesAfter}
+use Rattle.results.specs.Results.{movedAfter, holderAfter, replacedAfter}
 
 -- The image x is on the way of the rename on s: an entry off the two slots is as before, and an inode that the rename writes is as before
 -- or as after.

@@ -14,8 +14,9 @@ use Rattle.layout.specs.Fields.{inodeKind}
 use Rattle.layout.specs.View.{viewOf, inodeAt}
 use Rattle.edits.specs.WrittenLaws.{same-entry}
 use Rattle.plan.specs.Write.{Write}
-use Rattle.results.specs.declared.Move.{Move}
-use Rattle.results.specs.Results.{present, entriesAfter, linksAfter, holderBytes, replacedBytes, holderAfter, replacedAfter, oldRow, results}
+use Rattle.recounts.specs.declared.Move.{Move}
+use Rattle.recounts.specs.Recount.{entriesAfter, linksAfter}
+use Rattle.results.specs.Results.{present, holderBytes, replacedBytes, holderAfter, replacedAfter, oldRow, results}
 use Rattle.results.specs.InImage.{InImage}
 use Rattle.results.specs.Records.{replaced-freed}
 use Rattle.results.specs.Again.{holder-kind, replaced-kind, replaced-again, afresh}

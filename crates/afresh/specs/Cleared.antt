@@ -7,7 +7,7 @@ use Rattle.layout.specs.Record.{store}
 use Rattle.layout.specs.View.{viewOf}
 use Rattle.edits.specs.Kinds.{EntryUsed}
 use Rattle.plan.specs.Write.{entryKey}
-use Rattle.results.specs.declared.Move.{Move}
+use Rattle.recounts.specs.declared.Move.{Move}
 use Rattle.results.specs.Results.{freeRecord}
 
 -- the image with the old entry cleared

@@ -17,8 +17,9 @@ use Rattle.tree.specs.Tree.{entriesOf, childDirectories}
 use Rattle.edits.specs.WrittenLaws.{same-entry}
 use Rattle.plan.specs.Write.{inodeKey, entryKey}
 use Rattle.plan.specs.WriteLaws.{other-section, other-index}
-use Rattle.results.specs.declared.Move.{Move}
-use Rattle.results.specs.Results.{freeRecord, entriesAfter, childrenAfter}
+use Rattle.recounts.specs.declared.Move.{Move}
+use Rattle.recounts.specs.Recount.{entriesAfter, childrenAfter}
+use Rattle.results.specs.Results.{freeRecord}
 use Rattle.afresh.specs.Recount.{Agrees, Made}
 use Rattle.afresh.specs.RecountLaws.{entries-agree, children-agree, entries-made, children-made}
 use Rattle.afresh.specs.Cleared.{oldCleared, EntryStands}

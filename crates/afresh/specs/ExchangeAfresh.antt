@@ -6,7 +6,7 @@ use Prim.Native.Nat.{ℕ, _<_}
 use Rattle.layout.specs.declared.Shape.{Shape}
 use Rattle.layout.specs.View.{viewOf, inodeAt, entryAt}
 use Rattle.encode.specs.Entry.{retargeted}
-use Rattle.results.specs.declared.Move.{Move}
+use Rattle.recounts.specs.declared.Move.{Move}
 use Rattle.results.specs.Results.{movedAfter}
 use Rattle.exchanges.specs.Exchange.{back, parentAfter}
 

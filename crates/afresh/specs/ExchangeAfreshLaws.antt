@@ -17,7 +17,7 @@ use Rattle.encode.specs.Entry.{retargeted}
 use Rattle.edits.specs.WrittenLaws.{same-size, same-entry}
 use Rattle.plan.specs.Form.{entryGroup}
 use Rattle.plan.specs.Write.{Write, entryKey}
-use Rattle.results.specs.declared.Move.{Move}
+use Rattle.recounts.specs.declared.Move.{Move}
 use Rattle.results.specs.Results.{movedRow, holderBytes}
 use Rattle.results.specs.Again.{afresh}
 use Rattle.exchanges.specs.Exchange.{back, childrenExchanged, slotRow, parentAfter, parentRow, exchangeResults}

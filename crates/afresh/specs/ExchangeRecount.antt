@@ -4,7 +4,7 @@ use mathlib.Core.Logic.{_≢_}
 use Prim.Native.Nat.{ℕ, _<_}
 use Rattle.layout.specs.View.{View}
 use Rattle.edits.specs.Edit.{SameEntry, SameSize}
-use Rattle.results.specs.declared.Move.{Move}
+use Rattle.recounts.specs.declared.Move.{Move}
 
 -- The view w is v off the two slots, and every inode has its type.
 pub record OffSlots (v w : View) (m : Move) : Type 0 where

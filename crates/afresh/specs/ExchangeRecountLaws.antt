@@ -7,8 +7,8 @@ use borrow.Author.Tests.{ne-eqb}
 use Rattle.seq.specs.SearchLaws.{count-same}
 use Rattle.layout.specs.View.{View, isDirectory}
 use Rattle.tree.specs.Tree.{holdsDirectory, childDirectories}
-use Rattle.results.specs.declared.Move.{Move}
-use Rattle.results.specs.Edited.{edited-is, edited-same}
+use Rattle.recounts.specs.declared.Move.{Move}
+use Rattle.recounts.specs.Edited.{edited-is, edited-same}
 use Rattle.exchanges.specs.Exchange.{back, holdsExchanged, childrenExchanged}
 use Rattle.afresh.specs.RecountLaws.{directory-same, holds-same}
 use Rattle.afresh.specs.ExchangeRecount.{OffSlots, GoneOver}

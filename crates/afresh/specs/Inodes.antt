@@ -11,7 +11,7 @@ use Rattle.layout.specs.Facts.{Laid}
 use Rattle.layout.specs.RecordLaws.{record-length}
 use Rattle.layout.specs.View.{inodeAt}
 use Rattle.plan.specs.Write.{Write, inodeKey}
-use Rattle.results.specs.declared.Move.{Move}
+use Rattle.recounts.specs.declared.Move.{Move}
 use Rattle.results.specs.Results.{movedBytes, holderBytes, movedAfter, resultRow, when}
 use Rattle.results.specs.Again.{moved-again, holder-again, afresh}
 

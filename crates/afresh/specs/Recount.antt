@@ -4,8 +4,8 @@ use mathlib.Core.Logic.{_≢_, _⊎_}
 use Prim.Native.Nat.{ℕ, _<_}
 use Rattle.layout.specs.View.{View}
 use Rattle.edits.specs.Edit.{SameEntry, SameSize}
-use Rattle.results.specs.declared.Move.{Move}
-use Rattle.results.specs.Results.{entriesAfter}
+use Rattle.recounts.specs.declared.Move.{Move}
+use Rattle.recounts.specs.Recount.{entriesAfter}
 
 -- The view w is v off the two slots, and an inode has its type unless no entry is left that names it.
 pub record Agrees (v w : View) (m : Move) : Type 0 where

@@ -13,9 +13,9 @@ use Rattle.layout.specs.View.{View, entryUsed, isDirectory}
 use Rattle.tree.specs.Tree.{targets, holdsDirectory, entriesOf, childDirectories}
 use Rattle.edits.specs.Tests.{kind-is, kind-test}
 use Rattle.edits.specs.Edit.{SameEntry, SameSize}
-use Rattle.results.specs.declared.Move.{Move}
-use Rattle.results.specs.Results.{targetsAfter, holdsAfter, entriesAfter, childrenAfter, linksAfter}
-use Rattle.results.specs.Edited.{edited-new, edited-else, edited-is, edited-same}
+use Rattle.recounts.specs.declared.Move.{Move}
+use Rattle.recounts.specs.Recount.{targetsAfter, holdsAfter, entriesAfter, childrenAfter, linksAfter}
+use Rattle.recounts.specs.Edited.{edited-new, edited-else, edited-is, edited-same}
 use Rattle.afresh.specs.Recount.{Agrees, Made}
 
 -- an inode of one type in both views is a directory in both or in neither

@@ -23,8 +23,9 @@ use Rattle.paths.specs.LookupLaws.{lookup-misses}
 use Rattle.walk.specs.Ends.{Existing, Missing, Facts}
 use Rattle.walk.specs.Both.{Ends, oldFinal, newFinal}
 use Rattle.refusals.specs.declared.case.Case.{Case}
-use Rattle.refusals.specs.Case.{exists, hasEntries, isOpened}
-use Rattle.refusals.specs.Passed.{Passed}
+use Rattle.refusals.specs.Case.{exists}
+use Rattle.rename_steps.specs.Tests.{hasEntries, isOpened}
+use Rattle.rename_steps.specs.Passed.{Passed}
 use Rattle.rename.specs.Order.{freeSlot, directoryOf, slotOf, inodeOf, slashOf, nameOf, caseOf}
 use Rattle.rename.specs.Answers.{NewFound, by-entry, by-name}
 use Rattle.rename.specs.Known.{old-found, new-found}

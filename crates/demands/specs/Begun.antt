@@ -25,9 +25,9 @@ use Rattle.walk.specs.Ends.{Facts}
 use Rattle.walk.specs.EndLaws.{walk-facts}
 use Rattle.walk.specs.Both.{oldFinal, newFinal, oldWalk, newWalk, newAfter, walksOf}
 use Rattle.refusals.specs.declared.case.Answer.the-variants.{Planned}
-use Rattle.refusals.specs.Steps.{decide}
-use Rattle.refusals.specs.Passed.{Passes}
-use Rattle.refusals.specs.PassedLaws.{passes}
+use Rattle.refusals.specs.Rules.{decide}
+use Rattle.refusals.specs.Passes.{Passes}
+use Rattle.refusals.specs.PassesLaws.{passes}
 use Rattle.plan.specs.Form.{planBytes}
 use Rattle.rename.specs.Order.{walks, early}
 

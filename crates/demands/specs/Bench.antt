@@ -25,11 +25,13 @@ use Rattle.paths.specs.Path as path
 use Rattle.component.specs.Step.{walkStep}
 use Rattle.walk.specs.Walk.{walkFrom, walk}
 use Rattle.walk.specs.Both.{walksOf}
-use Rattle.refusals.specs.Case.{stickyDenied, hasEntries, isOpened}
+use Rattle.refusals.specs.Case.{stickyDenied}
+use Rattle.rename_steps.specs.Tests.{hasEntries, isOpened}
 use Rattle.plan.specs.Form.{rowAt, headerOf, rowPut, rowsPut, cleared}
 use Rattle.plan.specs.Fit.{coversSection, covers, rowFits, applicable}
 use Rattle.apply.specs.Apply.{applyNumber, appliedImage}
-use Rattle.results.specs.Results.{entriesAfter, childrenAfter, linksAfter, movedBytes, holderBytes, replacedBytes, results}
+use Rattle.recounts.specs.Recount.{entriesAfter, childrenAfter, linksAfter}
+use Rattle.results.specs.Results.{movedBytes, holderBytes, replacedBytes, results}
 use Rattle.moves.specs.Plan.{moveOf, renameRows, planned}
 use Rattle.rename.specs.Order.{freeSlot, order}
 use Rattle.rename.specs.Job.{renamed, planAfter}

@@ -28,9 +28,10 @@ use Rattle.walk.specs.Both.{newFinal}
 use Rattle.refusals.specs.declared.case.Answer.the-variants.{Planned}
 use Rattle.refusals.specs.declared.case.Case.{Case}
 use Rattle.refusals.specs.Case.{exists}
-use Rattle.refusals.specs.Steps.{decide}
-use Rattle.refusals.specs.Passed.{isPlanned, Passed}
-use Rattle.refusals.specs.PassedLaws.{planned-passed}
+use Rattle.refusals.specs.Rules.{decide}
+use Rattle.refusals.specs.Passes.{isPlanned}
+use Rattle.rename_steps.specs.Passed.{Passed}
+use Rattle.rename_steps.specs.PassedLaws.{planned-passed}
 use Rattle.plan.specs.Form.{planBytes}
 use Rattle.moves.specs.Plan.{moveOf}
 use Rattle.rename.specs.Order.{walks, early}

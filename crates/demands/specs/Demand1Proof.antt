@@ -19,8 +19,9 @@ use Rattle.component.specs.Ways.{componentNumber}
 use Rattle.walk.specs.Walk.{haltNumber}
 use Rattle.walk.specs.Ends.{walkNumber}
 use Rattle.refusals.specs.declared.case.Answer.the-variants.{Planned}
-use Rattle.refusals.specs.Steps.{Rule, numberOf, decide, steps}
-use Rattle.refusals.specs.Exchange.{exchangeSteps}
+use Rattle.refusals.specs.Rules.{Rule, numberOf, decide}
+use Rattle.rename_steps.specs.Steps.{steps}
+use Rattle.exchange_steps.specs.Exchange.{exchangeSteps}
 use Rattle.refusals.specs.Decide.{numbers}
 use Rattle.refusals.specs.DecideLaws.{decide-number, decide-refused, decide-passed}
 use Rattle.plan.specs.Form.{planBytes}

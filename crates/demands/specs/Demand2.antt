@@ -14,7 +14,7 @@ use Rattle.paths.specs.Request.{requestGood}
 use Rattle.paths.specs.Flags.{asksNoReplace, flagsGood}
 use Rattle.refusals.specs.declared.case.Answer.{Answer}
 use Rattle.refusals.specs.declared.case.Answer.the-variants.{Refused, Same, Planned, Exchanged}
-use Rattle.refusals.specs.Steps.{Rule, refuse, numberOf, decide}
+use Rattle.refusals.specs.Rules.{Rule, refuse, numberOf, decide}
 use Rattle.plan.specs.Form.{planBytes, cleared}
 use Rattle.plan.specs.Jobs.{jobsIn}
 use Rattle.crash_theorem.specs.Pick.{Empty}

@@ -23,9 +23,9 @@ use Rattle.paths.specs.Flags.{exchangeFlag, asksNoReplace, flagsGood}
 use Rattle.refusals.specs.declared.case.Answer.{Answer}
 use Rattle.refusals.specs.declared.case.Answer.the-variants.{Refused, Same, Planned, Exchanged}
 use Rattle.refusals.specs.declared.case.Case.{Case}
-use Rattle.refusals.specs.Steps.{numberOf, decide}
-use Rattle.refusals.specs.DecideLaws.{steps-same}
-use Rattle.refusals.specs.ExchangeLaws.{exchange-same}
+use Rattle.refusals.specs.Rules.{numberOf, decide}
+use Rattle.rename_steps.specs.StepsLaws.{steps-same}
+use Rattle.exchange_steps.specs.ExchangeLaws.{exchange-same}
 use Rattle.plan.specs.Form.{journalGroup, entryGroup}
 use Rattle.plan.specs.Jobs.{jobsIn, Job}
 use Rattle.apply.specs.Apply.{appliedImage}

@@ -20,7 +20,7 @@ use Rattle.walk.specs.Ends.{Existing}
 use Rattle.refusals.specs.declared.case.Answer.{Answer}
 use Rattle.refusals.specs.declared.case.Answer.the-variants.{Refused, Same, Planned, Exchanged}
 use Rattle.plan.specs.Form.{planBytes, entryGroup}
-use Rattle.results.specs.declared.Move.{Move}
+use Rattle.recounts.specs.declared.Move.{Move}
 use Rattle.crash_theorem.specs.Pick.{Has}
 use Rattle.moves.specs.Plan.{moveOf}
 use Rattle.rename.specs.Order.{walks, slotOf}

@@ -13,7 +13,7 @@ use Rattle.paths.specs.declared.request.Request.{Request}
 use Rattle.component.specs.Step.{existing}
 use Rattle.refusals.specs.declared.case.Answer.the-variants.{Exchanged}
 use Rattle.plan.specs.Form.{planBytes, journalGroup}
-use Rattle.results.specs.declared.Move.{Move}
+use Rattle.recounts.specs.declared.Move.{Move}
 use Rattle.crash_theorem.specs.Pick.{Has}
 use Rattle.exchanges.specs.Exchange.{back}
 use Rattle.rename.specs.Order.{slotOf, inodeOf, walks}

@@ -27,10 +27,11 @@ use Rattle.walk.specs.Ends.{Existing, Known, Numbered}
 use Rattle.walk.specs.Both.{oldFinal}
 use Rattle.refusals.specs.declared.case.Answer.the-variants.{Planned, Exchanged}
 use Rattle.refusals.specs.declared.case.Case.{Case}
-use Rattle.refusals.specs.Steps.{decide}
-use Rattle.refusals.specs.Exchange.{exchangeSteps}
-use Rattle.refusals.specs.Passed.{isExchanged, ExchangePassed}
-use Rattle.refusals.specs.PassedLaws.{exchange-passed}
+use Rattle.refusals.specs.Rules.{decide}
+use Rattle.exchange_steps.specs.Exchange.{exchangeSteps}
+use Rattle.refusals.specs.Passes.{isExchanged}
+use Rattle.exchange_steps.specs.ExchangePassed.{ExchangePassed}
+use Rattle.exchange_steps.specs.ExchangePassedLaws.{exchange-passed}
 use Rattle.plan.specs.Form.{planBytes}
 use Rattle.rename.specs.Order.{directoryOf, slotOf, inodeOf, slashOf, walks, early}
 use Rattle.rename.specs.Job.{answer, case, exchange}

@@ -10,7 +10,7 @@ use Rattle.paths.specs.declared.request.Request.{Request}
 use Rattle.refusals.specs.declared.case.Answer.{Answer}
 use Rattle.refusals.specs.declared.case.Answer.the-variants.{Planned, Exchanged}
 use Rattle.plan.specs.Form.{planBytes}
-use Rattle.results.specs.declared.Move.{Move}
+use Rattle.recounts.specs.declared.Move.{Move}
 use Rattle.crash_theorem.specs.Events.{EventOf}
 use Rattle.exchanges.specs.Exchange.{exchangePlanned}
 use Rattle.moves.specs.Plan.{planned}

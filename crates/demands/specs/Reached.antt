@@ -10,10 +10,10 @@ use Rattle.layout.specs.View.{View, viewOf}
 use Rattle.paths.specs.declared.request.Request.{Request}
 use Rattle.refusals.specs.declared.case.Answer.{Answer}
 use Rattle.refusals.specs.declared.case.Answer.the-variants.{Planned}
-use Rattle.refusals.specs.Steps.{Rule, refuse, decide}
+use Rattle.refusals.specs.Rules.{Rule, refuse, decide}
 use Rattle.refusals.specs.Decide.{answers}
-use Rattle.refusals.specs.Passed.{Passes}
-use Rattle.refusals.specs.PassedLaws.{passes-before}
+use Rattle.refusals.specs.Passes.{Passes}
+use Rattle.refusals.specs.PassesLaws.{passes-before}
 use Rattle.rename.specs.Order.{walks, caseRules, early, order}
 use Rattle.rename.specs.Job.{answer, case}
 

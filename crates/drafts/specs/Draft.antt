@@ -10,8 +10,8 @@ use Rattle.layout.specs.View.{journalAt}
 use Rattle.encode.specs.declared.journal.Journal.{Journal}
 use Rattle.encode.specs.Journal.{renameKind, exchangeKind, journalOf, journalFormed}
 use Rattle.plan.specs.Write.{Write}
-use Rattle.drafts.specs.PendingRename.{renameDraft}
-use Rattle.drafts.specs.PendingExchange.{exchangeDraft}
+use Rattle.rename_drafts.specs.PendingRename.{renameDraft}
+use Rattle.exchange_drafts.specs.PendingExchange.{exchangeDraft}
 
 module _ (h : Shape) (x : List ℕ) where
   -- rule 104: the rows by the kind of the operation; there are no others

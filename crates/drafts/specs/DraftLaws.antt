@@ -1,13 +1,11 @@
--- The draft of a recovery: one law for each kind of operation, its rows in a plan, and that they are such as an operation may write (rule 104). Assumes nothing.
+-- The draft of a recovery: one law for each kind of operation, and that its rows are such as an operation may write (rule 104). Assumes nothing.
 use mathlib.Core.Path.{_≡_, _∙_, subst}
 use mathlib.Core.Logic.{_≢_}
 use mathlib.Core.Bool.{true, false, cond}
 use mathlib.Core.List.{List, [], _∷_, _++_}
 use mathlib.Core.Option.{Option, none, some}
-use Prim.Native.Nat.{ℕ, _+_, _≤_, _<_}
-use native.Mathlib.Omega.{arith}
+use Prim.Native.Nat.{ℕ}
 use lib.Dec.{eqb}
-use lib.ListN.{length}
 use borrow.Author.Tests.{ne-eqb}
 use Rattle.seq.specs.Truth.{by-test}
 use Rattle.layout.specs.declared.Shape.{Shape}
@@ -15,21 +13,20 @@ use Rattle.layout.specs.Facts.{Laid}
 use Rattle.layout.specs.View.{viewOf, journalAt}
 use Rattle.encode.specs.declared.journal.Journal.{Journal}
 use Rattle.encode.specs.Journal.{renameKind, exchangeKind, journalOf, journalFormed}
-use Rattle.plan.specs.Form.{planRows, rowPut}
-use Rattle.plan.specs.Write.{Write, rowFrom}
-use Rattle.plan.specs.Filled.{AllWrites, Filled}
-use Rattle.plan.specs.WriteLaws.{writes-join, filled-one, filled-join}
-use Rattle.results.specs.declared.Move.{Move}
+use Rattle.plan.specs.Write.{Write}
+use Rattle.plan.specs.Filled.{AllWrites}
+use Rattle.plan.specs.WriteLaws.{writes-join}
+use Rattle.recounts.specs.declared.Move.{Move}
 use Rattle.results.specs.Results.{results, clearRow}
 use Rattle.results.specs.InImage.{InImage}
 use Rattle.results.specs.Owed.{results-write, clear-writes}
 use Rattle.exchanges.specs.Exchange.{exchangeResults}
 use Rattle.exchanges.specs.ExchangeRows.{exchange-writes}
-use Rattle.drafts.specs.PendingRename.{renameFits, moveFrom, entryStands, intoGood, undoing, finishing, moveDraft, renameDraft}
-use Rattle.drafts.specs.PendingExchange.{exchangeFits, finishingExchange, exchangeDraft}
+use Rattle.rename_drafts.specs.PendingRename.{renameFits, moveFrom, entryStands, intoGood, undoing, finishing, moveDraft, renameDraft}
+use Rattle.exchange_drafts.specs.PendingExchange.{exchangeFits, finishingExchange, exchangeDraft}
 use Rattle.drafts.specs.Draft.{kindDraft, draft}
-use Rattle.drafts.specs.Fit.{fits-image}
-use Rattle.drafts.specs.ExchangeFit.{fits-both}
+use Rattle.rename_drafts.specs.Fit.{fits-image}
+use Rattle.exchange_drafts.specs.ExchangeFit.{fits-both}
 
 -- ---- the ways out of a draft
 
@@ -51,16 +48,6 @@ module _ (h : Shape) (x : List ℕ) where
 
     pub draft-other : j .kind ≢ renameKind → j .kind ≢ exchangeKind → draft h x ≡ none
     draft-other rename exchange = kind-draft ∙ rw (ne-eqb _ _ rename, ne-eqb _ _ exchange)
-
--- ---- the rows in a plan
-
--- rows that leave a place for the cleared journal record behind them
-module _ (h : Shape) (ws : List Write) (few : length ws ≤ 6) {p q : List ℕ} {n : ℕ} (filled : Filled h p 0 ws q n) where
-  pub rows-below : n < planRows
-  rows-below = omega (arith, filled .next)
-
-  pub cleared-filled : {r : List ℕ} → r ≡ rowPut q n (rowFrom h (clearRow h)) → Filled h p 0 (ws ++ clearRow h ∷ []) r (n + 1)
-  cleared-filled e = filled-join h filled (filled-one h (clearRow h) e)
 
 -- ---- what a draft writes
 

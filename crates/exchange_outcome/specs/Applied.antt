@@ -9,7 +9,7 @@ use Rattle.layout.specs.declared.Shape.{Shape}
 use Rattle.plan.specs.Form.{planRows, planBytes, rowCount, entryGroup, resultGroup}
 use Rattle.plan.specs.Jobs.{Job, jobsIn}
 use Rattle.plan.specs.Write.{Write}
-use Rattle.results.specs.declared.Move.{Move}
+use Rattle.recounts.specs.declared.Move.{Move}
 use Rattle.results.specs.Results.{clearRow}
 use Rattle.exchanges.specs.Exchange.{slotRows, inodeRows, exchangeResults, exchangeRows, exchangePlanned}
 use Rattle.exchanges.specs.ExchangeRows.{exchange-le}

@@ -18,7 +18,7 @@ use Rattle.consistency.specs.FactLaws.{consistent-is}
 use Rattle.edits.specs.Exchanged.{Side}
 use Rattle.edits.specs.Bodies.{bodies-consistent}
 use Rattle.edits.specs.Refusals.{not-above-of}
-use Rattle.results.specs.declared.Move.{Move}
+use Rattle.recounts.specs.declared.Move.{Move}
 use Rattle.image_store.specs.ImageLaws.{read-of}
 use Rattle.exchange_outcome.specs.Outcome.{exchanged}
 use Rattle.exchange_outcome.specs.Paired.{Paired}

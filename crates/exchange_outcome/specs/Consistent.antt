@@ -22,7 +22,7 @@ use Rattle.edits.specs.PartlyWritten.{same-head}
 use Rattle.edits.specs.WrittenLaws.{same-size, same-entry}
 use Rattle.edits.specs.ExchangeWritten.{SideWritten, ExchangeWritten}
 use Rattle.edits.specs.ExchangeWrittenLaws.{exchange-written-consistent}
-use Rattle.results.specs.declared.Move.{Move}
+use Rattle.recounts.specs.declared.Move.{Move}
 use Rattle.results.specs.Results.{movedAfter}
 use Rattle.exchanges.specs.Exchange.{holdsExchanged, childrenExchanged, parentAfter}
 use Rattle.afresh.specs.ExchangeRecount.{OffSlots, GoneOver}

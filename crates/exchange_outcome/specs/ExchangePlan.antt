@@ -3,7 +3,7 @@ use mathlib.Core.List.{List}
 use Prim.Native.Nat.{ℕ}
 use Rattle.layout.specs.declared.Shape.{Shape}
 use Rattle.encode.specs.Journal.{exchangeKind}
-use Rattle.results.specs.declared.Move.{Move}
+use Rattle.recounts.specs.declared.Move.{Move}
 use Rattle.results.specs.Results.{clearRow}
 use Rattle.results.specs.Start.{startRow}
 use Rattle.exchanges.specs.Exchange.{exchangeResults}

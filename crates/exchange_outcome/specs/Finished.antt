@@ -12,7 +12,7 @@ use Rattle.layout.specs.Record.{recordAt}
 use Rattle.layout.specs.View.{inodeAt, entryAt, textAt, handleAt, journalAt}
 use Rattle.encode.specs.Entry.{retargeted}
 use Rattle.plan.specs.Write.{Write, inodeKey, entryKey, textKey, journalKey}
-use Rattle.results.specs.declared.Move.{Move}
+use Rattle.recounts.specs.declared.Move.{Move}
 use Rattle.results.specs.Results.{movedAfter, movedRow}
 use Rattle.exchanges.specs.Exchange.{back, slotRow, parentAfter, parentRow, parentRows, exchangeResults}
 use Rattle.crash_theorem.specs.Pick.{Has}

@@ -11,7 +11,7 @@ use Rattle.layout.specs.View.{viewOf}
 use Rattle.consistency.specs.Sound.{journalClear}
 use Rattle.consistency.specs.RecordFacts.{Bodies}
 use Rattle.edits.specs.Exchanged.{Exchangeable}
-use Rattle.results.specs.declared.Move.{Move}
+use Rattle.recounts.specs.declared.Move.{Move}
 
 pub record Paired (h : Shape) (s : List ℕ) (m : Move) : Type 0 where
   -- a consistent image

@@ -7,7 +7,7 @@ use Rattle.layout.specs.View.{viewOf}
 use Rattle.edits.specs.ConsistentView.{ConsistentView}
 use Rattle.edits.specs.ExchangedLaws.{mirrored, slots-apart, side-directory, side-used}
 use Rattle.edits.specs.Bodies.{bodies-consistent}
-use Rattle.results.specs.declared.Move.{Move}
+use Rattle.recounts.specs.declared.Move.{Move}
 use Rattle.exchanges.specs.Exchange.{back}
 use Rattle.exchanges.specs.InImage.{BothInImage}
 use Rattle.exchange_outcome.specs.Paired.{Paired}

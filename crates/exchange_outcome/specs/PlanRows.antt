@@ -14,7 +14,7 @@ use Rattle.edits.specs.ExchangedLaws.{slots-apart, side-not-own, side-not-there
 use Rattle.plan.specs.Form.{journalGroup, clearGroup}
 use Rattle.plan.specs.Write.{Write, inodeKey, entryKey}
 use Rattle.plan.specs.WriteLaws.{other-section}
-use Rattle.results.specs.declared.Move.{Move}
+use Rattle.recounts.specs.declared.Move.{Move}
 use Rattle.results.specs.Results.{when, movedRow}
 use Rattle.results.specs.Owed.{clear-writes}
 use Rattle.exchanges.specs.Exchange.{back, slotRow, parentRow, inodeRows, exchangeResults}

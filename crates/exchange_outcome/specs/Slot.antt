@@ -5,7 +5,7 @@ use Prim.Native.Nat.{ℕ}
 use Rattle.layout.specs.declared.Shape.{Shape}
 use Rattle.layout.specs.View.{viewOf}
 use Rattle.edits.specs.Kinds.{EntryUsed}
-use Rattle.results.specs.declared.Move.{Move}
+use Rattle.recounts.specs.declared.Move.{Move}
 
 -- In the image x it is in use, lies where it lay and has the name that it had in s, and targets inode i.
 pub record SlotNames (h : Shape) (s x : List ℕ) (m : Move) (i : ℕ) : Type 0 where

@@ -10,7 +10,7 @@ use Rattle.encode.specs.Entry.{retargeted}
 use Rattle.edits.specs.Bodies.{bodies-formed}
 use Rattle.edits.specs.PartlyWritten.{entry-itself}
 use Rattle.edits.specs.ExchangeWrittenLaws.{side-names}
-use Rattle.results.specs.declared.Move.{Move}
+use Rattle.recounts.specs.declared.Move.{Move}
 use Rattle.exchange_outcome.specs.Paired.{Paired}
 use Rattle.exchange_outcome.specs.PairedLaws.{in-image}
 use Rattle.exchange_outcome.specs.Slot.{SlotNames}

@@ -6,7 +6,7 @@ use Prim.Native.Nat.{ℕ, _<_}
 use Rattle.layout.specs.declared.Shape.{Shape}
 use Rattle.layout.specs.Fields.{inodeKind}
 use Rattle.layout.specs.View.{viewOf}
-use Rattle.results.specs.declared.Move.{Move}
+use Rattle.recounts.specs.declared.Move.{Move}
 use Rattle.exchanges.specs.Exchange.{exchangeResults}
 use Rattle.afresh.specs.ExchangeAfresh.{ExchangePartWay}
 use Rattle.afresh.specs.ExchangeAfreshLaws.{exchange-same}

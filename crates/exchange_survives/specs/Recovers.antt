@@ -16,7 +16,7 @@ use Rattle.edits.specs.Kinds.{IsDirectory, EntryUsed}
 use Rattle.edits.specs.Tests.{kind-test}
 use Rattle.edits.specs.ExchangedLaws.{slots-apart, side-directory, side-below-root, side-not-own, side-not-there}
 use Rattle.plan.specs.Write.{Write, journalKey, storeAll}
-use Rattle.results.specs.declared.Move.{Move}
+use Rattle.recounts.specs.declared.Move.{Move}
 use Rattle.results.specs.Results.{clearRow}
 use Rattle.results.specs.Start.{journalFor}
 use Rattle.results.specs.InImage.{InImage}
@@ -24,9 +24,9 @@ use Rattle.exchanges.specs.Exchange.{exchangeResults}
 use Rattle.crash_theorem.specs.Obligations.{OnTheWay}
 use Rattle.crash_theorem.specs.Plan.{Plan, behindOf, Recovers}
 use Rattle.crash_theorem.specs.Planned.{behind-all}
-use Rattle.drafts.specs.PendingRename.{moveFrom, intoGood}
-use Rattle.drafts.specs.PendingExchange.{slotStands, slotsStand, exchangeFits, finishingExchange}
-use Rattle.drafts.specs.ExchangeFit.{exchange-finished}
+use Rattle.rename_drafts.specs.PendingRename.{moveFrom, intoGood}
+use Rattle.exchange_drafts.specs.PendingExchange.{slotStands, slotsStand, exchangeFits, finishingExchange}
+use Rattle.exchange_drafts.specs.ExchangeFit.{exchange-finished}
 use Rattle.recover.specs.Recover.{ifConsistent, recover}
 use Rattle.image_store.specs.Image.{recordOf}
 use Rattle.image_store.specs.ImageLaws.{images}

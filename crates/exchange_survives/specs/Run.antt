@@ -7,7 +7,7 @@ use Rattle.layout.specs.declared.Shape.{Shape}
 use Rattle.layout.specs.View.{View, viewOf}
 use Rattle.edits.specs.Kinds.{EntryUsed}
 use Rattle.plan.specs.Jobs.{Job}
-use Rattle.results.specs.declared.Move.{Move}
+use Rattle.recounts.specs.declared.Move.{Move}
 use Rattle.exchanges.specs.Exchange.{back}
 use Rattle.crash_theorem.specs.Change.{Change}
 use Rattle.crash_theorem.specs.Events.{EventOf, State}

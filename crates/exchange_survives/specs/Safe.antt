@@ -10,7 +10,7 @@ use Rattle.layout.specs.declared.Shape.{Shape}
 use Rattle.layout.specs.View.{viewOf, entryAt}
 use Rattle.plan.specs.Form.{planRows, planBytes, journalGroup}
 use Rattle.plan.specs.Jobs.{Job}
-use Rattle.results.specs.declared.Move.{Move}
+use Rattle.recounts.specs.declared.Move.{Move}
 use Rattle.exchanges.specs.Exchange.{exchangePlanned}
 use Rattle.crash_theorem.specs.Change.{Change, goal}
 use Rattle.crash_theorem.specs.Events.{EventOf, State, decided}

@@ -13,8 +13,9 @@ use Rattle.encode.specs.Journal.{exchangeKind}
 use Rattle.tree.specs.Tree.{holdsDirectory}
 use Rattle.plan.specs.Form.{entryGroup, rowsPut, cleared}
 use Rattle.plan.specs.Write.{Write, inodeKey, entryKey, rowsFrom}
-use Rattle.results.specs.declared.Move.{Move}
-use Rattle.results.specs.Results.{edited, holderBytes, resultRow, when, movedRow, clearRow}
+use Rattle.recounts.specs.declared.Move.{Move}
+use Rattle.recounts.specs.Recount.{edited}
+use Rattle.results.specs.Results.{holderBytes, resultRow, when, movedRow, clearRow}
 use Rattle.results.specs.Start.{startRow}
 
 -- the same exchange, as the replaced inode sees it

@@ -19,7 +19,7 @@ use Rattle.plan.specs.FitFacts.{Writes}
 use Rattle.plan.specs.Write.{inodeKey, rowFrom}
 use Rattle.plan.specs.Filled.{AllWrites, Filled}
 use Rattle.plan.specs.WriteLaws.{filled-one, filled-join, plan-filled, writes-join}
-use Rattle.results.specs.declared.Move.{Move}
+use Rattle.recounts.specs.declared.Move.{Move}
 use Rattle.results.specs.Results.{movedAfter, movedRow, clearRow}
 use Rattle.results.specs.Start.{startRow}
 use Rattle.results.specs.Again.{moved-length, holder-length}

@@ -1,8 +1,8 @@
 -- An exchange whose numbers are those of records of the image. Assumes nothing.
 use Prim.Native.Nat.{_<_}
 use Rattle.layout.specs.declared.Shape.{Shape}
-use Rattle.results.specs.declared.Move.{Move}
-use Rattle.results.specs.RecountLaws.{Two}
+use Rattle.recounts.specs.declared.Move.{Move}
+use Rattle.recounts.specs.RecountLaws.{Two}
 
 -- The slots are two of the image, and each number is that of an inode.
 pub record BothInImage (h : Shape) (m : Move) : Type 0 where

@@ -1,13 +1,12 @@
 // What an exchange leaves in the parents, by recount of the entries as it edits them, and its rows.
 use layout::Shape;
-use results::Move;
-use results::recount;
+use recounts::Move;
 ghost use mathlib.Core.Path.{_≡_};
 ghost use Prim.Native.Nat.{_+_, _≤_, _<_};
 ghost use Rattle.layout.specs.Limits.{entryLimit};
 ghost use Rattle.layout.specs.Facts.{Laid};
 ghost use Rattle.layout.specs.View.{viewOf};
-ghost use Rattle.results.specs.RecountLaws.{Two};
+ghost use Rattle.recounts.specs.RecountLaws.{Two};
 ghost use Rattle.exchanges.specs.Exchange.{back, childrenExchanged, parentAfter};
 
 pub mod rows;
@@ -34,10 +33,10 @@ fn children(image: &[u8], h: Shape, m: Move, d: usize) -> usize
     ensures { λ r. ⌜ (r ≡ childrenExchanged (viewOf h (now (image .entry))) m d) × (r ≤ entryLimit) ⌝ }
 {
     let stand = tree::child_directories(image, h, d);
-    let second = recount::one_if(recount::makes_child(image, h, back(m), d));
-    let first = recount::one_if(recount::makes_child(image, h, m, d));
-    let old = recount::one_if(tree::entry_holds_directory(image, h, d, m.old));
-    let new = recount::one_if(tree::entry_holds_directory(image, h, d, m.new));
+    let second = recounts::one_if(recounts::makes_child(image, h, back(m), d));
+    let first = recounts::one_if(recounts::makes_child(image, h, m, d));
+    let old = recounts::one_if(tree::entry_holds_directory(image, h, d, m.old));
+    let new = recounts::one_if(tree::entry_holds_directory(image, h, d, m.new));
     stand + second + first - old - new
 }
 

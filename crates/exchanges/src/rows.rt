@@ -2,7 +2,7 @@
 use encode::journal;
 use layout::Shape;
 use layout::place;
-use results::Move;
+use recounts::Move;
 ghost use mathlib.Core.Path.{_≡_};
 ghost use Prim.Native.Nat.{_+_, _<_, _≤_};
 ghost use lib.ListN.{length};
@@ -10,7 +10,7 @@ ghost use Rattle.layout.specs.Facts.{Laid};
 ghost use Rattle.plan.specs.Form.{planRows, planBytes, rowPut};
 ghost use Rattle.plan.specs.Write.{rowFrom};
 ghost use Rattle.plan.specs.Filled.{Filled};
-ghost use Rattle.results.specs.RecountLaws.{Two};
+ghost use Rattle.recounts.specs.RecountLaws.{Two};
 ghost use Rattle.exchanges.specs.Exchange.{slotRow, parentRow, slotRows, parentRows, inodeRows, exchangeResults, exchangeRows, exchangePlanned};
 ghost use Rattle.exchanges.specs.InImage.{BothInImage};
 

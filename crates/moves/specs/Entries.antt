@@ -8,7 +8,7 @@ use Rattle.layout.specs.declared.Shape.{Shape}
 use Rattle.layout.specs.Limits.{absent}
 use Rattle.layout.specs.View.{entryAt}
 use Rattle.encode.specs.Entry.{entryBytes, retargeted}
-use Rattle.results.specs.declared.Move.{Move}
+use Rattle.recounts.specs.declared.Move.{Move}
 use Rattle.moves.specs.Plan.{newEntry}
 
 module _ (h : Shape) (s : List ℕ) (m : Move) (called r : List ℕ) where

@@ -9,7 +9,7 @@ use Rattle.plan.specs.Form.{planRows, rowPut, cleared}
 use Rattle.plan.specs.Write.{rowFrom}
 use Rattle.plan.specs.Filled.{Filled}
 use Rattle.plan.specs.WriteLaws.{filled-one, filled-join, plan-filled}
-use Rattle.results.specs.declared.Move.{Move}
+use Rattle.recounts.specs.declared.Move.{Move}
 use Rattle.results.specs.Results.{results, clearRow}
 use Rattle.results.specs.ResultRows.{results-le}
 use Rattle.moves.specs.Plan.{journalRow, entryRow, renameRows, planned}

@@ -12,8 +12,9 @@ use Rattle.encode.specs.Journal.{renameKind}
 use Rattle.refusals.specs.declared.case.Case.{Case}
 use Rattle.plan.specs.Form.{rowsPut, cleared, entryGroup}
 use Rattle.plan.specs.Write.{Write, entryKey, rowsFrom}
-use Rattle.results.specs.declared.Move.{Move}
-use Rattle.results.specs.Results.{entriesAfter, results, clearRow}
+use Rattle.recounts.specs.declared.Move.{Move}
+use Rattle.recounts.specs.Recount.{entriesAfter}
+use Rattle.results.specs.Results.{results, clearRow}
 use Rattle.results.specs.Start.{startRow}
 
 -- the move of a case, at a time, with the text that it frees

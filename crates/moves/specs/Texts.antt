@@ -7,7 +7,7 @@ use borrow.Author.Tests.{eq-eqb, ne-eqb}
 use Rattle.layout.specs.Limits.{absent}
 use Rattle.layout.specs.View.{View, isSymlink}
 use Rattle.refusals.specs.declared.case.Case.{Case}
-use Rattle.results.specs.Results.{entriesAfter}
+use Rattle.recounts.specs.Recount.{entriesAfter}
 use Rattle.moves.specs.Plan.{moveWith, freedText}
 
 module _ (v : View) (c : Case) (time : ℕ) where

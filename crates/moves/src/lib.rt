@@ -1,8 +1,8 @@
 // The move that a rename or an exchange makes: what is taken from where to where, the text that goes with what is replaced; a rename's rows in a plan.
 use layout::Shape;
 use layout::limits;
+use recounts::Move;
 use refusals::case::Case;
-use results::Move;
 ghost use mathlib.Core.Path.{_≡_};
 ghost use Rattle.layout.specs.Facts.{Laid};
 ghost use Rattle.layout.specs.View.{viewOf};
@@ -35,7 +35,7 @@ fn freed_text(image: &[u8], h: Shape, c: Case, time: u64) -> usize
         return limits::ABSENT;
     }
     let m = move_with(c, time, limits::ABSENT);
-    if results::recount::entries_after(image, h, m, replaced) != 0 {
+    if recounts::entries_after(image, h, m, replaced) != 0 {
         return limits::ABSENT;
     }
     let r = layout::records::inode(image, h, replaced);

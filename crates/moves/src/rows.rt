@@ -3,7 +3,7 @@ use encode::journal;
 use layout::Shape;
 use layout::limits;
 use layout::place;
-use results::Move;
+use recounts::Move;
 ghost use mathlib.Core.Path.{_≡_};
 ghost use Prim.Native.Nat.{_+_, _<_, _≤_};
 ghost use lib.ListN.{length};

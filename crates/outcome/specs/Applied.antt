@@ -9,7 +9,7 @@ use Rattle.layout.specs.declared.Shape.{Shape}
 use Rattle.plan.specs.Form.{planRows, planBytes, rowCount, resultGroup}
 use Rattle.plan.specs.Jobs.{Job, jobsIn}
 use Rattle.plan.specs.Write.{Write}
-use Rattle.results.specs.declared.Move.{Move}
+use Rattle.recounts.specs.declared.Move.{Move}
 use Rattle.results.specs.Results.{results, clearRow}
 use Rattle.results.specs.ResultRows.{results-le}
 use Rattle.crash_theorem.specs.Pick.{All}

@@ -19,8 +19,8 @@ use Rattle.consistency.specs.Bench.{bench-consistent}
 use Rattle.consistency.specs.Facts.{Consistent}
 use Rattle.consistency.specs.FactLaws.{consistent-is}
 use Rattle.edits.specs.Bench.{k, g, new-name, file-replaced}
-use Rattle.results.specs.declared.Move.{Move}
-use Rattle.results.specs.Results.{entriesAfter}
+use Rattle.recounts.specs.declared.Move.{Move}
+use Rattle.recounts.specs.Recount.{entriesAfter}
 use Rattle.image_store.specs.ImageLaws.{read-of}
 use Rattle.outcome.specs.Outcome.{finished}
 use Rattle.outcome.specs.Called.{Called}

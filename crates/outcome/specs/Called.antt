@@ -15,8 +15,8 @@ use Rattle.names.specs.NameTests.{nameGood}
 use Rattle.consistency.specs.Sound.{journalClear}
 use Rattle.consistency.specs.RecordFacts.{Bodies}
 use Rattle.edits.specs.Moved.{Allowed}
-use Rattle.results.specs.declared.Move.{Move}
-use Rattle.results.specs.Results.{entriesAfter}
+use Rattle.recounts.specs.declared.Move.{Move}
+use Rattle.recounts.specs.Recount.{entriesAfter}
 
 -- the inode that slot `new` names, if it is in use
 abbrev pub replacedOf : View → ℕ → ℕ

@@ -22,8 +22,9 @@ use Rattle.edits.specs.Bodies.{bodies-consistent}
 use Rattle.edits.specs.WrittenLaws.{new-names}
 use Rattle.refusals.specs.declared.case.Case.{Case}
 use Rattle.plan.specs.Write.{journalKey}
-use Rattle.results.specs.declared.Move.{Move}
-use Rattle.results.specs.Results.{entriesAfter, freeRecord}
+use Rattle.recounts.specs.declared.Move.{Move}
+use Rattle.recounts.specs.Recount.{entriesAfter}
+use Rattle.results.specs.Results.{freeRecord}
 use Rattle.results.specs.InImage.{InImage}
 use Rattle.moves.specs.Plan.{moveOf, newEntry}
 use Rattle.image_store.specs.Image.{recordOf}

@@ -29,10 +29,11 @@ use Rattle.edits.specs.MovedLaws.{replaced?}
 use Rattle.edits.specs.Finished.{slots-differ, from-directory}
 use Rattle.edits.specs.Written.{Touched, Written}
 use Rattle.edits.specs.WrittenLaws.{same-entry, written-consistent}
-use Rattle.results.specs.declared.Move.{Move}
-use Rattle.results.specs.Results.{targetsAfter, entriesAfter, childrenAfter, linksAfter, freeRecord}
-use Rattle.results.specs.Edited.{edited-old, edited-new, edited-else}
-use Rattle.results.specs.Links.{links-directory, links-other}
+use Rattle.recounts.specs.declared.Move.{Move}
+use Rattle.recounts.specs.Recount.{targetsAfter, entriesAfter, childrenAfter, linksAfter}
+use Rattle.results.specs.Results.{freeRecord}
+use Rattle.recounts.specs.Edited.{edited-old, edited-new, edited-else}
+use Rattle.recounts.specs.Links.{links-directory, links-other}
 use Rattle.results.specs.Records.{replaced-freed, replaced-says}
 use Rattle.afresh.specs.Recount.{Agrees, Made}
 use Rattle.afresh.specs.RecountLaws.{entries-agree, children-agree, entries-made, children-made}

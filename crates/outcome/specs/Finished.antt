@@ -13,7 +13,7 @@ use Rattle.layout.specs.Record.{recordAt}
 use Rattle.layout.specs.View.{inodeAt, entryAt, textAt, handleAt, journalAt}
 use Rattle.plan.specs.Write.{Write, inodeKey, entryKey, textKey, journalKey}
 use Rattle.plan.specs.WriteLaws.{other-section, other-index}
-use Rattle.results.specs.declared.Move.{Move}
+use Rattle.recounts.specs.declared.Move.{Move}
 use Rattle.results.specs.Results.{freeRecord, movedAfter, holderAfter, replacedAfter, oldRow, movedRow, holderRow, replacedRow, textRow, intoRows, replacedRows, results}
 use Rattle.crash_theorem.specs.Pick.{Has}
 use Rattle.crash_theorem.specs.PickLaws.{any-left, any-right}

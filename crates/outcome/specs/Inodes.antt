@@ -11,7 +11,7 @@ use Rattle.layout.specs.View.{viewOf, inodeAt}
 use Rattle.encode.specs.Facts.{Says}
 use Rattle.edits.specs.Kinds.{IsDirectory}
 use Rattle.edits.specs.KindsLaws.{kind?}
-use Rattle.results.specs.declared.Move.{Move}
+use Rattle.recounts.specs.declared.Move.{Move}
 use Rattle.results.specs.Results.{holderBytes, movedAfter}
 use Rattle.results.specs.Records.{moved-directory-says, moved-other-says, holder-says}
 use Rattle.afresh.specs.Inodes.{inode-long}

@@ -3,7 +3,7 @@ use mathlib.Core.List.{List, _∷_}
 use Prim.Native.Nat.{ℕ}
 use Rattle.layout.specs.declared.Shape.{Shape}
 use Rattle.plan.specs.Write.{storeAll}
-use Rattle.results.specs.declared.Move.{Move}
+use Rattle.recounts.specs.declared.Move.{Move}
 use Rattle.results.specs.Results.{results}
 use Rattle.moves.specs.Plan.{entryRow}
 

@@ -15,9 +15,10 @@ use Rattle.edits.specs.Finished.{slots-differ, moved-not-from, moved-not-into}
 use Rattle.plan.specs.Form.{clearGroup, entryGroup}
 use Rattle.plan.specs.Write.{Write, inodeKey, entryKey, textKey}
 use Rattle.plan.specs.WriteLaws.{other-section}
-use Rattle.results.specs.declared.Move.{Move}
-use Rattle.results.specs.Results.{present, linksAfter, oldRow, movedRow, holderRow, replacedRow, textRow, intoRows, replacedRows, textRows, results}
-use Rattle.results.specs.Links.{links-le}
+use Rattle.recounts.specs.declared.Move.{Move}
+use Rattle.recounts.specs.Recount.{linksAfter}
+use Rattle.results.specs.Results.{present, oldRow, movedRow, holderRow, replacedRow, textRow, intoRows, replacedRows, textRows, results}
+use Rattle.recounts.specs.Links.{links-le}
 use Rattle.results.specs.Owed.{results-write, clear-writes}
 use Rattle.crash_theorem.specs.Pick.{All}
 use Rattle.crash_theorem.specs.PickLaws.{all-join}

@@ -3,7 +3,7 @@ use mathlib.Core.List.{List, [], _++_}
 use Prim.Native.Nat.{ℕ}
 use Rattle.layout.specs.declared.Shape.{Shape}
 use Rattle.plan.specs.Write.{Write}
-use Rattle.results.specs.declared.Move.{Move}
+use Rattle.recounts.specs.declared.Move.{Move}
 use Rattle.results.specs.Results.{results, clearRow, intoRows, replacedRows, textRows}
 use Rattle.crash_theorem.specs.Plan.{by-row, Plan}
 use Rattle.moves.specs.Plan.{journalRow, entryRow}

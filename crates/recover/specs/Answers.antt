@@ -6,9 +6,9 @@ use lib.ListN.{replicate}
 use Rattle.layout.specs.declared.Shape.{Shape}
 use Rattle.layout.specs.Facts.{Read}
 use Rattle.plan.specs.Form.{planBytes}
-use Rattle.drafts.specs.declared.draft.Draft.the-variants.{Rows}
+use Rattle.rename_drafts.specs.declared.drafted.Draft.the-variants.{Rows}
 use Rattle.drafts.specs.Draft.{draft}
-use Rattle.drafts.specs.Drafted.{Drafted}
+use Rattle.rename_drafts.specs.Drafted.{Drafted}
 use Rattle.recover.specs.declared.Answer.{Answer}
 use Rattle.recover.specs.Job.{Recovered, withoutBuffers}
 

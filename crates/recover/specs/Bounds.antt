@@ -17,13 +17,13 @@ use Rattle.consistency.specs.Sound.{journalClear}
 use Rattle.consistency.specs.Consistent.{consistent}
 use Rattle.plan.specs.Form.{planRows, planBytes}
 use Rattle.plan.specs.Write.{Write, storeAll}
-use Rattle.results.specs.declared.Move.{Move}
+use Rattle.recounts.specs.declared.Move.{Move}
 use Rattle.results.specs.Results.{results, clearRow}
 use Rattle.results.specs.ResultRows.{results-le}
 use Rattle.exchanges.specs.Exchange.{exchangeResults}
 use Rattle.exchanges.specs.ExchangeRows.{exchange-le}
-use Rattle.drafts.specs.PendingRename.{renameFits, moveFrom, entryStands, intoGood, undoing, finishing, moveDraft, renameDraft}
-use Rattle.drafts.specs.PendingExchange.{exchangeFits, finishingExchange, exchangeDraft}
+use Rattle.rename_drafts.specs.PendingRename.{renameFits, moveFrom, entryStands, intoGood, undoing, finishing, moveDraft, renameDraft}
+use Rattle.exchange_drafts.specs.PendingExchange.{exchangeFits, finishingExchange, exchangeDraft}
 use Rattle.drafts.specs.Draft.{kindDraft, draft}
 use Rattle.recover.specs.Recover.{ifConsistent, pendingRows, recover}
 use Rattle.recover.specs.Job.{Recovered, refused, done, byRows, byJournal, recovered}

@@ -6,4 +6,3 @@ pub mod Outcome
 pub mod OutcomeLaws
 pub mod Answers
 pub mod Outs
-pub mod Bench

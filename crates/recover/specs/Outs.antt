@@ -23,9 +23,9 @@ use Rattle.plan.specs.Many.{rows-length}
 use Rattle.plan.specs.Copied.{rows-copied}
 use Rattle.plan.specs.Write.{Write, storeAll, rowsFrom}
 use Rattle.plan.specs.Filled.{AllWrites, Filled}
-use Rattle.drafts.specs.declared.draft.Draft.the-variants.{Unfit, Rows}
+use Rattle.rename_drafts.specs.declared.drafted.Draft.the-variants.{Unfit, Rows}
 use Rattle.drafts.specs.Draft.{draft}
-use Rattle.drafts.specs.Drafted.{Drafted}
+use Rattle.rename_drafts.specs.Drafted.{Drafted}
 use Rattle.drafts.specs.DraftLaws.{draft-writes}
 use Rattle.recover.specs.declared.Answer.{Answer}
 use Rattle.recover.specs.Recover.{ifConsistent, pendingRows}

@@ -1,9 +1,8 @@
 // The job that recovers an image after a crash (the papers' repair): a plan that finishes or takes back what was interrupted.
-use drafts::draft;
-use drafts::draft::Draft;
 use layout::Shape;
 use layout::contents::Contents;
 use layout::errno;
+use rename_drafts::drafted::Draft;
 ghost use mathlib.Core.Path.{_≡_};
 ghost use Prim.Native.Nat.{_≤_};
 ghost use lib.ListN.{length};
@@ -55,7 +54,7 @@ fn pending(image: &[u8], h: Shape, plan: &mut [u8], scratch: &mut [u8]) -> Answe
     ensures { λ r. ⌜ RecoverAnswers (byRows (now (plan .entry)) (now (scratch .entry)) (now (image .entry)) h (pendingRows h (now (image .entry)))) r (now (plan .exit)) (now (scratch .exit)) ⌝ }
 {
     let mut draft = [0u8; plan::BYTES];
-    let found = draft::make(&mut draft, image, h);
+    let found = drafts::make(&mut draft, image, h);
     match found {
         Draft::Unfit => {
             encode::record::clear(scratch);

@@ -8,7 +8,7 @@ use Rattle.refusals.specs.declared.case.Answer.{Answer}
 use Rattle.refusals.specs.declared.case.Answer.the-variants.{Same}
 use Rattle.refusals.specs.declared.case.Case.{Case}
 use Rattle.refusals.specs.Case.{sameFile}
-use Rattle.refusals.specs.Steps.{Rule, numberOf, parentRules}
+use Rattle.refusals.specs.Rules.{Rule, numberOf, parentRules}
 
 -- the answer of each rule passes
 abbrev pub answers : (Answer → Bool) → List Rule → Bool

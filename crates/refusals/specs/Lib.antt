@@ -2,13 +2,8 @@ pub mod Case
 pub mod CaseIn
 pub mod Within
 pub mod WithinLaws
-pub mod Kinds
-pub mod KindsLaws
-pub mod Steps
-pub mod Exchange
-pub mod KindLaws
+pub mod Rules
 pub mod Decide
 pub mod DecideLaws
-pub mod ExchangeLaws
-pub mod Passed
-pub mod PassedLaws
+pub mod Passes
+pub mod PassesLaws

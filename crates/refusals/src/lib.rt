@@ -1,7 +1,3 @@
-// The order of refusal of a rename, and of an exchange, once both walks are whole.
+// What the orders of refusal of a rename and of an exchange share once both walks are whole: the case, the answers, and what is asked of the parents.
 pub mod case;
-pub mod exchange;
-pub mod kinds;
 pub mod parents;
-pub mod steps;
-pub mod target;

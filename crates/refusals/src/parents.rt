@@ -11,7 +11,7 @@ ghost use Rattle.layout.specs.Facts.{Laid};
 ghost use Rattle.layout.specs.View.{viewOf};
 ghost use Rattle.refusals.specs.Case.{readOnlyParent, otherSystem, mountedIn, mounted, parentDenied, sticky, owns, stickyDenied, replacedStuck, insideItself};
 ghost use Rattle.refusals.specs.Within.{Within};
-ghost use Rattle.refusals.specs.Steps.{numberOf, decide, parentRules};
+ghost use Rattle.refusals.specs.Rules.{numberOf, decide, parentRules};
 
 // The file system of inode i.
 fn system(image: &[u8], h: Shape, i: usize) -> u8

@@ -25,9 +25,10 @@ use Rattle.walk.specs.Both.{Ends, oldFinal, newFinal, walksOf}
 use Rattle.refusals.specs.declared.case.Answer.{Answer}
 use Rattle.refusals.specs.declared.case.Answer.the-variants.{Refused, Same, Planned, Exchanged}
 use Rattle.refusals.specs.Case.{stickyDenied}
-use Rattle.refusals.specs.Steps.{numberOf, Rule, refuse, decide, steps}
-use Rattle.refusals.specs.Exchange.{exchangeSteps}
-use Rattle.results.specs.declared.Move.{Move}
+use Rattle.refusals.specs.Rules.{numberOf, Rule, refuse, decide}
+use Rattle.rename_steps.specs.Steps.{steps}
+use Rattle.exchange_steps.specs.Exchange.{exchangeSteps}
+use Rattle.recounts.specs.declared.Move.{Move}
 use Rattle.exchanges.specs.Exchange.{exchangeRows, exchangePlanned}
 use Rattle.moves.specs.Plan.{moveOf, exchangeOf, renameRows, planned}
 use Rattle.rename.specs.Order.{directoryOf, inodeOf, nameOf, caseOf, flagRules, caseRules, view, walks, early, late, order}

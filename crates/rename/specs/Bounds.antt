@@ -16,9 +16,9 @@ use Rattle.walk.specs.Bound.{walk-bound}
 use Rattle.walk.specs.Both.{oldFinal, newFinal, oldWalk, walksOf}
 use Rattle.refusals.specs.declared.case.Answer.{Answer}
 use Rattle.refusals.specs.declared.case.Answer.the-variants.{Refused, Same, Planned, Exchanged}
-use Rattle.refusals.specs.Steps.{decide}
+use Rattle.refusals.specs.Rules.{decide}
 use Rattle.plan.specs.Form.{planRows}
-use Rattle.results.specs.declared.Move.{Move}
+use Rattle.recounts.specs.declared.Move.{Move}
 use Rattle.results.specs.Results.{results, clearRow}
 use Rattle.results.specs.ResultRows.{results-le}
 use Rattle.exchanges.specs.Exchange.{exchangeResults, exchangeRows}

@@ -13,10 +13,12 @@ use Rattle.paths.specs.declared.request.Request.{Request}
 use Rattle.paths.specs.Flags.{noReplaceFlag, exchangeFlag}
 use Rattle.refusals.specs.declared.case.Answer.the-variants.{Refused, Planned, Exchanged}
 use Rattle.refusals.specs.declared.case.Case.{Case}
-use Rattle.refusals.specs.Steps.{decide, steps}
-use Rattle.refusals.specs.Exchange.{exchangeSteps}
-use Rattle.refusals.specs.Passed.{isPlanned, isExchanged}
-use Rattle.refusals.specs.PassedLaws.{exchange-unplanned, steps-unexchanged}
+use Rattle.refusals.specs.Rules.{decide}
+use Rattle.rename_steps.specs.Steps.{steps}
+use Rattle.exchange_steps.specs.Exchange.{exchangeSteps}
+use Rattle.refusals.specs.Passes.{isPlanned, isExchanged}
+use Rattle.exchange_steps.specs.ExchangePassedLaws.{exchange-unplanned}
+use Rattle.rename_steps.specs.PassedLaws.{steps-unexchanged}
 use Rattle.rename.specs.Order.{caseRules}
 use Rattle.rename.specs.Flagged.{Flagged, refused, renames, exchanges}
 

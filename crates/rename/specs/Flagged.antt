@@ -8,8 +8,9 @@ use Rattle.paths.specs.declared.request.Request.{Request}
 use Rattle.paths.specs.Flags.{noReplaceFlag, exchangeFlag}
 use Rattle.refusals.specs.declared.case.Answer.the-variants.{Refused}
 use Rattle.refusals.specs.declared.case.Case.{Case}
-use Rattle.refusals.specs.Steps.{decide, steps}
-use Rattle.refusals.specs.Exchange.{exchangeSteps}
+use Rattle.refusals.specs.Rules.{decide}
+use Rattle.rename_steps.specs.Steps.{steps}
+use Rattle.exchange_steps.specs.Exchange.{exchangeSteps}
 use Rattle.rename.specs.Order.{caseRules}
 
 -- The ways out, each with what the flags ask.

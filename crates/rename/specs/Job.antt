@@ -8,9 +8,9 @@ use Rattle.paths.specs.declared.request.Request.{Request}
 use Rattle.refusals.specs.declared.case.Answer.{Answer}
 use Rattle.refusals.specs.declared.case.Answer.the-variants.{Refused, Same, Planned, Exchanged}
 use Rattle.refusals.specs.declared.case.Case.{Case}
-use Rattle.refusals.specs.Steps.{numberOf, decide}
+use Rattle.refusals.specs.Rules.{numberOf, decide}
 use Rattle.plan.specs.Form.{cleared}
-use Rattle.results.specs.declared.Move.{Move}
+use Rattle.recounts.specs.declared.Move.{Move}
 use Rattle.exchanges.specs.Exchange.{exchangeRows, exchangePlanned}
 use Rattle.moves.specs.Plan.{moveOf, exchangeOf, renameRows, planned}
 use Rattle.rename.specs.declared.Renamed.{Renamed}

@@ -19,9 +19,10 @@ use Rattle.component.specs.Step.{Finding, existing, missing, nothing}
 use Rattle.walk.specs.Ends.{Existing, Known, Numbered, Facts}
 use Rattle.walk.specs.Both.{Ends, oldFinal, newFinal}
 use Rattle.refusals.specs.declared.case.Case.{Case}
-use Rattle.refusals.specs.Case.{exists, noSlot}
+use Rattle.refusals.specs.Case.{exists}
+use Rattle.rename_steps.specs.Tests.{noSlot}
 use Rattle.refusals.specs.CaseIn.{CaseIn}
-use Rattle.results.specs.Results.{entriesAfter}
+use Rattle.recounts.specs.Recount.{entriesAfter}
 use Rattle.results.specs.InImage.{InImage}
 use Rattle.exchanges.specs.InImage.{BothInImage}
 use Rattle.moves.specs.Plan.{moveWith, freedText, moveOf, exchangeOf}

@@ -18,8 +18,9 @@ use Rattle.component.specs.Step.{Finding, existing, missing, nothing}
 use Rattle.walk.specs.Both.{Ends, walksOf}
 use Rattle.refusals.specs.declared.case.Case.{Case}
 use Rattle.refusals.specs.Case.{exists}
-use Rattle.refusals.specs.Steps.{Rule, refuse, steps}
-use Rattle.refusals.specs.Exchange.{exchangeSteps}
+use Rattle.refusals.specs.Rules.{Rule, refuse}
+use Rattle.rename_steps.specs.Steps.{steps}
+use Rattle.exchange_steps.specs.Exchange.{exchangeSteps}
 use Rattle.plan.specs.Form.{planBytes}
 
 -- the lowest free slot, or the number of slots where none is free

@@ -22,7 +22,7 @@ use Rattle.walk.specs.Walk.{halt}
 use Rattle.walk.specs.Both.{Ends, walksOf, newWalk}
 use Rattle.refusals.specs.declared.case.Answer.{Answer}
 use Rattle.refusals.specs.declared.case.Answer.the-variants.{Refused, Planned}
-use Rattle.refusals.specs.Steps.{numberOf, decide}
+use Rattle.refusals.specs.Rules.{numberOf, decide}
 use Rattle.refusals.specs.DecideLaws.{decide-refused, decide-passed}
 use Rattle.plan.specs.Form.{planBytes}
 use Rattle.rename.specs.declared.Renamed.{Renamed}

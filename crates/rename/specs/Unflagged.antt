@@ -11,7 +11,8 @@ use Rattle.consistency.specs.Sound.{journalClear, bodiesGood}
 use Rattle.paths.specs.declared.request.Request.{Request}
 use Rattle.paths.specs.Request.{requestGood}
 use Rattle.refusals.specs.declared.case.Answer.{Answer}
-use Rattle.refusals.specs.Steps.{Rule, refuse, numberOf, decide, steps}
+use Rattle.refusals.specs.Rules.{Rule, refuse, numberOf, decide}
+use Rattle.rename_steps.specs.Steps.{steps}
 use Rattle.plan.specs.Form.{planBytes}
 use Rattle.rename.specs.declared.Renamed.{Renamed}
 use Rattle.rename.specs.Order.{view, walks}

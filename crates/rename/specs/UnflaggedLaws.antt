@@ -5,7 +5,7 @@ use Prim.Native.Nat.{ℕ}
 use Rattle.paths.specs.declared.request.Request.{Request}
 use Rattle.paths.specs.Flags.{flagsGood}
 use Rattle.refusals.specs.declared.case.Answer.{Answer}
-use Rattle.refusals.specs.Steps.{numberOf, decide}
+use Rattle.refusals.specs.Rules.{numberOf, decide}
 use Rattle.rename.specs.Order.{walks, early, order}
 use Rattle.rename.specs.Job.{answer, rowsBy, planBy, countBy, renamed, planAfter}
 use Rattle.rename.specs.Unflagged.{plainEarly, plainAnswer, Unflagged}

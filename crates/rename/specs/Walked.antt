@@ -20,10 +20,11 @@ use Rattle.walk.specs.Answer.{endOf, BothAnswered}
 use Rattle.refusals.specs.declared.case.Answer.{Answer}
 use Rattle.refusals.specs.declared.case.Answer.the-variants.{Refused, Same, Planned, Exchanged}
 use Rattle.refusals.specs.declared.case.Case.{Case}
-use Rattle.refusals.specs.Case.{noSlot}
+use Rattle.rename_steps.specs.Tests.{noSlot}
 use Rattle.refusals.specs.CaseIn.{CaseIn}
-use Rattle.refusals.specs.Steps.{decide}
-use Rattle.refusals.specs.PassedLaws.{planned-passed, exchange-passed}
+use Rattle.refusals.specs.Rules.{decide}
+use Rattle.rename_steps.specs.PassedLaws.{planned-passed}
+use Rattle.exchange_steps.specs.ExchangePassedLaws.{exchange-passed}
 use Rattle.plan.specs.Form.{cleared}
 use Rattle.plan.specs.Write.{Write}
 use Rattle.results.specs.InImage.{InImage}

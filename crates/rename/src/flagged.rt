@@ -10,7 +10,7 @@ ghost use mathlib.Core.Path.{_≡_};
 ghost use Rattle.layout.specs.Facts.{Readable};
 ghost use Rattle.layout.specs.View.{viewOf};
 ghost use Rattle.refusals.specs.CaseIn.{CaseIn};
-ghost use Rattle.refusals.specs.Steps.{decide};
+ghost use Rattle.refusals.specs.Rules.{decide};
 ghost use Rattle.rename.specs.Order.{caseRules};
 
 // New's name has to be missing, or has to exist, or may be either; then the steps of an exchange, or those of a rename.
@@ -22,13 +22,13 @@ pub fn judge(image: &[u8], h: Shape, q: Request, c: Case) -> Answer
         if c.replaced == limits::ABSENT {
             return Answer::Refused(errno::ENOENT);
         }
-        return refusals::exchange::judge(image, h, c);
+        return exchange_steps::judge(image, h, c);
     }
     if q.flags != flags::NO_REPLACE {
-        return refusals::steps::judge(image, h, c);
+        return rename_steps::judge(image, h, c);
     }
     if c.replaced != limits::ABSENT {
         return Answer::Refused(errno::EEXIST);
     }
-    refusals::steps::judge(image, h, c)
+    rename_steps::judge(image, h, c)
 }

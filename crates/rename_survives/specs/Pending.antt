@@ -22,7 +22,7 @@ use Rattle.encode.specs.JournalLaws.{journal-formed, journal-of-bytes}
 use Rattle.consistency.specs.Sound.{journalClear}
 use Rattle.consistency.specs.Consistent.{consistent}
 use Rattle.plan.specs.Write.{Write, journalKey, storeAll}
-use Rattle.results.specs.declared.Move.{Move}
+use Rattle.recounts.specs.declared.Move.{Move}
 use Rattle.results.specs.Start.{journalFor}
 use Rattle.results.specs.InImage.{InImage}
 use Rattle.drafts.specs.Draft.{kindDraft, draft}

@@ -20,7 +20,7 @@ use Rattle.edits.specs.Tests.{kind-test}
 use Rattle.edits.specs.Finished.{slots-differ, from-directory, moved-below-root, moved-not-from, moved-not-into}
 use Rattle.plan.specs.Write.{Write, entryKey, journalKey, storeAll}
 use Rattle.plan.specs.WriteLaws.{other-section}
-use Rattle.results.specs.declared.Move.{Move}
+use Rattle.recounts.specs.declared.Move.{Move}
 use Rattle.results.specs.Results.{holderAfter, results, clearRow}
 use Rattle.results.specs.Start.{journalFor}
 use Rattle.crash_theorem.specs.Change.{Change}
@@ -28,8 +28,8 @@ use Rattle.crash_theorem.specs.Obligations.{OnTheWay}
 use Rattle.crash_theorem.specs.Plan.{Plan, WellFormed, Recovers, behindOf}
 use Rattle.crash_theorem.specs.Planned.{clear-settles, behind-all, reached, decided-record, undecided-record}
 use Rattle.moves.specs.Plan.{newEntry}
-use Rattle.drafts.specs.PendingRename.{belowOrAbsent, renameFits, moveFrom, entryStands, intoGood, undoing, finishing, moveDraft}
-use Rattle.drafts.specs.Fit.{rename-move, move-undone, move-finished}
+use Rattle.rename_drafts.specs.PendingRename.{belowOrAbsent, renameFits, moveFrom, entryStands, intoGood, undoing, finishing, moveDraft}
+use Rattle.rename_drafts.specs.Fit.{rename-move, move-undone, move-finished}
 use Rattle.recover.specs.Recover.{ifConsistent, recover}
 use Rattle.image_store.specs.Image.{recordOf}
 use Rattle.image_store.specs.ImageLaws.{record-is, images, puts-store}

@@ -12,7 +12,7 @@ use Rattle.layout.specs.View.{viewOf, entryAt}
 use Rattle.plan.specs.Form.{planRows, planBytes, entryGroup}
 use Rattle.plan.specs.Jobs.{Job}
 use Rattle.plan.specs.Write.{entryKey}
-use Rattle.results.specs.declared.Move.{Move}
+use Rattle.recounts.specs.declared.Move.{Move}
 use Rattle.crash_theorem.specs.Change.{Change, goal}
 use Rattle.crash_theorem.specs.Events.{EventOf, State, decided}
 use Rattle.crash_theorem.specs.Crash.{Safe}

@@ -3,7 +3,7 @@
 use mathlib.Core.List.{List}
 use Prim.Native.Nat.{ℕ}
 use Rattle.layout.specs.declared.Shape.{Shape}
-use Rattle.results.specs.declared.Move.{Move}
+use Rattle.recounts.specs.declared.Move.{Move}
 use Rattle.crash_theorem.specs.Events.{EventOf}
 use Rattle.moves.specs.Plan.{planned}
 use Rattle.image_store.specs.JobLaws.{jobs}

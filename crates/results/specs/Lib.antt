@@ -1,11 +1,7 @@
 pub mod Results
 pub mod Start
-pub mod RecountLaws
 pub mod InImage
-pub mod Edited
-pub mod Links
 pub mod Records
 pub mod Again
 pub mod Owed
-pub mod Bench
 pub mod ResultRows

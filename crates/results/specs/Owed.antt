@@ -17,7 +17,7 @@ use Rattle.plan.specs.FitFacts.{Writes}
 use Rattle.plan.specs.Write.{Write, inodeKey, entryKey, textKey, journalKey}
 use Rattle.plan.specs.Filled.{AllWrites}
 use Rattle.plan.specs.WriteLaws.{writes-join}
-use Rattle.results.specs.declared.Move.{Move}
+use Rattle.recounts.specs.declared.Move.{Move}
 use Rattle.results.specs.Results.{present, freeRecord, movedAfter, holderAfter, replacedAfter, when, holderRow, replacedRow, textRow, intoRows, replacedRows, textRows, results}
 use Rattle.results.specs.InImage.{InImage}
 use Rattle.results.specs.Again.{moved-length, holder-length, replaced-length}

@@ -15,7 +15,7 @@ use Rattle.plan.specs.Form.{rowPut}
 use Rattle.plan.specs.Write.{Write, rowFrom}
 use Rattle.plan.specs.Filled.{Filled}
 use Rattle.plan.specs.WriteLaws.{filled-none, filled-one, filled-join}
-use Rattle.results.specs.declared.Move.{Move}
+use Rattle.recounts.specs.declared.Move.{Move}
 use Rattle.results.specs.Results.{present, when, oldRow, movedRow, holderRow, replacedRow, textRow, alwaysRows, intoRows, replacedRows, textRows, results}
 
 -- a row where it is asked for

@@ -1,54 +1,24 @@
 -- What a rename leaves in each record that it touches, in bytes, and its rows behind the deciding one: one definition for rename and for
 -- recovery, which count the entries as edited, whether the edit has been applied or not. A reader has to believe this file. Assumes nothing.
-use mathlib.Core.Bool.{Bool, true, false, _&&_, not, cond}
+use mathlib.Core.Bool.{Bool, true, false, not, cond}
 use mathlib.Core.List.{List, [], _∷_, _++_}
-use Prim.Native.Nat.{ℕ, _+_}
+use Prim.Native.Nat.{ℕ}
 use lib.Dec.{eqb}
 use lib.ListN.{replicate}
-use Rattle.seq.specs.Search.{count}
 use Rattle.layout.specs.declared.Shape.{Shape}
 use Rattle.layout.specs.Limits.{absent}
 use Rattle.layout.specs.Place.{Key, recordBytes}
 use Rattle.layout.specs.Fields.{inodeKind}
-use Rattle.layout.specs.View.{View, viewOf, inodeAt, isDirectory}
+use Rattle.layout.specs.View.{viewOf, inodeAt}
 use Rattle.encode.specs.Inode.{withLinks, withField, withModified, withChanged}
-use Rattle.tree.specs.Tree.{targets, holdsDirectory}
 use Rattle.plan.specs.Form.{resultGroup, clearGroup}
 use Rattle.plan.specs.Write.{Write, inodeKey, entryKey, textKey, journalKey}
-use Rattle.results.specs.declared.Move.{Move}
+use Rattle.recounts.specs.declared.Move.{Move}
+use Rattle.recounts.specs.Recount.{entriesAfter, linksAfter}
 
 -- form H: the number names a replaced inode, or a text
 abbrev pub present : ℕ → Bool
 present n = not (eqb n absent)
-
--- ---- the entries as edited, counted on the image as it stands
-
--- what slot j counts for: the old slot and the new one as the edit leaves them, whatever stands there, and any other as it stands
-abbrev pub edited : Move → ℕ → Bool → Bool → Bool → Bool
-edited m j old new stands = cond (eqb j (m .old)) old (cond (eqb j (m .new)) new stands)
-
-module _ (v : View) (m : Move) where
-  -- a rename clears the old slot, which then counts for nothing
-
-  -- the entry in slot j, as edited, targets inode i
-  abbrev pub targetsAfter : ℕ → ℕ → Bool
-  targetsAfter i j = edited m j false (eqb (m .moved) i) (targets v i j)
-
-  -- rule 88: how many entries are left that target inode i
-  unfoldable pub entriesAfter : ℕ → ℕ
-  entriesAfter i = count (targetsAfter i) (v .entries)
-
-  -- the entry in slot j, as edited, lies in directory d and targets a directory
-  abbrev pub holdsAfter : ℕ → ℕ → Bool
-  holdsAfter d j = edited m j false (eqb (m .into) d && isDirectory v (m .moved)) (holdsDirectory v d j)
-
-  -- rule 88: how many child directories directory d has then
-  unfoldable pub childrenAfter : ℕ → ℕ
-  childrenAfter d = count (holdsAfter d) (v .entries)
-
-  -- rule 88: the link count, as a consistent image has it (rules 31 and 32)
-  unfoldable pub linksAfter : ℕ → ℕ
-  linksAfter i = cond (isDirectory v i) (2 + childrenAfter i) (entriesAfter i)
 
 -- ---- the records, made from their bytes as they stand
 

@@ -4,7 +4,7 @@ use Rattle.encode.specs.declared.journal.Journal.{Journal}
 use Rattle.encode.specs.Journal.{journalBytes}
 use Rattle.plan.specs.Form.{journalGroup}
 use Rattle.plan.specs.Write.{Write, journalKey}
-use Rattle.results.specs.declared.Move.{Move}
+use Rattle.recounts.specs.declared.Move.{Move}
 
 -- form H and rule 87: the record, by the kind of the operation
 abbrev pub journalFor : ℕ → Move → Journal

@@ -1,6 +1,6 @@
 // What a rename leaves in the records that it touches, made from their bytes as they stand.
-use crate::Move;
 use layout::Shape;
+use recounts::Move;
 ghost use mathlib.Core.Path.{_≡_};
 ghost use Prim.Native.Nat.{_<_};
 ghost use lib.ListN.{length};
@@ -51,7 +51,7 @@ pub fn holder(image: &[u8], h: Shape, m: Move, i: usize) -> [u8; 32]
     requires { ⌜ Laid h (now image) × (i < h .inodes) ⌝ }
     ensures { λ r. ⌜ r ≡ holderAfter h (now (image .entry)) m i ⌝ }
 {
-    let links = crate::recount::links_after(image, h, m, i);
+    let links = recounts::links_after(image, h, m, i);
     counted(image, h, i, links, m.now)
 }
 
@@ -61,10 +61,10 @@ pub fn replaced(image: &[u8], h: Shape, m: Move) -> [u8; 32]
     ensures { λ r. ⌜ r ≡ replacedAfter h (now (image .entry)) m ⌝ }
 {
     let i = m.replaced;
-    if crate::recount::entries_after(image, h, m, i) == 0 {
+    if recounts::entries_after(image, h, m, i) == 0 {
         return [0u8; 32];
     }
-    let links = crate::recount::links_after(image, h, m, i);
+    let links = recounts::links_after(image, h, m, i);
     let mut r = inode(image, h, i);
     encode::inode::set_links(&mut r, links);
     encode::inode::set_changed(&mut r, m.now);

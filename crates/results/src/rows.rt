@@ -1,11 +1,11 @@
 // The rows of a rename that another operation or a recovery shares, put into a plan: all but the new entry.
-use crate::Move;
 use encode::journal::Journal;
 use layout::Shape;
 use layout::limits;
 use layout::limits::TEXT_BYTES;
 use layout::place;
 use plan::RESULT_GROUP;
+use recounts::Move;
 ghost use mathlib.Core.Path.{_≡_};
 ghost use Prim.Native.Nat.{_+_, _<_, _≤_};
 ghost use lib.ListN.{length};

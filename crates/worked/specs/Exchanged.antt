@@ -20,11 +20,12 @@ use Rattle.consistency.specs.Sound.{textLinked, journalClear, bodiesGood}
 use Rattle.consistency.specs.Consistent.{consistent}
 use Rattle.plan.specs.Form.{headerOf, rowPut, rowsPut, cleared, noRow, rowCount}
 use Rattle.plan.specs.Write.{Write, journalKey, storeAll}
-use Rattle.results.specs.declared.Move.{Move}
-use Rattle.results.specs.Results.{entriesAfter, childrenAfter, linksAfter, movedBytes, holderBytes, replacedBytes, results}
-use Rattle.drafts.specs.PendingRename.{renameFits, entryStands, intoGood, moveDraft, renameDraft}
+use Rattle.recounts.specs.declared.Move.{Move}
+use Rattle.recounts.specs.Recount.{entriesAfter, childrenAfter, linksAfter}
+use Rattle.results.specs.Results.{movedBytes, holderBytes, replacedBytes, results}
+use Rattle.rename_drafts.specs.PendingRename.{renameFits, entryStands, intoGood, moveDraft, renameDraft}
 use Rattle.exchanges.specs.Exchange.{childrenExchanged, slotRow, back, exchangeResults}
-use Rattle.drafts.specs.PendingExchange.{slotStands, slotsStand, exchangeFits, exchangeDraft}
+use Rattle.exchange_drafts.specs.PendingExchange.{slotStands, slotsStand, exchangeFits, exchangeDraft}
 use Rattle.drafts.specs.Draft.{draft}
 use Rattle.recover.specs.Recover.{pendingRows}
 use Rattle.recover.specs.Job.{Recovered, recovered}

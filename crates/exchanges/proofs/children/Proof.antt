@@ -9,8 +9,8 @@ use Rattle.seq.specs.Count.{bit}
 use Rattle.seq.specs.SearchLaws.{count-le}
 use Rattle.layout.specs.View.{viewOf, isDirectory}
 use Rattle.tree.specs.Tree.{holdsDirectory, childDirectories}
-use Rattle.results.specs.declared.Move.{Move}
-use Rattle.results.specs.RecountLaws.{recounted}
+use Rattle.recounts.specs.declared.Move.{Move}
+use Rattle.recounts.specs.RecountLaws.{recounted}
 use Rattle.exchanges.specs.Exchange.{holdsExchanged, childrenExchanged}
 use Rattle.exchanges.proofs.children.Statement.{statement}
 use Rattle.exchanges.proofs.children.Tie as tie

@@ -7,7 +7,7 @@ use Rattle.layout.specs.Limits.{absent}
 use Rattle.layout.specs.RecordLaws.{field-of}
 use Rattle.layout.specs.View.{View, viewOf, isSymlink}
 use Rattle.layout.specs.ViewLaws.{isKind-below}
-use Rattle.results.specs.Results.{entriesAfter}
+use Rattle.recounts.specs.Recount.{entriesAfter}
 use Rattle.moves.specs.Plan.{moveWith}
 use Rattle.moves.specs.Texts.{text-other, text-kept, text-freed}
 use borrow.Author.Needs.{needs}

@@ -2,7 +2,7 @@
 use mathlib.Core.Path.{_≡_, sym, subst}
 use lib.ListN.{length}
 use borrow.Author.Needs.{needs}
-use Rattle.results.specs.declared.Move.{Move}
+use Rattle.recounts.specs.declared.Move.{Move}
 use Rattle.exchanges.specs.Exchange.{exchangeRows, exchangePlanned}
 use Rattle.exchanges.specs.InImage.{BothInImage}
 use Rattle.rename.proofs.exchange.Statement.{statement}

@@ -9,7 +9,7 @@ use Rattle.layout.specs.declared.Shape.{Shape}
 use Rattle.component.specs.declared.state.Found.{Found}
 use Rattle.component.specs.State.{findingOf}
 use Rattle.component.specs.StateLaws.{missing-range}
-use Rattle.results.specs.declared.Move.{Move}
+use Rattle.recounts.specs.declared.Move.{Move}
 use Rattle.results.specs.InImage.{InImage}
 use Rattle.rename.specs.Order.{nameOf}
 use Rattle.moves.specs.Filled.{planned-as}

@@ -4,7 +4,7 @@ use mathlib.Core.List.{List}
 use lib.ListN.{drop}
 use borrow.Author.Needs.{needs}
 use Rattle.layout.specs.View.{View, viewOf}
-use Rattle.refusals.specs.Steps.{Rule, decide, parentRules}
+use Rattle.refusals.specs.Rules.{Rule, decide, parentRules}
 use Rattle.refusals.proofs.parents.number.Statement.{statement}
 use Rattle.refusals.proofs.parents.number.Tie as tie
 

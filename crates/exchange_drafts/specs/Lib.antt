@@ -1,0 +1,2 @@
+pub mod PendingExchange
+pub mod ExchangeFit

@@ -1,0 +1,4 @@
+pub mod Exchange
+pub mod ExchangeLaws
+pub mod ExchangePassed
+pub mod ExchangePassedLaws

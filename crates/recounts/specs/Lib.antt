@@ -1,0 +1,4 @@
+pub mod Recount
+pub mod RecountLaws
+pub mod Edited
+pub mod Links

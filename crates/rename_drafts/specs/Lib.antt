@@ -1,0 +1,4 @@
+pub mod PendingRename
+pub mod Drafted
+pub mod Fit
+pub mod ClearedLaws
