@@ -58,7 +58,7 @@ missing() {
 
 # No file of the tool's own may be left anywhere, whatever went wrong.
 nothing_half_written() {
-    left=$(find "$folder" -name '.*.new')
+    left=$(find "$folder" -name '.mp-*')
     [ -z "$left" ] || wrong "left half written: $left"
     passed=$((passed + 1))
 }

@@ -11,13 +11,28 @@ expect 2 '' 'standard output is closed, so nothing was done' sh -c '"$1" rename 
 missing closed.plan
 expect 2 '' 'standard output cannot be written: No space left on device' sh -c '"$1" check bench >/dev/full' sh "$mp"
 
-# A symlink is followed, and a file keeps its mode.
+# What leads nowhere, and what a process has open, is not taken for a new file.
+ln -sf nothing dangling
+expect 2 '' 'dangling cannot be written: No such file or directory' "$mp" rename bench third dangling
+ln -sf loop loop
+expect 2 '' 'loop cannot be written: Too many levels of symbolic links' "$mp" rename bench third loop
+[ -L dangling ] && [ -L loop ] || wrong "a symlink was replaced"
+expect 2 '' '/dev/stdout cannot be written: it is no regular file' "$mp" explore --dot /dev/stdout bench third
+cp bench image
+expect 2 '' '/dev/stdin cannot be written: it is no regular file' sh -c 'cat image | "$1" land /dev/stdin plan 0' sh "$mp"
+[ -L /dev/stdin ] || wrong "/dev/stdin was replaced"
+expect 0 '0 8 2 2' '0 done' "$mp" rename bench third "$(head -c 250 /dev/zero | tr '\0' n)"
+
+# A symlink is followed, and a file keeps its mode and its owner.
 cp bench real
 chmod 640 real
+[ "$(id -u)" != 0 ] || chown 65534:65534 real
+owner=$(stat -c %u:%g real)
 ln -sf real linked
 expect 0 0 '0 done' "$mp" land linked plan 0
 [ -L linked ] || wrong "the symlink was replaced by a file"
 [ "$(stat -c %a real)" = 640 ] || wrong "the image has another mode: $(stat -c %a real)"
+[ "$(stat -c %u:%g real)" = "$owner" ] || wrong "the image has another owner: $(stat -c %u:%g real)"
 
 # Two files or none: where the scratch cannot be written, no plan is made.
 expect 2 '' 'nowhere/scratch cannot be written' "$mp" repair real none nowhere/scratch

@@ -8,14 +8,25 @@ for command in check rename land repair tree make explore demo soak; do
 done
 expect 2 '' 'mp: there is no command "frob"; `mp help` lists them' "$mp" frob
 expect 2 '' 'mp: there is no command "frob"; `mp help` lists them' "$mp" help frob
-expect 2 '' 'mp: there is a word too many: land' "$mp" help check land
+expect 2 '' 'mp: there is a word too many: "land"' "$mp" help check land
 expect 2 '' 'mp: IMAGE is missing' "$mp" check
-expect 2 '' 'mp: there is a word too many: b' "$mp" check a b
+expect 2 '' 'mp: there is a word too many: "b"' "$mp" check a b
 expect 2 '' 'mp: there is no option --frob here' "$mp" check --frob
 expect 2 '' 'mp: option --seed lacks its number' "$mp" land --seed
 expect 2 '' 'mp: option --seed is given twice' "$mp" land --seed 1 --seed 2 a b
 expect 2 '' 'mp: option --exchange takes no value' "$mp" rename --exchange=1 a b c
 expect 2 '' 'mp: option --seed wants a number that is not too large, and got "x"' "$mp" land --seed x bench plan
 expect 2 '' 'mp: option --user wants a number that is not too large, and got "4294967296"' "$mp" explore --user=4294967296 out a b
-expect 2 '' 'mp: option --groups wants a number that is not too large, and got "1,,2"' "$mp" explore --groups 1,,2 out a b
+expect 2 '' 'mp: option --groups wants numbers with commas between them, and got "1,,2"' "$mp" explore --groups 1,,2 out a b
 expect 2 '' 'mp: --frob cannot be opened' "$mp" check -- --frob
+expect_part 0 'mp 0.' "$mp" --version
+expect_part 0 'mp land --seed N IMAGE PLAN' "$mp" land --help
+expect 2 '' 'mp: "" cannot be opened: No such file or directory' "$mp" check ''
+long_word=$(head -c 5000 /dev/zero | tr '\0' 9)
+run "$mp" land --seed "$long_word" a b
+[ "$(wc -c <err)" -lt 300 ] || wrong "a long word is repeated whole: $(wc -c <err) bytes"
+
+# The script finds its root from anywhere, also by a symlink and with CDPATH set.
+ln -sf "$root/mp" by_symlink
+expect_part 0 'mp 0.' ./by_symlink --version
+expect_part 0 'mp 0.' env CDPATH=/ sh -c 'cd / && "$1" --version' sh "$root/mp"

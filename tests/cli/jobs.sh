@@ -6,7 +6,7 @@ expect 0 0 '0 done' "$mp" check bench
 head -c 623 bench >short
 expect 1 201 '201 unsound image' "$mp" check short
 { head -c 592 bench; byte 1; tail -c 31 bench; } >pending
-expect 1 203 '203 the note is not all zero: repair first' "$mp" check pending
+expect 1 203 '203 the journal record (the note) is not all zero: repair first' "$mp" check pending
 
 # A rename: 0 makes the plan, and a refusal makes nothing.
 expect 0 '0 8 2 2' '0 done' "$mp" rename bench third plan
@@ -36,6 +36,9 @@ head -c 25 third >cut
 expect 2 '' 'cut is no request: a request has at least 26 bytes, and this one 25' "$mp" rename bench cut none
 expect 2 '' 'option --now goes with OLD and NEW: the file third says it itself' "$mp" rename --now 1 bench third none
 expect 2 '' 'PLAN and IMAGE are the same file, bench' "$mp" rename bench third bench
+expect 2 '' 'PLAN and REQUEST are the same file, ./third' "$mp" rename bench third ./third
+expect 2 '' 'REQUEST (or OLD and NEW) is missing' "$mp" rename bench
+expect 2 '' 'there is a word too many: "d"' "$mp" rename bench /a /b c d
 missing none
 
 # Landing, row by row; after the second the rename is decided.
@@ -66,6 +69,7 @@ expect 1 '201 0' '201 unsound image' "$mp" repair short none none2
 missing none
 missing none2
 expect 2 '' 'SCRATCH and PLAN are the same file, none' "$mp" repair image none none
+expect 2 '' 'SCRATCH and PLAN are the same file, ./none' "$mp" repair image none ./none
 expect 2 '' 'SCRATCH and IMAGE are the same file, image' "$mp" repair image none image
 expect 2 '' 'PLAN and IMAGE are the same file, image' "$mp" repair image image none
 
@@ -83,7 +87,20 @@ for seed in 1 2 3 4 5 6 7 8 9 10 11 12; do
     [ "$(cut -d ' ' -f 1 out)" = 0 ] || wrong "repair after land --seed $seed: $(cat out)"
     expect 0 0 '0 done' "$mp" check scratch
 done
+# The third row of this plan covers no record.
+{ head -c 20 plan; byte 1; tail -c 627 plan; } >third.bad
 cp bench image
 expect 1 205 '205 the plan has under 648 bytes' "$mp" land --seed 1 image short.plan
 same image bench
-expect 2 '' 'there is a word too many: 0' "$mp" land --seed 1 image plan 0
+expect 2 '' 'there is a word too many: "0"' "$mp" land --seed 1 image plan 0
+for seed in 1 2 3 4 5; do
+    expect 1 201 '201 unsound image' "$mp" land --seed $seed /dev/null plan
+    expect 1 207 '207 row not landable' "$mp" land --seed $seed image third.bad
+    expect 0 0 '0 of 0 rows landed' "$mp" land --seed $seed image twice.plan
+done
+same image bench
+
+# A relative path that begins at an open handle.
+expect 0 '0 7 1 1' '0 done' "$mp" rename --user 100 --group 100 --old-start 0 bench g /g handle.plan
+expect 1 '9 0 0 0' '9 EBADF' "$mp" rename --old-start 9 bench g /g none
+expect 2 '' 'option --new-start wants a number that is not too large, and got "256"' "$mp" rename --new-start 256 bench g /g none

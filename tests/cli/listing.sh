@@ -18,12 +18,23 @@ expect 2 '' 'third is no image: it has 34 bytes, and a table of contents alone h
 cp bench image
 for row in 0 1; do run "$mp" land image plan $row; done
 expect_part 0 'journal pending: rename of inode 3' "$mp" tree image
-expect_part 0 '# mp check answers 203 the note is not all zero: repair first' "$mp" tree image
+expect_part 0 '# mp check answers 203 the journal record (the note) is not all zero: repair first' "$mp" tree image
 
 expect 2 '' 'the listing on standard input, line 2, column 6: there is no directory /b; list it before what is in it' \
     sh -c 'printf "dir /a\nfile /b/f\n" | "$1" make none.img' sh "$mp"
 missing none.img
-expect 2 '' 'the listing on standard input is too long' sh -c 'head -c 2000000 /dev/zero | "$1" make none.img' sh "$mp"
+expect 2 '' 'the listing on standard input is too long' sh -c 'head -c 134217729 /dev/zero | "$1" make none.img' sh "$mp"
+cp bench kept
+expect 2 '' 'the listing on standard input is empty; for an image of the root alone it has to say: dir /' sh -c '"$1" make kept <&-' sh "$mp"
+expect 2 '' 'the listing on standard input is empty' sh -c 'printf "\n \n" | "$1" make kept' sh "$mp"
+same kept bench
+expect 0 '' 'a sound image of 136 bytes' sh -c 'echo dir / | "$1" make root.img' sh "$mp"
+
+# The deepest tree there is, under names of bytes that are printed as four: a listing of megabytes, and the same image again.
+awk 'BEGIN { for (at = 1; at < 512; at++) { path = path "/\\x80\\x80\\x80"; print "dir \"" path "\"" } }' >deep.txt
+expect 0 '' 'deep.img: a sound image of' sh -c '"$1" make deep.img <deep.txt' sh "$mp"
+expect 0 '' 'deep2.img: a sound image of' sh -c '"$1" tree deep.img | "$1" make deep2.img' sh "$mp"
+same deep.img deep2.img
 expect 2 '' 'IMAGE is missing' "$mp" make
 expect 2 '' 'nowhere/tree.img cannot be written: No such file or directory' sh -c 'echo dir /a | "$1" make nowhere/tree.img' sh "$mp"
 missing none.img

@@ -99,7 +99,7 @@ const TABLE: [Entry; 23] = [
         None,
         "the current directory is none, a path has a byte 0, or there are more than 16 groups beside the effective one",
     ),
-    (Number::PENDING, None, "the note is not all zero: repair first"),
+    (Number::PENDING, None, "the journal record (the note) is not all zero: repair first"),
     (Number::NOT_REPAIRABLE, None, "not repairable"),
     (Number::SHORT_BUFFER, None, "the plan has under 648 bytes, or the scratch is shorter than the image"),
     (Number::BAD_ROW, None, "row not landable"),

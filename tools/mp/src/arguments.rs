@@ -32,7 +32,8 @@ pub struct Arguments {
 
 impl Arguments {
     /// Sorts words out; an option that is unknown, given twice or lacks its value is a sentence. Behind `--` stand no options.
-    pub fn read(words: Vec<OsString>, known: &[Known]) -> Result<Arguments, String> {
+    pub fn read(words: Vec<OsString>, known: &[&[Known]]) -> Result<Arguments, String> {
+        let known: Vec<Known> = known.concat();
         let mut arguments = Arguments::default();
         let mut words = words.into_iter();
         let mut options_end = false;
@@ -42,7 +43,7 @@ impl Arguments {
             } else if options_end || !word.as_bytes().starts_with(b"--") {
                 arguments.words.push(word);
             } else {
-                arguments.option(&word, &mut words, known)?;
+                arguments.option(&word, &mut words, &known)?;
             }
         }
         Ok(arguments)
@@ -97,20 +98,26 @@ impl Arguments {
     /// The value of an option as numbers between commas.
     pub fn numbers<T: FromStr>(&self, name: &str) -> Result<Vec<T>, String> {
         let Some(value) = self.options.get(name) else { return Ok(Vec::new()) };
-        let wrong = || not_a_number(name, value);
+        let wrong = || format!("option {name} wants numbers with commas between them, and got {}", shown(value));
         let words = value.to_str().ok_or_else(wrong)?.split(',');
         words.map(|word| number(OsStr::new(word)).ok_or_else(wrong)).collect()
     }
 
     /// All words, if there are as many as there are names for them.
     pub fn words<const N: usize>(&self, names: [&str; N]) -> Result<[&OsStr; N], String> {
+        let words = self.list(&names)?;
+        Ok(std::array::from_fn(|at| words[at]))
+    }
+
+    /// The same for a number of names that is not known beforehand.
+    pub fn list(&self, names: &[&str]) -> Result<Vec<&OsStr>, String> {
         if let Some(name) = names.get(self.words.len()) {
             return Err(format!("{name} is missing"));
         }
-        if let Some(word) = self.words.get(N) {
-            return Err(format!("there is a word too many: {}", word.to_string_lossy()));
+        match self.words.get(names.len()) {
+            Some(word) => Err(format!("there is a word too many: {}", shown(word))),
+            None => Ok(self.words.iter().map(OsString::as_os_str).collect()),
         }
-        Ok(std::array::from_fn(|at| self.words[at].as_os_str()))
     }
 
     pub fn word_count(&self) -> usize {
@@ -125,5 +132,14 @@ pub fn number<T: FromStr>(word: &OsStr) -> Option<T> {
 }
 
 fn not_a_number(name: &str, value: &OsStr) -> String {
-    format!("option {name} wants a number that is not too large, and got {:?}", value.to_string_lossy())
+    format!("option {name} wants a number that is not too large, and got {}", shown(value))
+}
+
+/// A word as a sentence shows it: in quotes, and not longer than a line.
+pub fn shown(word: &OsStr) -> String {
+    let text = word.to_string_lossy();
+    match text.chars().count() > 60 {
+        true => format!("{:?}...", text.chars().take(60).collect::<String>()),
+        false => format!("{text:?}"),
+    }
 }

@@ -13,10 +13,11 @@ mod repair;
 mod soak;
 mod tree;
 
-use crate::arguments::{Arguments, Known};
+use crate::arguments::{shown, Arguments, Known};
+use crate::explore::Exploration;
 use crate::output;
-use mirepillar::Number;
-use std::ffi::OsString;
+use mirepillar::{Number, Renamed};
+use std::ffi::{OsStr, OsString};
 use std::io::Write;
 use std::process::ExitCode;
 
@@ -29,7 +30,7 @@ pub struct Command {
     pub about: &'static str,
     pub text: &'static str,
     pub example: &'static str,
-    pub options: &'static [Known],
+    pub options: &'static [&'static [Known]],
     pub run: fn(&Arguments) -> Outcome,
 }
 
@@ -80,13 +81,19 @@ fn run(name: &str, words: Vec<OsString>) -> Outcome {
     if ["help", "--help", "-h"].contains(&name) {
         return help::help(&Arguments::read(words, &[])?);
     }
+    if name == "--version" {
+        return print(concat!("mp ", env!("CARGO_PKG_VERSION"))).map(|()| Verdict::Done);
+    }
     let command = find(name)?;
+    if words.iter().any(|word| word == "--help") {
+        return help::of(command);
+    }
     (command.run)(&Arguments::read(words, command.options)?)
 }
 
 pub fn find(name: &str) -> Result<&'static Command, String> {
     let found = COMMANDS.into_iter().find(|command| command.name == name);
-    found.ok_or_else(|| format!("there is no command {name:?}; `mp help` lists them"))
+    found.ok_or_else(|| format!("there is no command {}; `mp help` lists them", shown(OsStr::new(name))))
 }
 
 /// Prints a line, or several, on standard output.
@@ -112,6 +119,18 @@ pub fn answer(number: Number, further: &[usize]) -> Outcome {
 
 pub fn verdict(number: Number) -> Verdict {
     match number.is_done() {
+        true => Verdict::Done,
+        false => Verdict::Refused,
+    }
+}
+
+/// Prints a rename's answer: the number, the rows and both counts.
+fn answer_renamed(answered: Renamed) -> Outcome {
+    answer(answered.number, &[answered.rows, answered.old_steps.into(), answered.new_steps.into()])
+}
+
+fn survived(found: &Exploration) -> Verdict {
+    match found.breaches.is_empty() {
         true => Verdict::Done,
         false => Verdict::Refused,
     }

@@ -16,7 +16,7 @@ pub mod unordered;
 #[cfg(test)]
 mod tests;
 
-use crate::image::Journal;
+use crate::image::{operation, Journal};
 use mirepillar::{Number, Plan, Repaired, PLAN_ROWS};
 use names::Names;
 use std::collections::HashMap;
@@ -41,9 +41,6 @@ pub struct Call {
     /// Whether each of two names gets the other's file.
     pub exchange: bool,
 }
-
-/// The kind of an exchange in a journal record.
-pub const EXCHANGE_KIND: u8 = 7;
 
 /// How a state came to have the rows that wait.
 #[derive(Clone, Copy, Debug, PartialEq, Eq, Hash)]
@@ -89,7 +86,7 @@ pub struct Reached {
 }
 
 /// What an image becomes once all rows of a repair have landed.
-#[derive(Clone, Copy, Debug, PartialEq, Eq)]
+#[derive(Clone, Copy, Debug, PartialEq, Eq, PartialOrd, Ord)]
 pub enum Outcome {
     Before,
     Finished,
@@ -127,7 +124,7 @@ impl Call {
     /// A call by its plan, which has rows.
     pub fn new(before: Vec<u8>, plan: Plan) -> Call {
         let journal = plan.row(0).and_then(|row| Journal::read(row.body)).unwrap_or_default();
-        Call { before, plan, journal, exchange: journal.kind == EXCHANGE_KIND }
+        Call { before, plan, journal, exchange: journal.kind == operation::EXCHANGE }
     }
 
     /// The group whose only row decides whether the call is done: that of the new entry, or for an exchange of the journal record.

@@ -17,6 +17,12 @@ pub mod kind {
     pub const SYMLINK: u8 = 3;
 }
 
+/// What a journal record is of.
+pub mod operation {
+    pub const RENAME: u8 = 0;
+    pub const EXCHANGE: u8 = 7;
+}
+
 /// A NODE record. Its type is a number, since an image may have any.
 #[derive(Clone, Copy, Debug, Default, PartialEq, Eq)]
 pub struct Inode {
@@ -52,7 +58,7 @@ pub struct Handle {
 #[derive(Clone, Copy, Debug, Default, PartialEq, Eq)]
 pub struct Journal {
     pub mark: u8,
-    /// 0 a rename, 7 an exchange.
+    /// One of [`operation`], if a plan has written it.
     pub kind: u8,
     pub old_slot: u16,
     pub new_slot: u16,

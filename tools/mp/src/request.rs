@@ -67,21 +67,23 @@ impl Asked {
         })
     }
 
-    /// The bytes of the request without its flags. Groups and paths have to be fewer than 65,536.
-    pub fn write(&self) -> Vec<u8> {
+    /// The bytes of the request without its flags, or a sentence where a list is longer than two bytes can count.
+    pub fn write(&self) -> Result<Vec<u8>, String> {
         let mut bytes = Vec::new();
         bytes.extend(self.user.to_le_bytes());
         bytes.extend(self.group.to_le_bytes());
         bytes.extend(self.now.to_le_bytes());
         bytes.extend(self.cwd.to_le_bytes());
         bytes.extend([self.old_start, self.new_start]);
-        for length in [self.groups.len(), self.old.len(), self.new.len()] {
-            bytes.extend((length as u16).to_le_bytes());
+        for (what, length) in [("groups", self.groups.len()), ("bytes", self.old.len()), ("bytes", self.new.len())] {
+            let count =
+                u16::try_from(length).map_err(|_| format!("a request has no place for {length} {what} in a list"))?;
+            bytes.extend(count.to_le_bytes());
         }
         self.groups.iter().for_each(|group| bytes.extend(group.to_le_bytes()));
         bytes.extend(&self.old);
         bytes.extend(&self.new);
-        bytes
+        Ok(bytes)
     }
 }
 

@@ -10,7 +10,7 @@ pub const COMMAND: Command = Command {
     words: "IMAGE",
     further: "",
     about: "is the image sound?",
-    text: "Prints one number: 0 where the image is sound, 203 where a note is pending (repair first), 201 for any other fault.\n\
+    text: "Prints one number: 0 where the image is sound, 203 where the journal record, the note, is not clear (repair first), 201 for any other fault.\n\
            The file is only read.",
     example: "$ mp check tree.img\n0",
     options: &[],

@@ -1,6 +1,6 @@
 //! `mp demo`: the main job on a small tree that needs no file.
 
-use super::{bench, print, Command, Outcome, Verdict};
+use super::{bench, print, survived, Command, Outcome};
 use crate::arguments::Arguments;
 use crate::explore::{self, report, rows, unordered, Call};
 use mirepillar::Plan;
@@ -36,10 +36,7 @@ fn run(arguments: &Arguments) -> Outcome {
     let found = explore::search::explore(call, explore::PROVED, &mut |_| ());
     print(&format!("\nEvery order and every power cut:\n\n{}", report::report(&found).join("\n")))?;
     print(&format!("\nWithout the groups:\n\n{}", lost(&without)))?;
-    match found.breaches.is_empty() {
-        true => Ok(Verdict::Done),
-        false => Ok(Verdict::Refused),
-    }
+    Ok(survived(&found))
 }
 
 /// What any set of rows could leave.

@@ -22,8 +22,9 @@ pub fn all() -> Outcome {
 }
 
 /// The words of a command without its options.
-fn short(words: &str) -> &str {
-    words.split('[').next().unwrap_or(words)
+fn short(words: &str) -> String {
+    let is_option = |word: &&str| word.contains(['[', ']', '-']);
+    words.split(' ').filter(|word| !is_option(word)).collect::<Vec<_>>().join(" ")
 }
 
 /// `mp help COMMAND`.
@@ -32,15 +33,21 @@ pub fn help(arguments: &Arguments) -> Outcome {
         return all();
     }
     let [name] = arguments.words(["COMMAND"])?;
-    print(&one(find(&name.to_string_lossy())?))?;
+    of(find(&name.to_string_lossy())?)
+}
+
+/// One command in full.
+pub fn of(command: &Command) -> Outcome {
+    print(&one(command))?;
     Ok(Verdict::Done)
 }
 
 fn one(command: &Command) -> String {
     let Command { name, words, further, about, text, example, .. } = command;
-    let mut usage = vec![format!("mp {name} {words}").trim_end().to_string()];
-    usage.extend((!further.is_empty()).then(|| further.to_string()));
     let indented = |lines: Vec<&str>| lines.iter().map(|line| format!("    {line}")).collect::<Vec<_>>().join("\n");
-    let usage = indented(usage.iter().map(String::as_str).collect());
+    let mut usage = indented(vec![format!("mp {name} {words}").trim_end()]);
+    if !further.is_empty() {
+        usage += &format!("\n    mp {name} {further}");
+    }
     format!("mp {name}: {about}\n\n{usage}\n\n{text}\n\nexample:\n{}", indented(example.lines().collect()))
 }

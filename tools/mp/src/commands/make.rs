@@ -27,10 +27,16 @@ pub const COMMAND: Command = Command {
 
 fn run(arguments: &Arguments) -> Outcome {
     let [path] = arguments.words(["IMAGE"])?;
-    let text = files::read_from(std::io::stdin().lock(), "the listing on standard input")?;
+    let text = files::read_from(std::io::stdin().lock(), "the listing on standard input", files::LONGEST_LISTING)?;
+    // What should have written the listing may have failed, and an image of the root alone takes two words.
+    if text.trim_ascii().is_empty() {
+        return Err(
+            "the listing on standard input is empty; for an image of the root alone it has to say: dir /".to_string()
+        );
+    }
     let image = listing::parse(&text).map_err(|fault| format!("the listing on standard input, {fault}"))?;
     let bytes = image.write();
     files::write(Path::new(path), &bytes)?;
-    tell(&format!("{}: a sound image of {} bytes", Path::new(path).display(), bytes.len()));
+    tell(&format!("{}: a sound image of {} bytes", files::named(Path::new(path)), bytes.len()));
     Ok(Verdict::Done)
 }

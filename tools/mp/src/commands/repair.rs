@@ -22,9 +22,7 @@ pub const COMMAND: Command = Command {
 fn run(arguments: &Arguments) -> Outcome {
     let [image, plan, scratch] = arguments.words(["IMAGE", "PLAN", "SCRATCH"])?;
     let [image, plan, scratch] = [image, plan, scratch].map(Path::new);
-    files::not_the_same(["PLAN", "IMAGE"], [plan, image])?;
-    files::not_the_same(["SCRATCH", "IMAGE"], [scratch, image])?;
-    files::not_the_same(["SCRATCH", "PLAN"], [scratch, plan])?;
+    files::all_different(&[("PLAN", plan), ("SCRATCH", scratch)], &[("IMAGE", image)])?;
     let image = files::read(image)?;
     let (mut planned, mut outcome) = (Plan::EMPTY, vec![0; image.len()]);
     let answered = mirepillar::repair(&image, &mut planned.0, &mut outcome);

@@ -19,7 +19,7 @@ pub const COMMAND: Command = Command {
            whichever comes first. The same seed (1) gives the same images and renames. At the first breach it writes the image\n\
            and the request into the folder it is run in, prints the command line that shows it again, and stops.",
     example: "$ mp soak --seconds 60 --seed 7",
-    options: &[valued("--seconds", "number"), valued("--seed", "number"), valued("--images", "number")],
+    options: &[&[valued("--seconds", "number"), valued("--seed", "number"), valued("--images", "number")]],
     run,
 };
 
@@ -56,7 +56,7 @@ fn line(tally: &Tally, breaches: usize) -> String {
 fn reproducer(breach: &Breach, seed: u64) -> Result<(), String> {
     let [image, request] = ["img", "request"].map(|ending| PathBuf::from(format!("breach-{seed}.{ending}")));
     files::write(&image, &breach.image)?;
-    files::write(&request, &breach.asked.write())?;
+    files::write(&request, &breach.asked.write()?)?;
     let flag = match breach.asked.flags {
         NO_REPLACE => " --no-replace",
         EXCHANGE => " --exchange",

@@ -13,7 +13,7 @@ pub const COMMAND: Command = Command {
     further: "",
     about: "shows the image as a listing",
     text: "Prints every name with its type, mode, owner, link count, times, inode and slot, then the handles, the number of\n\
-           records of each kind, and the note in words. An image that a power cut has left is shown, too; only its table of\n\
+           records of each kind, and the journal record in words. An image that a power cut has left is shown, too; only its table of\n\
            contents has to be right. mp make reads the same form.",
     example: "$ mp tree tree.img > tree.txt",
     options: &[],
@@ -24,7 +24,7 @@ fn run(arguments: &Arguments) -> Outcome {
     let [path] = arguments.words(["IMAGE"])?;
     let bytes = files::read(Path::new(path))?;
     let image =
-        Image::read(&bytes).map_err(|sentence| format!("{} is no image: {sentence}", Path::new(path).display()))?;
+        Image::read(&bytes).map_err(|sentence| format!("{} is no image: {sentence}", files::named(Path::new(path))))?;
     let number = mirepillar::check(&bytes);
     print(listing::print(&image).trim_end_matches('\n'))?;
     if !number.is_done() {

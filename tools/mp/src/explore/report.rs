@@ -10,7 +10,7 @@ pub fn counted(number: usize, one: &str, several: &str) -> String {
 }
 
 /// One kind of state: what the names lead to, whether the journal record is clear, and what repair makes of it.
-type Class = (Names, bool, bool);
+type Class = (Names, bool, Outcome);
 
 /// How many images and states there are of a class.
 #[derive(Default)]
@@ -22,7 +22,7 @@ struct Counts {
 fn classes(found: &Exploration) -> BTreeMap<Class, Counts> {
     let class_of = |image: usize| {
         let image = &found.images[image];
-        (image.names, image.clear, image.outcome == Outcome::Finished)
+        (image.names, image.clear, image.outcome)
     };
     let mut classes: BTreeMap<Class, Counts> = BTreeMap::new();
     for image in 0..found.images.len() {
@@ -37,9 +37,13 @@ fn classes(found: &Exploration) -> BTreeMap<Class, Counts> {
 /// The table of the classes.
 fn table(found: &Exploration) -> Vec<String> {
     let mut lines = vec![format!("  {:>6}  {:>6}  {:<8}  {:<8}  names", "images", "states", "journal", "repaired")];
-    for ((names, clear, finished), counts) in classes(found) {
+    for ((names, clear, outcome), counts) in classes(found) {
         let journal = if clear { "clear" } else { "pending" };
-        let repaired = if finished { "finished" } else { "before" };
+        let repaired = match outcome {
+            Outcome::Before => "before",
+            Outcome::Finished => "finished",
+            Outcome::Otherwise => "NEITHER",
+        };
         let Counts { images, states } = counts;
         lines.push(format!("  {images:>6}  {states:>6}  {journal:<8}  {repaired:<8}  {}", names.said()));
     }

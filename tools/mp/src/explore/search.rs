@@ -1,6 +1,6 @@
 //! The search: every state once, each image repaired once.
 
-use super::names::names;
+use super::names::{names, Names};
 use super::{all_rows, breach, turns, Call, Exploration, Jobs, Key, Numbered, Outcome, Phase, Reached, State};
 use crate::image::{Image, Journal};
 use mirepillar::{Number, Plan};
@@ -52,6 +52,9 @@ impl Search<'_> {
         if (self.jobs.check)(&self.found.finished) != Number::DONE {
             self.breach(0, "the plan landed whole leaves an image that is not sound".to_string());
         }
+        if !matches!(names(&self.found.call, &self.found.finished), Names::New | Names::Exchanged) {
+            self.breach(0, "the plan landed whole does not give the new name".to_string());
+        }
         let mut next = 0;
         while next < self.found.states.len() {
             self.follow(next);
@@ -78,7 +81,7 @@ impl Search<'_> {
         if new {
             let (mut plan, mut scratch) = (Plan::EMPTY, vec![0; bytes.len()]);
             let answer = (self.jobs.repair)(&bytes, &mut plan.0, &mut scratch);
-            let outcome = self.outcome(&landed_whole(&bytes, &plan, self.jobs), answer.number);
+            let outcome = self.outcome(&landed_whole(&bytes, &plan, self.jobs), &scratch, answer.number);
             let plan = self.plan(plan);
             self.repairs.push(Repair { plan, answered: answer.number });
             let names = names(&self.found.call, &bytes);
@@ -88,8 +91,9 @@ impl Search<'_> {
         number
     }
 
-    fn outcome(&self, bytes: &[u8], answered: Number) -> Outcome {
-        match answered == Number::DONE {
+    /// What a repair's rows leave, if that is what the repair has shown.
+    fn outcome(&self, bytes: &[u8], shown: &[u8], answered: Number) -> Outcome {
+        match answered == Number::DONE && bytes == shown {
             true if bytes == self.found.call.before => Outcome::Before,
             true if bytes == self.found.finished => Outcome::Finished,
             _ => Outcome::Otherwise,

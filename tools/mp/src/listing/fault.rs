@@ -27,7 +27,7 @@ pub struct Place {
 
 impl Place {
     pub fn fault(self, sentence: impl Into<String>) -> Fault {
-        Fault { line: self.line, column: self.column, sentence: sentence.into() }
+        Fault { line: self.line, column: self.column, sentence: readable(&sentence.into()) }
     }
 
     /// The place so many bytes to the right.
@@ -52,4 +52,22 @@ pub fn give<T>(slot: &mut Option<Given<T>>, place: Place, what: &str, value: T) 
             Ok(())
         }
     }
+}
+
+/// The most letters of a sentence: it may repeat a word of the listing, and that may be of any length.
+const LONGEST: usize = 400;
+
+/// A sentence that a terminal can show: not endless, and with no control in it.
+fn readable(sentence: &str) -> String {
+    let mut out = String::new();
+    for letter in sentence.chars().take(LONGEST) {
+        match letter.is_control() {
+            true => out.extend(letter.escape_unicode()),
+            false => out.push(letter),
+        }
+    }
+    if sentence.chars().nth(LONGEST).is_some() {
+        out += "...";
+    }
+    out
 }

@@ -21,7 +21,13 @@ impl Numbers {
     }
 
     fn singular(&self) -> &'static str {
-        ["inode", "slot", "text", "handle", "journal record"][self.section as usize]
+        match self.section {
+            Section::Inodes => "inode",
+            Section::Entries => "slot",
+            Section::Texts => "text",
+            Section::Handles => "handle",
+            Section::Journal => unreachable!("there is one journal record, and no listing numbers it"),
+        }
     }
 
     /// Takes number 0, which needs no line.

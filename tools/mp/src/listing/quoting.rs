@@ -58,7 +58,7 @@ pub fn unquote(line: &[u8], place: Place) -> Result<(Vec<u8>, usize), Fault> {
     }
 }
 
-const NO_ZERO: &str = "no name and no text can hold a byte 0";
+pub const NO_ZERO: &str = "no name and no text can hold a byte 0";
 
 /// The byte that an escape stands for, and the length of the escape. It begins with a backslash.
 fn unescape(line: &[u8], place: Place) -> Result<(u8, usize), Fault> {

@@ -1,7 +1,7 @@
 //! A line of a listing as words.
 
 use super::fault::{Fault, Given, Place};
-use super::quoting::{text, unquote};
+use super::quoting::{text, unquote, NO_ZERO};
 
 /// A word: what stands between spaces, or what stands in quotes.
 #[derive(Clone, Debug, PartialEq, Eq)]
@@ -86,6 +86,7 @@ fn plain(line: &[u8], place: Place) -> Result<(Kind, usize), Fault> {
         return Err(place.right(at).fault(match bytes[at] {
             b'"' => "a quote inside a word; put all of the path in quotes".to_owned(),
             b'\\' => "a backslash outside of quotes; put all of the path in quotes".to_owned(),
+            0 => NO_ZERO.to_owned(),
             byte => format!("the byte \\x{byte:02x} outside of quotes; write it so, in quotes"),
         }));
     }

@@ -1,17 +1,15 @@
 //! The journal record in words.
 
-use crate::image::{Journal, ABSENT};
+use crate::image::{operation, Journal, ABSENT};
 
 const PENDING: u8 = 1;
-const RENAME: u8 = 0;
-const EXCHANGE: u8 = 7;
 
 pub fn line(journal: &Journal) -> String {
     match (journal.mark, journal.kind) {
         _ if *journal == Journal::default() => "journal clear\n".to_owned(),
         _ if journal.rest != Journal::default().rest => unreadable(journal),
-        (PENDING, RENAME) => rename(journal),
-        (PENDING, EXCHANGE) if journal.text == ABSENT => exchange(journal),
+        (PENDING, operation::RENAME) => rename(journal),
+        (PENDING, operation::EXCHANGE) if journal.text == ABSENT => exchange(journal),
         _ => unreadable(journal),
     }
 }
