@@ -1,11 +1,16 @@
 //! Random sound images and random renames on them, each explored: the adversary that does not tire.
 
 use crate::explore::{search, Call, Exploration, Jobs};
+use crate::files;
 use crate::image::{Image, Journal};
 use crate::random::Random;
 use crate::random_image::{self, Size};
 use crate::request::Asked;
 use mirepillar::{Number, Plan, CURRENT_DIRECTORY, EXCHANGE, NO_REPLACE};
+use std::path::Path;
+
+#[cfg(test)]
+mod tests;
 
 /// How many renames are asked for on each image.
 const ASKED_EACH: usize = 8;
@@ -28,6 +33,21 @@ pub struct Breach {
     pub image: Vec<u8>,
     pub asked: Asked,
     pub found: Exploration,
+}
+
+impl Breach {
+    /// Writes the image and the request into a folder, and gives the command line that shows the breach again.
+    pub fn store(&self, folder: &Path, seed: u64) -> Result<String, String> {
+        let [image, request] = ["img", "request"].map(|ending| folder.join(format!("breach-{seed}.{ending}")));
+        files::write(&image, &self.image)?;
+        files::write(&request, &self.asked.write()?)?;
+        let flag = match self.asked.flags {
+            NO_REPLACE => " --no-replace",
+            EXCHANGE => " --exchange",
+            _ => "",
+        };
+        Ok(format!("mp explore {} {}{flag}", image.display(), request.display()))
+    }
 }
 
 /// Explores the renames of one random image, and adds them up; or stops at the first breach.

@@ -3,11 +3,9 @@
 use super::{print, tell, Command, Outcome, Verdict};
 use crate::arguments::{valued, Arguments};
 use crate::explore::{report, PROVED};
-use crate::files;
 use crate::random::Random;
-use crate::soak::{one_image, Breach, Tally};
-use mirepillar::{EXCHANGE, NO_REPLACE};
-use std::path::PathBuf;
+use crate::soak::{one_image, Tally};
+use std::path::Path;
 use std::time::{Duration, Instant};
 
 pub const COMMAND: Command = Command {
@@ -33,7 +31,8 @@ fn run(arguments: &Arguments) -> Outcome {
     let mut told = began;
     while began.elapsed() < time && tally.images < most {
         if let Some(breach) = one_image(&mut random, PROVED, &mut tally) {
-            reproducer(&breach, seed)?;
+            print(&report::report(&breach.found).join("\n"))?;
+            print(&breach.store(Path::new(""), seed)?)?;
             print(&line(&tally, 1))?;
             return Ok(Verdict::Refused);
         }
@@ -50,18 +49,4 @@ fn line(tally: &Tally, breaches: usize) -> String {
     let Tally { images, asked, renames, exchanges, states } = tally;
     let breaches = report::counted(breaches, "breach", "breaches");
     format!("{images} images, {asked} calls, {renames} renames and {exchanges} exchanges explored, {states} states, {breaches}")
-}
-
-/// Writes what shows the breach again, and says how.
-fn reproducer(breach: &Breach, seed: u64) -> Result<(), String> {
-    let [image, request] = ["img", "request"].map(|ending| PathBuf::from(format!("breach-{seed}.{ending}")));
-    files::write(&image, &breach.image)?;
-    files::write(&request, &breach.asked.write()?)?;
-    let flag = match breach.asked.flags {
-        NO_REPLACE => " --no-replace",
-        EXCHANGE => " --exchange",
-        _ => "",
-    };
-    print(&report::report(&breach.found).join("\n"))?;
-    print(&format!("mp explore {} {}{flag}", image.display(), request.display()))
 }
