@@ -18,6 +18,3 @@ pub mod Planned
 pub mod Demand2Proof
 pub mod Demand3Proof
 pub mod ExchangeDemand3Proof
-pub mod Line
-pub mod Table
-pub mod Bench

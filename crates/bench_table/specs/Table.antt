@@ -12,7 +12,7 @@ use Rattle.paths.specs.declared.request.Request.{Request}
 use Rattle.paths.specs.Groups.{credentialsOf}
 use Rattle.plan.specs.Form.{planBytes}
 use Rattle.rename.specs.declared.Renamed.{Renamed}
-use Rattle.demands.specs.Line.{EntrySeen, Outcome, bytes, planned, Line, past, dirty}
+use Rattle.bench_table.specs.Line.{EntrySeen, Outcome, bytes, planned, Line, past, dirty}
 
 -- ---- what is asked
 

@@ -35,8 +35,8 @@ use Rattle.results.specs.Results.{movedBytes, holderBytes, replacedBytes, resul
 use Rattle.moves.specs.Plan.{moveOf, renameRows, planned}
 use Rattle.rename.specs.Order.{freeSlot, order}
 use Rattle.rename.specs.Job.{renamed, planAfter}
-use Rattle.demands.specs.Line.{below, applyRows, outcome}
-use Rattle.demands.specs.Table.{table}
+use Rattle.bench_table.specs.Line.{below, applyRows, outcome}
+use Rattle.bench_table.specs.Table.{table}
 
 pub bench-table : map (λ l. outcome (l .asked)) table ≡ map (λ l. l .expected) table
 unfolding bench any all first count part put zeros noZero sameBytes numberAt bytesOf nameIs shapeOf layoutGood recordAt viewOf plainName isDots nameGood clash entriesOf childDirectories reaches textShared textLinked journalClear bodiesGood recordsNumber checkNumber credentialsOf inFurther inGroup allows path.slashes path.untilSlash isPortableByte isPortable isNamed lookup requestGood flagsGood walkStep walkFrom walk walksOf entryBytes journalHead journalBytes rowAt headerOf rowPut rowsPut cleared coversSection covers rowFits applicable applyNumber appliedImage movedBytes holderBytes replacedBytes entriesAfter childrenAfter linksAfter results stickyDenied hasEntries isOpened moveOf renameRows planned freeSlot order renamed planAfter below applyRows outcome table
