@@ -45,7 +45,7 @@ use Rattle.recover.specs.Job.{recovered}
 use Rattle.outcome.specs.Outcome.{finished}
 use Rattle.demands.specs.Crashes.{Event, apply, refused, crash, State, groupOf, step as stepped, atFirst, entryApplied}
 use Rattle.demands.specs.Demand2.{finishedImage}
-use Rattle.demands.specs.Line.{dirty}
+use Rattle.bench_table.specs.Line.{dirty}
 use Rattle.bench_table.specs.Table.{owner, /a/f, /b/g}
 
 -- a crash, with buffers of these lengths filled with a byte
