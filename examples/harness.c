@@ -93,15 +93,6 @@ static unsigned repair(struct contents image, struct contents scratch, struct qu
     return cuts;
 }
 
-static struct contents copy(struct contents image)
-{
-    struct contents other = {malloc(image.len + 1), image.len};
-    if (other.bytes == NULL)
-        fail(UNUSABLE, "memory", "there is none for a copy of the image");
-    memcpy(other.bytes, image.bytes, image.len);
-    return other;
-}
-
 int main(int argc, char **argv)
 {
     if (argc != ARGUMENTS)

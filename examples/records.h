@@ -66,6 +66,16 @@ static struct contents read_file(const char *name, int file, size_t longest, con
     fail(UNUSABLE, name, too_long);
 }
 
+/* A copy to land rows on. Not every example makes one. */
+static inline struct contents copy(struct contents image)
+{
+    struct contents other = {malloc(image.len + 1), image.len};
+    if (other.bytes == NULL)
+        fail(UNUSABLE, "memory", "there is none for a copy of the image");
+    memcpy(other.bytes, image.bytes, image.len);
+    return other;
+}
+
 static unsigned two_bytes(const uint8_t *bytes)
 {
     return bytes[0] + 256u * bytes[1];

@@ -33,15 +33,6 @@ static struct contents read_image(const char *name, int file)
     return read_file(name, file, LONGEST_IMAGE, "it is longer than any image, 53448 bytes");
 }
 
-static struct contents copy(struct contents image)
-{
-    struct contents other = {malloc(image.len + 1), image.len};
-    if (other.bytes == NULL)
-        fail(UNUSABLE, "memory", "there is none for a copy of the image");
-    memcpy(other.bytes, image.bytes, image.len);
-    return other;
-}
-
 static int same(struct contents one, struct contents other)
 {
     return one.len == other.len && memcmp(one.bytes, other.bytes, one.len) == 0;
