@@ -26,6 +26,19 @@ long_word=$(head -c 5000 /dev/zero | tr '\0' 9)
 run "$mp" land --seed "$long_word" a b
 [ "$(wc -c <err)" -lt 300 ] || wrong "a long word is repeated whole: $(wc -c <err) bytes"
 
+# What the script needs to build, and is not there.
+mkdir -p bare/crates empty_path
+touch bare/crates.txt bare/crates/newer
+cp "$root/mp" bare/mp
+for command in sh dirname readlink find head mkdir tee sed touch; do ln -sf "$(command -v $command)" empty_path/$command; done
+expect 2 '' 'mp: the command rt is needed to build the proved library, and it is not on the PATH' env PATH="$folder/empty_path" bare/mp help
+printf '#!/bin/sh\necho "rt: layout NOT PROVED"\nexit 1\n' >empty_path/rt
+chmod +x empty_path/rt
+expect 2 '' "mp: the library was not built; $folder/bare/target/staticlib.log tells why" env PATH="$folder/empty_path" bare/mp help
+mkdir -p bare/target/staticlib bare/tools/mp bare/bindings/rust
+touch bare/target/staticlib/libmirepillar.a
+expect 2 '' 'mp: the command cargo is needed to build the tool, and it is not on the PATH' env PATH="$folder/empty_path" bare/mp help
+
 # The script finds its root from anywhere, also by a symlink and with CDPATH set.
 ln -sf "$root/mp" by_symlink
 expect_part 0 'mp 0.' ./by_symlink --version

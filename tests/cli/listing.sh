@@ -13,6 +13,12 @@ same again.img bench
 expect 2 '' 'bench.img is no image' sh -c 'head -c 100 bench >bench.img; "$1" tree bench.img' sh "$mp"
 expect 2 '' 'short is no image: by its table of contents it ends at 624, and it has 623 bytes' "$mp" tree short
 expect 2 '' 'third is no image: it has 34 bytes, and a table of contents alone has 40' "$mp" tree third
+{ printf XODE; tail -c +5 bench; } >bad
+expect 2 '' 'bad is no image: its table of contents has no section NODE in its place' "$mp" tree bad
+{ head -c 6 bench; two_bytes 0; tail -c +9 bench; } >bad
+expect 2 '' 'bad is no image: section NODE has 0 records, where 1 to 512 are allowed' "$mp" tree bad
+{ head -c 12 bench; two_bytes 265; tail -c +15 bench; } >bad
+expect 2 '' 'bad is no image: section LINK is said to begin at 265, and it begins at 264' "$mp" tree bad
 
 # An image that a power cut has left.
 cp bench image
@@ -36,5 +42,6 @@ expect 0 '' 'deep.img: a sound image of' sh -c '"$1" make deep.img <deep.txt' sh
 expect 0 '' 'deep2.img: a sound image of' sh -c '"$1" tree deep.img | "$1" make deep2.img' sh "$mp"
 same deep.img deep2.img
 expect 2 '' 'IMAGE is missing' "$mp" make
+expect 2 '' 'the listing on standard input cannot be read: Is a directory' sh -c '"$1" make none.img <.' sh "$mp"
 expect 2 '' 'nowhere/tree.img cannot be written: No such file or directory' sh -c 'echo dir /a | "$1" make nowhere/tree.img' sh "$mp"
 missing none.img
