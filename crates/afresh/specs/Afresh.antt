@@ -2,18 +2,18 @@
 use Rattle.std.specs.Prelude.{◌≡◌, ◌≢◌, ◌⊎◌, List, ℕ, ◌<◌}
 use Rattle.layout.specs.declared.Shape.{Shape}
 use Rattle.layout.specs.Limits.{absent}
-use Rattle.layout.specs.View.{view_of, inodeAt, entry_at}
+use Rattle.layout.specs.View.{view_of, inode_at, entry_at}
 use Rattle.recounts.specs.declared.Move.{Move}
-use Rattle.recounts.specs.Recount.{entriesAfter}
-use Rattle.results.specs.Results.{movedAfter, holderAfter, replacedAfter}
+use Rattle.recounts.specs.Recount.{entries_after}
+use Rattle.results.specs.Results.{moved_after, holder_after, replaced_after}
 
 -- The image x is on the way of the rename on s: an entry off the two slots is as before, and an inode that the rename writes is as before
 -- or as after.
 pub record PartWay (h : Shape) (s x : List ℕ) (m : Move) : Type 0 where
   pub entry : (j : ℕ) → j < h.entries → j ≢ m.old → j ≢ m.new → entry_at h x j ≡ entry_at h s j
-  pub moved : (inodeAt h x m.moved ≡ inodeAt h s m.moved) ⊎ (inodeAt h x m.moved ≡ movedAfter h s m)
-  pub from : (inodeAt h x m.from ≡ inodeAt h s m.from) ⊎ (inodeAt h x m.from ≡ holderAfter h s m m.from)
-  pub into : (inodeAt h x m.into ≡ inodeAt h s m.into) ⊎ (inodeAt h x m.into ≡ holderAfter h s m m.into)
-  pub replaced : m.replaced ≢ absent → (inodeAt h x m.replaced ≡ inodeAt h s m.replaced) ⊎ (inodeAt h x m.replaced ≡ replacedAfter h s m)
+  pub moved : (inode_at h x m.moved ≡ inode_at h s m.moved) ⊎ (inode_at h x m.moved ≡ moved_after h s m)
+  pub from : (inode_at h x m.from ≡ inode_at h s m.from) ⊎ (inode_at h x m.from ≡ holder_after h s m m.from)
+  pub into : (inode_at h x m.into ≡ inode_at h s m.into) ⊎ (inode_at h x m.into ≡ holder_after h s m m.into)
+  pub replaced : m.replaced ≢ absent → (inode_at h x m.replaced ≡ inode_at h s m.replaced) ⊎ (inode_at h x m.replaced ≡ replaced_after h s m)
   -- an inode has its type unless no entry is left that names it
-  pub kind : (i : ℕ) → i < h.inodes → ((view_of h x).kind i ≡ (view_of h s).kind i) ⊎ (entriesAfter (view_of h s) m i ≡ 0)
+  pub kind : (i : ℕ) → i < h.inodes → ((view_of h x).kind i ≡ (view_of h s).kind i) ⊎ (entries_after (view_of h s) m i ≡ 0)

@@ -4,13 +4,13 @@ use Rattle.layout.specs.declared.Shape.{Shape}
 use Rattle.layout.specs.Record.{store}
 use Rattle.layout.specs.View.{view_of}
 use Rattle.edits.specs.Kinds.{EntryUsed}
-use Rattle.plan.specs.Write.{entryKey}
+use Rattle.plan.specs.Write.{entry_key}
 use Rattle.recounts.specs.declared.Move.{Move}
-use Rattle.results.specs.Results.{freeRecord}
+use Rattle.results.specs.Results.{free_record}
 
 -- the image with the old entry cleared
-abbrev pub oldCleared : Shape → List ℕ → Move → List ℕ
-oldCleared h x m = store h x (entryKey m.old) (freeRecord h 1)
+abbrev pub old_cleared : Shape → List ℕ → Move → List ℕ
+old_cleared h x m = store h x (entry_key m.old) (free_record h 1)
 
 -- The new entry stands in the image.
 pub record EntryStands (h : Shape) (x : List ℕ) (m : Move) : Type 0 where

@@ -9,54 +9,54 @@ use Rattle.std.proofs.Math.ListN.{get_or-replicate}
 use Rattle.layout.specs.declared.Shape.{Shape}
 use Rattle.layout.specs.Place.{Key}
 use Rattle.layout.specs.Facts.{Valid, Laid}
-use Rattle.layout.specs.Record.{recordAt}
+use Rattle.layout.specs.Record.{record_at}
 use Rattle.layout.specs.RecordLaws.{store_same, store_other}
-use Rattle.layout.specs.Fields.{inodeKind, entryParent, entryTarget, entryNameLength}
+use Rattle.layout.specs.Fields.{inode_kind, entry_parent, entry_target, entry_name_length}
 use Rattle.layout.specs.View.{view_of, entry_at}
-use Rattle.tree.specs.Tree.{entriesOf, childDirectories}
-use Rattle.edits.specs.WrittenLaws.{same-entry}
-use Rattle.plan.specs.Write.{inodeKey, entryKey}
-use Rattle.plan.specs.WriteLaws.{other-section, other-index}
+use Rattle.tree.specs.Tree.{entries_of, child_directories}
+use Rattle.edits.specs.WrittenLaws.{same_entry}
+use Rattle.plan.specs.Write.{inode_key, entry_key}
+use Rattle.plan.specs.WriteLaws.{other_section, other_index}
 use Rattle.recounts.specs.declared.Move.{Move}
-use Rattle.recounts.specs.Recount.{entriesAfter, childrenAfter}
-use Rattle.results.specs.Results.{freeRecord}
+use Rattle.recounts.specs.Recount.{entries_after, children_after}
+use Rattle.results.specs.Results.{free_record}
 use Rattle.afresh.specs.Recount.{Agrees, Made}
-use Rattle.afresh.specs.RecountLaws.{entries-agree, children-agree, entries-made, children-made}
-use Rattle.afresh.specs.Cleared.{oldCleared, EntryStands}
+use Rattle.afresh.specs.RecountLaws.{entries_agree, children_agree, entries_made, children_made}
+use Rattle.afresh.specs.Cleared.{old_cleared, EntryStands}
 
 module _ (h : Shape) (x : List ℕ) (m : Move) (laid : Laid h x) (below : m.old < h.entries) (differ : m.old ≢ m.new) (stands : EntryStands h x m) where
-  old-valid : Valid h (entryKey m.old)
-  old-valid = record { in_image = lit< tt; in-section = below }
+  old_valid : Valid h (entry_key m.old)
+  old_valid = record { in_image = lit< tt; in_section = below }
 
-  other : (k : Key) → Valid h k → k ≢ entryKey m.old → recordAt h (oldCleared h x m) k.section k.index ≡ recordAt h x k.section k.index
-  other k v n = store_other h x (freeRecord h 1) (entryKey m.old) laid.long old-valid (length-replicate h.width 0) k v n
+  other : (k : Key) → Valid h k → k ≢ entry_key m.old → record_at h (old_cleared h x m) k.section k.index ≡ record_at h x k.section k.index
+  other k v n = store_other h x (free_record h 1) (entry_key m.old) laid.long old_valid (length-replicate h.width 0) k v n
 
-  entry_other : (j : ℕ) → j < h.entries → j ≢ m.old → entry_at h (oldCleared h x m) j ≡ entry_at h x j
-  entry_other j l n = other (entryKey j) (record { in_image = lit< tt; in-section = l }) (other-index _ _ n)
+  entry_other : (j : ℕ) → j < h.entries → j ≢ m.old → entry_at h (old_cleared h x m) j ≡ entry_at h x j
+  entry_other j l n = other (entry_key j) (record { in_image = lit< tt; in_section = l }) (other_index _ _ n)
 
-  agrees : Agrees (view_of h x) (view_of h (oldCleared h x m)) m
+  agrees : Agrees (view_of h x) (view_of h (old_cleared h x m)) m
   unfolding view_of
   agrees = record {
     size = record { inodes = refl; entries = refl; texts = refl; handles = refl };
-    entry = λ j l n _. same-entry h x (oldCleared h x m) j (entry_other j l n);
-    kind = λ i l. inl (ap inodeKind (other (inodeKey i) (record { in_image = lit< tt; in-section = l }) (other-section _ _ (omega arith))));
+    entry = λ j l n _. same_entry h x (old_cleared h x m) j (entry_other j l n);
+    kind = λ i l. inl (ap inode_kind (other (inode_key i) (record { in_image = lit< tt; in_section = l }) (other_section _ _ (omega arith))));
   }
 
-  made : Made (view_of h (oldCleared h x m)) m
+  made : Made (view_of h (old_cleared h x m)) m
   unfolding view_of
   made =
       let e = entry_other m.new stands.used.0 (λ z. differ (sym z)) in
-      let gone : entry_at h (oldCleared h x m) m.old ≡ freeRecord h 1 =
-      store_same h x (freeRecord h 1) (entryKey m.old) laid.long old-valid (length-replicate h.width 0) in
+      let gone : entry_at h (old_cleared h x m) m.old ≡ free_record h 1 =
+      store_same h x (free_record h 1) (entry_key m.old) laid.long old_valid (length-replicate h.width 0) in
       record {
-        cleared = ap entryNameLength gone ∙ get_or-replicate h.width 4 0 0 (omega (arith, laid.width-least));
-        used = λ z. stands.used.1 (sym (ap entryNameLength e) ∙ z);
-        parent = ap entryParent e ∙ stands.parent;
-        target = ap entryTarget e ∙ stands.target;
+        cleared = ap entry_name_length gone ∙ get_or-replicate h.width 4 0 0 (omega (arith, laid.width_least));
+        used = λ z. stands.used.1 (sym (ap entry_name_length e) ∙ z);
+        parent = ap entry_parent e ∙ stands.parent;
+        target = ap entry_target e ∙ stands.target;
       }
 
-  pub entries-cleared : (i : ℕ) → entriesAfter (view_of h x) m i ≡ entriesOf (view_of h (oldCleared h x m)) i
-  entries-cleared i = sym (entries-made made i ∙ entries-agree agrees i)
+  pub entries_cleared : (i : ℕ) → entries_after (view_of h x) m i ≡ entries_of (view_of h (old_cleared h x m)) i
+  entries_cleared i = sym (entries_made made i ∙ entries_agree agrees i)
 
-  pub children-cleared : (d : ℕ) → childrenAfter (view_of h x) m d ≡ childDirectories (view_of h (oldCleared h x m)) d
-  children-cleared d = sym (children-made made d ∙ children-agree agrees d)
+  pub children_cleared : (d : ℕ) → children_after (view_of h x) m d ≡ child_directories (view_of h (old_cleared h x m)) d
+  children_cleared d = sym (children_made made d ∙ children_agree agrees d)

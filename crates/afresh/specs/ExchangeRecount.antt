@@ -12,6 +12,6 @@ pub record OffSlots (v w : View) (m : Move) : Type 0 where
 
 -- The moved inode has gone over: the new slot lies in `into` and targets it.
 pub record GoneOver (w : View) (m : Move) : Type 0 where
-  pub used : w.nameLength m.new ≢ 0
+  pub used : w.name_length m.new ≢ 0
   pub parent : w.parent m.new ≡ m.into
   pub target : w.target m.new ≡ m.moved

@@ -2,24 +2,24 @@
 use Rattle.std.specs.Prelude.{cond, List, ℕ, eqb, ltb, length}
 use Rattle.seq.specs.Bytes.{put}
 use Rattle.layout.specs.declared.Shape.{Shape}
-use Rattle.layout.specs.Errno.{shortBuffer, inconsistent, badRow}
-use Rattle.layout.specs.Contents.{layoutGood, shape_of}
-use Rattle.plan.specs.Form.{Row, planBytes, row_at}
+use Rattle.layout.specs.Errno.{short_buffer, inconsistent, bad_row}
+use Rattle.layout.specs.Contents.{layout_good, shape_of}
+use Rattle.plan.specs.Form.{Row, plan_bytes, row_at}
 use Rattle.plan.specs.Fit.{applicable}
 
 -- rule 97: the number where the plan is long enough and the layout good
-abbrev pub rowNumber : Shape → List ℕ → ℕ → ℕ
-rowNumber h plan i = cond (applicable h plan i) 0 badRow
+abbrev pub row_number : Shape → List ℕ → ℕ → ℕ
+row_number h plan i = cond (applicable h plan i) 0 bad_row
 
 -- rules 94 to 97: the first refusal that applies, in this order (applying is the papers' landing)
-unfoldable pub applyNumber : List ℕ → List ℕ → ℕ → ℕ
-applyNumber image plan i =
-    cond (ltb (length plan) planBytes) shortBuffer (cond (layoutGood image) (rowNumber (shape_of image) plan i) inconsistent)
+unfoldable pub apply_number : List ℕ → List ℕ → ℕ → ℕ
+apply_number image plan i =
+    cond (ltb (length plan) plan_bytes) short_buffer (cond (layout_good image) (row_number (shape_of image) plan i) inconsistent)
 
 -- rule 101: the row's body in its place; every other byte is as before
 abbrev pub applied : List ℕ → Row → List ℕ
 applied image r = put image r.offset r.body
 
 -- rules 94 and 101: the whole image after the job, as it was where the job refuses
-unfoldable pub appliedImage : List ℕ → List ℕ → ℕ → List ℕ
-appliedImage image plan i = cond (eqb (applyNumber image plan i) 0) (applied image (row_at plan i)) image
+unfoldable pub applied_image : List ℕ → List ℕ → ℕ → List ℕ
+applied_image image plan i = cond (eqb (apply_number image plan i) 0) (applied image (row_at plan i)) image

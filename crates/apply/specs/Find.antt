@@ -2,7 +2,7 @@
 use Rattle.std.specs.Prelude.{Bool, ◌&&◌, ℕ, ◌+◌, ◌*◌, ◌≤◌, eqb}
 use Rattle.seq.specs.Search.{any}
 use Rattle.layout.specs.declared.Shape.{Shape}
-use Rattle.layout.specs.Place.{imageBytes}
+use Rattle.layout.specs.Place.{image_bytes}
 
 -- n bytes from at on are one of count records of width bytes each, the first of them at start
 unfoldable pub one_of : ℕ → ℕ → ℕ → ℕ → ℕ → Bool
@@ -10,5 +10,5 @@ one_of start width count at n = any (λ i. eqb at (start + width * i) && eqb n w
 
 -- A shape whose places no sum of an index's type passes.
 pub record Bounded (h : Shape) : Type 0 where
-  pub width-least : 1 ≤ h.width
-  pub image-most : imageBytes h ≤ 131072
+  pub width_least : 1 ≤ h.width
+  pub image_most : image_bytes h ≤ 131072

@@ -7,12 +7,12 @@ use Rattle.std.proofs.Math.Nat.{add-sub_cancel_left, mul-mod_right, mul-div_righ
 use Rattle.std.proofs.Math.Dec.{ltb}
 use borrow.Author.Tests.{eq-eqb, eqb-true, lt-ltb, ltb-true}
 use Rattle.seq.specs.Truth.{refuted, and_left, and_right, and_both, same_truth}
-use Rattle.seq.specs.SearchLaws.{any-hit, any_at}
+use Rattle.seq.specs.SearchLaws.{any_hit, any_at}
 use Rattle.layout.specs.declared.Shape.{Shape}
-use Rattle.layout.specs.Limits.{widestEntry, entryLimit}
-use Rattle.layout.specs.Place.{recordBytes, records, base, imageBytes}
+use Rattle.layout.specs.Limits.{widest_entry, entry_limit}
+use Rattle.layout.specs.Place.{record_bytes, records, base, image_bytes}
 use Rattle.layout.specs.Facts.{Laid}
-use Rattle.plan.specs.Fit.{coverable, coversSection}
+use Rattle.plan.specs.Fit.{coverable, covers_section}
 use Rattle.apply.specs.Find.{one_of, Bounded}
 
 -- the ways out of finding it
@@ -26,14 +26,14 @@ module _ (start width count at n : ℕ) where
   pub one_size : (n ≡ width → ⊥) → one_of start width count at n ≡ false
   one_size ne = refuted _ (λ e. ne (found e).3)
 
-  pub one-before : at < start → one_of start width count at n ≡ false
-  one-before l = refuted _ (λ e. let p = (found e).2 in omega arith)
+  pub one_before : at < start → one_of start width count at n ≡ false
+  one_before l = refuted _ (λ e. let p = (found e).2 in omega arith)
 
   distance : (i : ℕ) → at ≡ start + width * i → at - start ≡ width * i
   distance i p = rw p (add-sub_cancel_left start (width * i))
 
-  pub one-between : (((at - start) % width) ≡ 0 → ⊥) → one_of start width count at n ≡ false
-  one-between ne =
+  pub one_between : (((at - start) % width) ≡ 0 → ⊥) → one_of start width count at n ≡ false
+  one_between ne =
       refuted _ (λ e. let (i, l, p, q) = found e in ne (ap (λ (d : ℕ). d % width) (distance i p) ∙ mul-mod_right width i))
 
   pub one_index : 0 < width → n ≡ width → start ≤ at → (at - start) % width ≡ 0 → one_of start width count at n ≡ ltb ((at - start) / width) count
@@ -50,55 +50,55 @@ module _ (start width count at n : ℕ) where
       back e =
           let z = div-add-mod (at - start) width in
           let p : at ≡ start + width * ((at - start) / width) = omega arith in
-          any-hit _ count ((at - start) / width) (ltb-true _ _ e) (and_both (eqb at _) _ (eq-eqb _ _ p) (eq-eqb _ _ size))
+          any_hit _ count ((at - start) / width) (ltb-true _ _ e) (and_both (eqb at _) _ (eq-eqb _ _ p) (eq-eqb _ _ size))
 
-laid-image : (h : Shape) (s : List ℕ) → Laid h s → imageBytes h ≤ 131072
-laid-image h s l =
-    let p : h.width * h.entries ≤ widestEntry * entryLimit = mul-le-mul l.width-most l.entries-most in
-    omega (arith, l.inodes-most, l.texts-most, l.handles-most)
+laid_image : (h : Shape) (s : List ℕ) → Laid h s → image_bytes h ≤ 131072
+laid_image h s l =
+    let p : h.width * h.entries ≤ widest_entry * entry_limit = mul-le-mul l.width_most l.entries_most in
+    omega (arith, l.inodes_most, l.texts_most, l.handles_most)
 
-pub laid-bounded : (h : Shape) (s : List ℕ) → Laid h s → Bounded h
-laid-bounded h s l = record { width-least = omega (arith, l.width-least); image-most = laid-image h s l }
+pub laid_bounded : (h : Shape) (s : List ℕ) → Laid h s → Bounded h
+laid_bounded h s l = record { width_least = omega (arith, l.width_least); image_most = laid_image h s l }
 
 -- each section ends in the image
-section-ends : (h : Shape) (k : ℕ) → k < 5 → base h k + recordBytes h k * records h k ≤ imageBytes h
-section-ends h zero l = omega arith
-section-ends h (suc zero) l = omega arith
-section-ends h (suc (suc zero)) l = omega arith
-section-ends h (suc (suc (suc zero))) l = omega arith
-section-ends h (suc (suc (suc (suc zero)))) l = omega arith
-section-ends h (suc (suc (suc (suc (suc k))))) l = absurd (omega arith)
+section_ends : (h : Shape) (k : ℕ) → k < 5 → base h k + record_bytes h k * records h k ≤ image_bytes h
+section_ends h zero l = omega arith
+section_ends h (suc zero) l = omega arith
+section_ends h (suc (suc zero)) l = omega arith
+section_ends h (suc (suc (suc zero))) l = omega arith
+section_ends h (suc (suc (suc (suc zero)))) l = omega arith
+section_ends h (suc (suc (suc (suc (suc k))))) l = absurd (omega arith)
 
 -- one turn of the search through the sections, where start, width and count are section k's
-module _ (h : Shape) (k start width count : ℕ) (a : start ≡ base h k) (b : width ≡ recordBytes h k) (c : count ≡ records h k) where
-  pub section-is : (at n : ℕ) → (coverable k && one_of start width count at n) ≡ coversSection h at n k
-  unfolding one_of coversSection
-  section-is at n = rw (a, b, c)
+module _ (h : Shape) (k start width count : ℕ) (a : start ≡ base h k) (b : width ≡ record_bytes h k) (c : count ≡ records h k) where
+  pub section_is : (at n : ℕ) → (coverable k && one_of start width count at n) ≡ covers_section h at n k
+  unfolding one_of covers_section
+  section_is at n = rw (a, b, c)
 
-  pub section-next : start + width * count ≡ base h (k + 1)
-  section-next = rw (a, b, c, add-one)
+  pub section_next : start + width * count ≡ base h (k + 1)
+  section_next = rw (a, b, c, add-one)
 
-  pub section-room : Bounded h → k < 5 → start + width * count ≤ 131072
-  section-room bounded l = rw (a, b, c) (let e = section-ends h k l in omega (arith, bounded.image-most))
+  pub section_room : Bounded h → k < 5 → start + width * count ≤ 131072
+  section_room bounded l = rw (a, b, c) (let e = section_ends h k l in omega (arith, bounded.image_most))
 
 -- the last section, and the sections that are not the handles'
-pub bytes-last : (h : Shape) (k : ℕ) → 4 ≤ k → recordBytes h k ≡ 32
-bytes-last h zero l = absurd (omega arith)
-bytes-last h (suc zero) l = absurd (omega arith)
-bytes-last h (suc (suc zero)) l = absurd (omega arith)
-bytes-last h (suc (suc (suc zero))) l = absurd (omega arith)
-bytes-last h (suc (suc (suc (suc k)))) l = refl
+pub bytes_last : (h : Shape) (k : ℕ) → 4 ≤ k → record_bytes h k ≡ 32
+bytes_last h zero l = absurd (omega arith)
+bytes_last h (suc zero) l = absurd (omega arith)
+bytes_last h (suc (suc zero)) l = absurd (omega arith)
+bytes_last h (suc (suc (suc zero))) l = absurd (omega arith)
+bytes_last h (suc (suc (suc (suc k)))) l = refl
 
-pub records-last : (h : Shape) (k : ℕ) → 4 ≤ k → records h k ≡ 1
-records-last h zero l = absurd (omega arith)
-records-last h (suc zero) l = absurd (omega arith)
-records-last h (suc (suc zero)) l = absurd (omega arith)
-records-last h (suc (suc (suc zero))) l = absurd (omega arith)
-records-last h (suc (suc (suc (suc k)))) l = refl
+pub records_last : (h : Shape) (k : ℕ) → 4 ≤ k → records h k ≡ 1
+records_last h zero l = absurd (omega arith)
+records_last h (suc zero) l = absurd (omega arith)
+records_last h (suc (suc zero)) l = absurd (omega arith)
+records_last h (suc (suc (suc zero))) l = absurd (omega arith)
+records_last h (suc (suc (suc (suc k)))) l = refl
 
-pub coverable-else : (k : ℕ) → (k ≡ 3 → ⊥) → coverable k ≡ true
-coverable-else zero ne = refl
-coverable-else (suc zero) ne = refl
-coverable-else (suc (suc zero)) ne = refl
-coverable-else (suc (suc (suc zero))) ne = absurd (ne refl)
-coverable-else (suc (suc (suc (suc k)))) ne = refl
+pub coverable_else : (k : ℕ) → (k ≡ 3 → ⊥) → coverable k ≡ true
+coverable_else zero ne = refl
+coverable_else (suc zero) ne = refl
+coverable_else (suc (suc zero)) ne = refl
+coverable_else (suc (suc (suc zero))) ne = absurd (ne refl)
+coverable_else (suc (suc (suc (suc k)))) ne = refl

@@ -1,6 +1,6 @@
 // The sections by number, and the record that a range of the image is.
 ghost use Rattle.std.specs.Prelude.{◌≡◌, ◌&&◌, ◌<◌, ◌≤◌};
-ghost use Rattle.layout.specs.Place.{recordBytes, records};
+ghost use Rattle.layout.specs.Place.{record_bytes, records};
 ghost use Rattle.plan.specs.Fit.{coverable, covers};
 ghost use Rattle.apply.specs.Find.{one_of, Bounded};
 
@@ -8,7 +8,7 @@ use layout::{Shape, limits};
 
 // The bytes of one record of section k.
 fn record_bytes(h: Shape, k: usize) -> usize
-    ensures { result ≡ recordBytes h k }
+    ensures { result ≡ record_bytes h k }
 {
     match k {
         0 => limits::INODE_BYTES,

@@ -1,42 +1,42 @@
 -- Every line of the table holds: one claim, by computation of the jobs' definitions. Assumes nothing.
 use Rattle.std.specs.Prelude.{◌≡◌, refl, map}
 use Rattle.seq.specs.Search.{any, all, first, count}
-use Rattle.seq.specs.Bytes.{part, put, zeros, noZero, sameBytes}
+use Rattle.seq.specs.Bytes.{part, put, zeros, no_zero, equal_bytes}
 use Rattle.seq.specs.Number.{number_at, bytes_of}
-use Rattle.layout.specs.Contents.{nameIs, shape_of, layoutGood}
-use Rattle.layout.specs.Record.{recordAt}
+use Rattle.layout.specs.Contents.{name_is, shape_of, layout_good}
+use Rattle.layout.specs.Record.{record_at}
 use Rattle.layout.specs.View.{view_of}
 use Rattle.layout.specs.BenchTree.{bench}
-use Rattle.encode.specs.Entry.{entryBytes}
-use Rattle.encode.specs.Journal.{journalHead, journalBytes}
-use Rattle.names.specs.Name.{plainName, isDots, clash}
-use Rattle.names.specs.NameTests.{nameGood}
-use Rattle.tree.specs.Tree.{entriesOf, childDirectories, reaches, textShared}
-use Rattle.consistency.specs.Sound.{textLinked, journalClear, bodiesGood}
-use Rattle.consistency.specs.Consistent.{recordsNumber, checkNumber}
-use Rattle.paths.specs.Request.{requestGood}
-use Rattle.paths.specs.Flags.{flagsGood}
-use Rattle.paths.specs.Groups.{credentialsOf, inFurther, inGroup}
-use Rattle.paths.specs.Portable.{isPortableByte, isPortable}
+use Rattle.encode.specs.Entry.{entry_bytes}
+use Rattle.encode.specs.Journal.{journal_head, journal_bytes}
+use Rattle.names.specs.Name.{plain_name, is_dots, clash}
+use Rattle.names.specs.NameTests.{name_good}
+use Rattle.tree.specs.Tree.{entries_of, child_directories, reaches, text_shared}
+use Rattle.consistency.specs.Sound.{text_linked, journal_clear, bodies_good}
+use Rattle.consistency.specs.Consistent.{records_number, check_number}
+use Rattle.paths.specs.Request.{request_good}
+use Rattle.paths.specs.Flags.{flags_good}
+use Rattle.paths.specs.Groups.{credentials_of, in_further, in_group}
+use Rattle.paths.specs.Portable.{is_portable_byte, is_portable}
 use Rattle.paths.specs.Permission.{allows}
-use Rattle.paths.specs.Lookup.{isNamed, lookup}
+use Rattle.paths.specs.Lookup.{is_named, lookup}
 use Rattle.paths.specs.Path as path
-use Rattle.component.specs.Step.{walkStep}
-use Rattle.walk.specs.Walk.{walkFrom, walk}
-use Rattle.walk.specs.Both.{walksOf}
-use Rattle.refusals.specs.Case.{stickyDenied}
-use Rattle.rename_steps.specs.Tests.{hasEntries, isOpened}
-use Rattle.plan.specs.Form.{row_at, headerOf, rowPut, rowsPut, cleared}
-use Rattle.plan.specs.Fit.{coversSection, covers, rowFits, applicable}
-use Rattle.apply.specs.Apply.{applyNumber, appliedImage}
-use Rattle.recounts.specs.Recount.{entriesAfter, childrenAfter, linksAfter}
-use Rattle.results.specs.Results.{movedBytes, holderBytes, replacedBytes, results}
-use Rattle.moves.specs.Plan.{move_of, renameRows, planned}
-use Rattle.rename.specs.Order.{freeSlot, order}
-use Rattle.rename.specs.Job.{renamed, planAfter}
-use Rattle.bench_table.specs.Line.{below, applyRows, outcome}
+use Rattle.component.specs.Step.{walk_step}
+use Rattle.walk.specs.Walk.{walk_from, walk}
+use Rattle.walk.specs.Both.{walks_of}
+use Rattle.refusals.specs.Case.{sticky_denied}
+use Rattle.rename_steps.specs.Tests.{has_entries, is_opened}
+use Rattle.plan.specs.Form.{row_at, header_of, row_stored, rows_put, cleared}
+use Rattle.plan.specs.Fit.{covers_section, covers, is_fitting_row, applicable}
+use Rattle.apply.specs.Apply.{apply_number, applied_image}
+use Rattle.recounts.specs.Recount.{entries_after, children_after, links_after}
+use Rattle.results.specs.Results.{moved_bytes, holder_bytes, replaced_bytes, results}
+use Rattle.moves.specs.Plan.{move_of, rename_rows, planned}
+use Rattle.rename.specs.Order.{free_slot, order}
+use Rattle.rename.specs.Job.{renamed, plan_after}
+use Rattle.bench_table.specs.Line.{below, apply_rows, outcome}
 use Rattle.bench_table.specs.Table.{table}
 
-pub bench-table : map (λ l. outcome l.asked) table ≡ map (λ l. l.expected) table
-unfolding bench any all first count part put zeros noZero sameBytes number_at bytes_of nameIs shape_of layoutGood recordAt view_of plainName isDots nameGood clash entriesOf childDirectories reaches textShared textLinked journalClear bodiesGood recordsNumber checkNumber credentialsOf inFurther inGroup allows path.slashes path.untilSlash isPortableByte isPortable isNamed lookup requestGood flagsGood walkStep walkFrom walk walksOf entryBytes journalHead journalBytes row_at headerOf rowPut rowsPut cleared coversSection covers rowFits applicable applyNumber appliedImage movedBytes holderBytes replacedBytes entriesAfter childrenAfter linksAfter results stickyDenied hasEntries isOpened move_of renameRows planned freeSlot order renamed planAfter below applyRows outcome table
-bench-table = refl
+pub bench_table : map (λ l. outcome l.asked) table ≡ map (λ l. l.expected) table
+unfolding bench any all first count part put zeros no_zero equal_bytes number_at bytes_of name_is shape_of layout_good record_at view_of plain_name is_dots name_good clash entries_of child_directories reaches text_shared text_linked journal_clear bodies_good records_number check_number credentials_of in_further in_group allows path.slashes path.until_slash is_portable_byte is_portable is_named lookup request_good flags_good walk_step walk_from walk walks_of entry_bytes journal_head journal_bytes row_at header_of row_stored rows_put cleared covers_section covers is_fitting_row applicable apply_number applied_image moved_bytes holder_bytes replaced_bytes entries_after children_after links_after results sticky_denied has_entries is_opened move_of rename_rows planned free_slot order renamed plan_after below apply_rows outcome table
+bench_table = refl

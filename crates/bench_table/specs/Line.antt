@@ -3,16 +3,16 @@
 use Rattle.std.specs.Prelude.{Bool, true, ◌&&◌, cond, List, [], ◌∷◌, ◌++◌, map, ℕ, zero, suc, eqb, replicate, drop}
 use Rattle.seq.specs.Search.{first}
 use Rattle.seq.specs.Bytes.{part, zeros}
-use Rattle.layout.specs.Place.{recordBytes}
+use Rattle.layout.specs.Place.{record_bytes}
 use Rattle.layout.specs.Contents.{shape_of}
-use Rattle.layout.specs.Fields.{journalNewSlot}
-use Rattle.layout.specs.View.{View, view_of, inodeAt}
-use Rattle.consistency.specs.Consistent.{checkNumber}
+use Rattle.layout.specs.Fields.{journal_new_slot}
+use Rattle.layout.specs.View.{View, view_of, inode_at}
+use Rattle.consistency.specs.Consistent.{check_number}
 use Rattle.paths.specs.declared.request.Request.{Request}
-use Rattle.plan.specs.Form.{planRows, planBytes, headerBytes, header_at, row_at}
-use Rattle.apply.specs.Apply.{applyNumber, appliedImage}
+use Rattle.plan.specs.Form.{plan_rows, plan_bytes, header_bytes, header_at, row_at}
+use Rattle.apply.specs.Apply.{apply_number, applied_image}
 use Rattle.rename.specs.declared.Renamed.{Renamed}
-use Rattle.rename.specs.Job.{renamed, planAfter}
+use Rattle.rename.specs.Job.{renamed, plan_after}
 
 -- The arguments of the job rename, but for the plan buffer.
 pub record Asked : Type 0 where
@@ -61,7 +61,7 @@ abbrev pub past : List ℕ
 past = 7 ∷ 7 ∷ []
 
 abbrev pub dirty : List ℕ
-dirty = replicate planBytes 7 ++ past
+dirty = replicate plan_bytes 7 ++ past
 
 -- the numbers below n
 unfoldable pub below : ℕ → List ℕ
@@ -73,38 +73,38 @@ pub record Progress : Type 0 where
   pub image : List ℕ
   pub applies : Bool
 
-abbrev pub applyNext : List ℕ → ℕ → Progress → Progress
-applyNext plan i w = record { image = appliedImage w.image plan i; applies = w.applies && eqb (applyNumber w.image plan i) 0 }
+abbrev pub apply_next : List ℕ → ℕ → Progress → Progress
+apply_next plan i w = record { image = applied_image w.image plan i; applies = w.applies && eqb (apply_number w.image plan i) 0 }
 
 -- through the first n rows, in listed order
-unfoldable pub applyRows : List ℕ → List ℕ → ℕ → Progress
-applyRows image plan zero = record { image = image; applies = true }
-applyRows image plan (suc n) = applyNext plan n (applyRows image plan n)
+unfoldable pub apply_rows : List ℕ → List ℕ → ℕ → Progress
+apply_rows image plan zero = record { image = image; applies = true }
+apply_rows image plan (suc n) = apply_next plan n (apply_rows image plan n)
 
 abbrev pub entry_of : View → ℕ → EntrySeen
 entry_of v slot = record { slot = slot; parent = v.parent slot; target = v.target slot; name = v.name slot }
 
 -- w is the way through all rows, and v what its image says
-abbrev pub appliedOf : List ℕ → Progress → View → Applied
-appliedOf plan w v = record {
-  entry = entry_of v (journalNewSlot (row_at plan 0).body);
+abbrev pub applied_of : List ℕ → Progress → View → Applied
+applied_of plan w v = record {
+  entry = entry_of v (journal_new_slot (row_at plan 0).body);
   links = map v.links (below v.inodes);
-  free = first (λ i. zeros (inodeAt (shape_of w.image) w.image i) 0 (recordBytes (shape_of w.image) 0)) v.inodes;
+  free = first (λ i. zeros (inode_at (shape_of w.image) w.image i) 0 (record_bytes (shape_of w.image) 0)) v.inodes;
   applies = w.applies;
-  check = checkNumber w.image;
-  headers = map (λ i. part plan (header_at i) headerBytes) (below planRows);
-  past = drop planBytes plan;
+  check = check_number w.image;
+  headers = map (λ i. part plan (header_at i) header_bytes) (below plan_rows);
+  past = drop plan_bytes plan;
 }
 
-abbrev pub appliedBy : List ℕ → Progress → Applied
-appliedBy plan w = appliedOf plan w (view_of (shape_of w.image) w.image)
+abbrev pub applied_by : List ℕ → Progress → Applied
+applied_by plan w = applied_of plan w (view_of (shape_of w.image) w.image)
 
 abbrev pub afterwards : List ℕ → List ℕ → ℕ → BufferAfter
-afterwards image plan rows = cond (eqb rows 0) (bytes plan) (planned (appliedBy plan (applyRows image plan rows)))
+afterwards image plan rows = cond (eqb rows 0) (bytes plan) (planned (applied_by plan (apply_rows image plan rows)))
 
-abbrev pub outcomeBy : List ℕ → List ℕ → Renamed → Outcome
-outcomeBy image plan r = record { answer = r; after = afterwards image plan r.rows }
+abbrev pub outcome_by : List ℕ → List ℕ → Renamed → Outcome
+outcome_by image plan r = record { answer = r; after = afterwards image plan r.rows }
 
 unfoldable pub outcome : Asked → Outcome
 outcome a =
-    outcomeBy a.image (planAfter a.image dirty a.request a.old a.new) (renamed a.image dirty a.request a.old a.new)
+    outcome_by a.image (plan_after a.image dirty a.request a.old a.new) (renamed a.image dirty a.request a.old a.new)

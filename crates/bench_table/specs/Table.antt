@@ -3,11 +3,11 @@
 use Rattle.std.specs.Prelude.{true, List, [], ◌∷◌, ◌++◌, ℕ, ◌-◌, length, replicate}
 use Rattle.seq.specs.Bytes.{put}
 use Rattle.seq.specs.Number.{bytes_of}
-use Rattle.layout.specs.Limits.{noHandle}
+use Rattle.layout.specs.Limits.{no_handle}
 use Rattle.layout.specs.BenchTree.{bench}
 use Rattle.paths.specs.declared.request.Request.{Request}
-use Rattle.paths.specs.Groups.{credentialsOf}
-use Rattle.plan.specs.Form.{planBytes}
+use Rattle.paths.specs.Groups.{credentials_of}
+use Rattle.plan.specs.Form.{plan_bytes}
 use Rattle.rename.specs.declared.Renamed.{Renamed}
 use Rattle.bench_table.specs.Line.{EntrySeen, Outcome, bytes, planned, Line, past, dirty}
 
@@ -15,11 +15,11 @@ use Rattle.bench_table.specs.Line.{EntrySeen, Outcome, bytes, planned, Line, pas
 
 -- a user and group of one number, in the root at time 500; old has a start, new begins in the root
 abbrev pub caller : ℕ → ℕ → Request
-caller id start = record { who = credentialsOf id id []; current = 0; starts = record { old = start; new = noHandle }; now = 500; flags = 0 }
+caller id start = record { who = credentials_of id id []; current = 0; starts = record { old = start; new = no_handle }; now = 500; flags = 0 }
 
 -- the one whom all inodes belong to
 abbrev pub owner : Request
-owner = caller 100 noHandle
+owner = caller 100 no_handle
 
 -- the bench tree with no free slot: slot 7, at 488, is /x, and inode 4, whose link count is at 180, has two
 abbrev pub full : List ℕ
@@ -81,12 +81,12 @@ abbrev pub answers : ℕ → ℕ → ℕ → ℕ → Renamed
 answers number rows old new = record { number = number; rows = rows; old = old; new = new }
 
 -- a number that is not 0: the plan buffer is as it was
-abbrev pub refusedLine : ℕ → ℕ → ℕ → Outcome
-refusedLine number old new = record { answer = answers number 0 old new; after = bytes dirty }
+abbrev pub refused_line : ℕ → ℕ → ℕ → Outcome
+refused_line number old new = record { answer = answers number 0 old new; after = bytes dirty }
 
 -- two names of one file: a plan of no rows
 abbrev pub same : ℕ → ℕ → Outcome
-same old new = record { answer = answers 0 0 old new; after = bytes (replicate planBytes 0 ++ past) }
+same old new = record { answer = answers 0 0 old new; after = bytes (replicate plan_bytes 0 ++ past) }
 
 -- slot, parent, target and name of the new entry
 abbrev pub entry : ℕ → ℕ → ℕ → List ℕ → EntrySeen
@@ -109,24 +109,24 @@ moves rows old new made links free plan = record {
 }
 
 -- the plans with rows: of the first line, the third, the one of a directory, the one through a symlink, and the one from a handle
-abbrev pub firstPlan : List (List ℕ)
-firstPlan =
+abbrev pub first_plan : List (List ℕ)
+first_plan =
     row 1 32 592 72 ∷ row 2 32 488 136 ∷ row 3 32 360 200 ∷ row 3 32 136 264 ∷ row 3 32 72 328 ∷ row 4 32 592 392 ∷ []
 
-abbrev pub thirdPlan : List (List ℕ)
-thirdPlan =
+abbrev pub third_plan : List (List ℕ)
+third_plan =
     row 1 32 592 72 ∷ row 2 32 424 136 ∷ row 3 32 360 200 ∷ row 3 32 136 264 ∷ row 3 32 72 328 ∷ row 3 32 104 392 ∷ row 3 32 168 456 ∷ row 4 32 592 520 ∷ []
 
-abbrev pub directoryPlan : List (List ℕ)
-directoryPlan =
+abbrev pub directory_plan : List (List ℕ)
+directory_plan =
     row 1 32 592 72 ∷ row 2 32 488 136 ∷ row 3 32 392 200 ∷ row 3 32 200 264 ∷ row 3 32 72 328 ∷ row 3 32 104 392 ∷ row 4 32 592 456 ∷ []
 
-abbrev pub symlinkPlan : List (List ℕ)
-symlinkPlan =
+abbrev pub symlink_plan : List (List ℕ)
+symlink_plan =
     row 1 32 592 72 ∷ row 2 32 488 136 ∷ row 3 32 360 200 ∷ row 3 32 136 264 ∷ row 3 32 72 328 ∷ row 3 32 40 392 ∷ row 4 32 592 456 ∷ []
 
-abbrev pub handlePlan : List (List ℕ)
-handlePlan =
+abbrev pub handle_plan : List (List ℕ)
+handle_plan =
     row 1 32 592 72 ∷ row 2 32 488 136 ∷ row 3 32 424 200 ∷ row 3 32 168 264 ∷ row 3 32 104 328 ∷ row 3 32 40 392 ∷ row 4 32 592 456 ∷ []
 
 -- ---- the table
@@ -137,18 +137,18 @@ on image q old new expected = record { asked = record { image = image; request =
 -- where a plan has rows: their number, the walk counts, the new entry, the link counts, the free inode (7 for none), the headers
 unfoldable pub table : List Line
 table =
-    on bench owner /a/f /a/k (moves 6 2 2 (entry 7 1 3 k) (4 ∷ 3 ∷ 2 ∷ 2 ∷ 1 ∷ 2 ∷ 1 ∷ []) 7 firstPlan)
+    on bench owner /a/f /a/k (moves 6 2 2 (entry 7 1 3 k) (4 ∷ 3 ∷ 2 ∷ 2 ∷ 1 ∷ 2 ∷ 1 ∷ []) 7 first_plan)
     ∷ on bench owner /a/f /b/h (same 2 2)
-    ∷ on bench owner /a/f /b/g (moves 8 2 2 (entry 5 2 3 g) (4 ∷ 3 ∷ 2 ∷ 2 ∷ 0 ∷ 2 ∷ 1 ∷ []) 4 thirdPlan)
-    ∷ on bench owner /a/d /b/e/ (moves 7 2 2 (entry 7 2 5 e) (4 ∷ 2 ∷ 3 ∷ 2 ∷ 1 ∷ 2 ∷ 1 ∷ []) 7 directoryPlan)
-    ∷ on bench owner /a /a/d/x (refusedLine 22 1 3)
-    ∷ on bench owner /a/f /a/d (refusedLine 21 2 2)
-    ∷ on bench owner /b /a (refusedLine 39 1 1)
-    ∷ on bench owner /s/f /k (moves 7 3 1 (entry 7 0 3 k) (4 ∷ 3 ∷ 2 ∷ 2 ∷ 1 ∷ 2 ∷ 1 ∷ []) 7 symlinkPlan)
-    ∷ on bench owner /a/f /k/ (refusedLine 20 2 1)
-    ∷ on bench (caller 100 0) g /g (moves 7 1 1 (entry 7 0 4 g) (4 ∷ 3 ∷ 2 ∷ 2 ∷ 1 ∷ 2 ∷ 1 ∷ []) 7 handlePlan)
-    ∷ on bench (caller 100 9) g /g (refusedLine 9 0 0)
-    ∷ on bench (caller 200 noHandle) /a/f /a/k (refusedLine 13 2 2)
-    ∷ on full owner /a/f /a/k (refusedLine 28 2 2)
-    ∷ on full owner /a/f /b/g (moves 8 2 2 (entry 5 2 3 g) (4 ∷ 3 ∷ 2 ∷ 2 ∷ 1 ∷ 2 ∷ 1 ∷ []) 7 thirdPlan)
+    ∷ on bench owner /a/f /b/g (moves 8 2 2 (entry 5 2 3 g) (4 ∷ 3 ∷ 2 ∷ 2 ∷ 0 ∷ 2 ∷ 1 ∷ []) 4 third_plan)
+    ∷ on bench owner /a/d /b/e/ (moves 7 2 2 (entry 7 2 5 e) (4 ∷ 2 ∷ 3 ∷ 2 ∷ 1 ∷ 2 ∷ 1 ∷ []) 7 directory_plan)
+    ∷ on bench owner /a /a/d/x (refused_line 22 1 3)
+    ∷ on bench owner /a/f /a/d (refused_line 21 2 2)
+    ∷ on bench owner /b /a (refused_line 39 1 1)
+    ∷ on bench owner /s/f /k (moves 7 3 1 (entry 7 0 3 k) (4 ∷ 3 ∷ 2 ∷ 2 ∷ 1 ∷ 2 ∷ 1 ∷ []) 7 symlink_plan)
+    ∷ on bench owner /a/f /k/ (refused_line 20 2 1)
+    ∷ on bench (caller 100 0) g /g (moves 7 1 1 (entry 7 0 4 g) (4 ∷ 3 ∷ 2 ∷ 2 ∷ 1 ∷ 2 ∷ 1 ∷ []) 7 handle_plan)
+    ∷ on bench (caller 100 9) g /g (refused_line 9 0 0)
+    ∷ on bench (caller 200 no_handle) /a/f /a/k (refused_line 13 2 2)
+    ∷ on full owner /a/f /a/k (refused_line 28 2 2)
+    ∷ on full owner /a/f /b/g (moves 8 2 2 (entry 5 2 3 g) (4 ∷ 3 ∷ 2 ∷ 2 ∷ 1 ∷ 2 ∷ 1 ∷ []) 7 third_plan)
     ∷ []

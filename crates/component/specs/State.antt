@@ -1,9 +1,9 @@
 -- The code's state of a walk as a position of the definition: the unread rest is a part of the working path. Assumes nothing.
 use Rattle.std.specs.Prelude.{◌≡◌, Bool, false, List, ℕ, ◌-◌, ◌≤◌, ◌<◌, length}
 use Rattle.seq.specs.Bytes.{part}
-use Rattle.layout.specs.Limits.{pathLimit, stepLimit, pathBytes}
+use Rattle.layout.specs.Limits.{path_limit, step_limit, path_bytes}
 use Rattle.paths.specs.Path.{bare}
-use Rattle.paths.specs.WorkingPath.{workingPath}
+use Rattle.paths.specs.WorkingPath.{working_path}
 use Rattle.component.specs.declared.state.Found.{Found}
 use Rattle.component.specs.declared.state.Found.TheVariants.{Existing, Missing, Nothing}
 use Rattle.component.specs.declared.state.Leave.{Leave}
@@ -13,30 +13,30 @@ use Rattle.component.specs.declared.state.Walk.{Walk}
 use Rattle.component.specs.Step.{Position, Finding, existing, missing, nothing, Step, goes, ends}
 
 -- the unread rest from index e on
-abbrev pub restFrom : Walk → ℕ → List ℕ
-restFrom w e = part w.path e (w.len - e)
+abbrev pub rest_from : Walk → ℕ → List ℕ
+rest_from w e = part w.path e (w.len - e)
 
 -- the component from index a up to e
-abbrev pub nameIn : Walk → ℕ → ℕ → List ℕ
-nameIn w a e = part w.path a (e - a)
+abbrev pub name_in : Walk → ℕ → ℕ → List ℕ
+name_in w a e = part w.path a (e - a)
 
 abbrev pub position_of : Walk → Position
-position_of w = record { rest = restFrom w w.at; directory = w.directory; links = w.links; steps = w.steps; waived = w.waived }
+position_of w = record { rest = rest_from w w.at; directory = w.directory; links = w.links; steps = w.steps; waived = w.waived }
 
 -- what a path names, with the working path that a missing name is a range of
-abbrev pub findingOf : List ℕ → Found → Finding
-findingOf path (Existing d j i slash) = existing d j i slash
-findingOf path (Missing d a e slash) = missing d (part path a (e - a)) slash
-findingOf path Nothing = nothing
+abbrev pub finding_of : List ℕ → Found → Finding
+finding_of path (Existing d j i slash) = existing d j i slash
+finding_of path (Missing d a e slash) = missing d (part path a (e - a)) slash
+finding_of path Nothing = nothing
 
 -- how a component leaves the walk
-abbrev pub leaveOf : Walk → Leave → Step
-leaveOf w Goes = goes (position_of w)
-leaveOf w (Refuses n) = ends (record { number = n; steps = w.steps; found = nothing })
-leaveOf w (Finds f) = ends (record { number = 0; steps = w.steps; found = findingOf w.path f })
+abbrev pub leave_of : Walk → Leave → Step
+leave_of w Goes = goes (position_of w)
+leave_of w (Refuses n) = ends (record { number = n; steps = w.steps; found = nothing })
+leave_of w (Finds f) = ends (record { number = 0; steps = w.steps; found = finding_of w.path f })
 
 abbrev pub step_of : Turn → Step
-step_of r = leaveOf r.walk r.leave
+step_of r = leave_of r.walk r.leave
 
 -- a missing name lies inside the working path
 abbrev pub Ranged : List ℕ → Found → Type 0
@@ -47,9 +47,9 @@ Ranged path Nothing = Unit {0}
 -- A state that can be read: some component is left of a path that is short enough.
 pub record Fit (w : Walk) : Type 0 where
   pub within : w.at ≤ w.len
-  pub short : w.len ≤ pathLimit
-  pub whole : length w.path ≡ pathBytes
-  pub more : bare (restFrom w w.at) ≡ false
+  pub short : w.len ≤ path_limit
+  pub whole : length w.path ≡ path_bytes
+  pub more : bare (rest_from w w.at) ≡ false
 
 -- what is known of a state that a component leaves so
 abbrev pub Left : Walk → Leave → Type 0
@@ -65,10 +65,10 @@ pub record Turned (r : Turn) (x : Step) : Type 0 where
 -- What is known where a component has been read up to index e.
 pub record ReadUpTo (w : Walk) (e : ℕ) : Type 0 where
   pub within : e ≤ w.len
-  pub short : w.len ≤ pathLimit
-  pub whole : length w.path ≡ pathBytes
-  pub few : w.steps < stepLimit
+  pub short : w.len ≤ path_limit
+  pub whole : length w.path ≡ path_bytes
+  pub few : w.steps < step_limit
 
 -- the state in which the walk of a path begins
 abbrev pub beginning : List ℕ → ℕ → Bool → Walk
-beginning path directory waived = record { path = workingPath path; len = length path; at = 0; directory = directory; links = 0; steps = 0; waived = waived }
+beginning path directory waived = record { path = working_path path; len = length path; at = 0; directory = directory; links = 0; steps = 0; waived = waived }

@@ -1,9 +1,9 @@
 // The state of a walk, what a path names, and the ways in which one component leaves the walk.
 ghost use Rattle.std.specs.Prelude.{◌≡◌, false, ◌+◌, ◌≤◌, ◌<◌};
 ghost use Rattle.paths.specs.Path.{bare};
-ghost use Rattle.component.specs.Step.{existing, missing, refusedBy, names, goTo};
-ghost use Rattle.layout.specs.Limits.{stepLimit};
-ghost use Rattle.component.specs.State.{position_of, nameIn, restFrom, ReadUpTo, Turned};
+ghost use Rattle.component.specs.Step.{existing, missing, refused_by, names, go_to};
+ghost use Rattle.layout.specs.Limits.{step_limit};
+ghost use Rattle.component.specs.State.{position_of, name_in, rest_from, ReadUpTo, Turned};
 
 use layout::limits;
 
@@ -63,8 +63,8 @@ pub struct Turn {
 
 // The component in hand is refused.
 pub fn refuse(w: Walk, number: u8) -> Turn
-    requires { w.steps < stepLimit }
-    ensures { Turned result (refusedBy number (position_of w)) }
+    requires { w.steps < step_limit }
+    ensures { Turned result (refused_by number (position_of w)) }
 {
     let mut next = w;
     next.steps = w.steps + 1;
@@ -76,7 +76,7 @@ pub fn refuse(w: Walk, number: u8) -> Turn
 
 // The final name exists.
 pub fn exists(w: Walk, slot: usize, inode: usize, slash: bool) -> Turn
-    requires { w.steps < stepLimit }
+    requires { w.steps < step_limit }
     ensures { Turned result (names (position_of w) (existing w.directory slot inode slash)) }
 {
     let found = Found::Existing {
@@ -96,7 +96,7 @@ pub fn exists(w: Walk, slot: usize, inode: usize, slash: bool) -> Turn
 // The final name, from index a up to e, is missing.
 pub fn lacks(w: Walk, a: usize, e: usize, slash: bool) -> Turn
     requires { ReadUpTo w e × (a ≤ e) }
-    ensures { Turned result (names (position_of w) (missing w.directory (nameIn w a e) slash)) }
+    ensures { Turned result (names (position_of w) (missing w.directory (name_in w a e) slash)) }
 {
     let found = Found::Missing {
         directory: w.directory,
@@ -114,8 +114,8 @@ pub fn lacks(w: Walk, a: usize, e: usize, slash: bool) -> Turn
 
 // The walk goes on behind index e, in this directory.
 pub fn advance(w: Walk, e: usize, directory: usize) -> Turn
-    requires { ReadUpTo w e × (bare (restFrom w e) ≡ false) }
-    ensures { Turned result (goTo (position_of w) (restFrom w e) directory) }
+    requires { ReadUpTo w e × (bare (rest_from w e) ≡ false) }
+    ensures { Turned result (go_to (position_of w) (rest_from w e) directory) }
 {
     let mut next = w;
     next.at = e;

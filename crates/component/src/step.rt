@@ -1,13 +1,13 @@
 // One component of a path: what is asked of it, and where it leads.
 ghost use Rattle.std.specs.Prelude.{◌≡◌, false, true, ◌||◌, ◌+◌, ◌-◌, ◌≤◌, ◌<◌, length};
-ghost use Rattle.layout.specs.View.{view_of, entryUsed};
+ghost use Rattle.layout.specs.View.{view_of, entry_used};
 ghost use Rattle.layout.specs.Facts.{Readable};
-ghost use Rattle.paths.specs.Permission.{allows, searchBit};
+ghost use Rattle.paths.specs.Permission.{allows, search_bit};
 ghost use Rattle.paths.specs.Path.{bare};
-ghost use Rattle.component.specs.Step.{splice, walkStep};
-ghost use Rattle.layout.specs.Limits.{symlinkLimit, pathLimit, stepLimit};
+ghost use Rattle.component.specs.Step.{splice, walk_step};
+ghost use Rattle.layout.specs.Limits.{symlink_limit, path_limit, step_limit};
 ghost use Rattle.component.specs.Decisions.{follow, enter, arrive, hit, lack, miss, seek, barred, named, dots, read, inside};
-ghost use Rattle.component.specs.State.{position_of, nameIn, restFrom, ReadUpTo, Fit, Turned};
+ghost use Rattle.component.specs.State.{position_of, name_in, rest_from, ReadUpTo, Fit, Turned};
 
 use crate::state;
 use crate::state::{Final, Leave, Turn, Walk};
@@ -17,8 +17,8 @@ use paths::{path, permission, portable};
 
 // The working path becomes a symlink's text and the unread rest from index e on.
 fn join(w: Walk, text: &[u8], e: usize, len: usize) -> Turn
-    requires { ReadUpTo w e × (bare (restFrom w e) ≡ false) × (len ≡ length text.now + (w.len - e)) × (len ≤ pathLimit) × (w.links < symlinkLimit) }
-    ensures { Turned result (splice (position_of w) text.now (restFrom w e)) }
+    requires { ReadUpTo w e × (bare (rest_from w e) ≡ false) × (len ≡ length text.now + (w.len - e)) × (len ≤ path_limit) × (w.links < symlink_limit) }
+    ensures { Turned result (splice (position_of w) text.now (rest_from w e)) }
 {
     let old = w.path;
     let end = w.len;
@@ -41,8 +41,8 @@ fn join(w: Walk, text: &[u8], e: usize, len: usize) -> Turn
 
 // A symlink ahead of other components is followed, unless it is one too many or the joined path is too long.
 fn follow(w: Walk, text: &[u8], e: usize) -> Turn
-    requires { ReadUpTo w e × (bare (restFrom w e) ≡ false) × (length text.now ≤ pathLimit) }
-    ensures { Turned result (follow (position_of w) text.now (restFrom w e)) }
+    requires { ReadUpTo w e × (bare (rest_from w e) ≡ false) × (length text.now ≤ path_limit) }
+    ensures { Turned result (follow (position_of w) text.now (rest_from w e)) }
 {
     if limits::SYMLINK_LIMIT <= w.links {
         return state::refuse(w, errno::ELOOP);
@@ -56,8 +56,8 @@ fn follow(w: Walk, text: &[u8], e: usize) -> Turn
 
 // A name ahead of others: the type number of what it names decides how the walk goes on.
 fn enter(image: &[u8], h: Shape, w: Walk, e: usize, target: usize) -> Turn
-    requires { Readable h image.now × ReadUpTo w e × (bare (restFrom w e) ≡ false) × (target < h.inodes) }
-    ensures { Turned result (enter (view_of h image.now) (position_of w) (restFrom w e) target) }
+    requires { Readable h image.now × ReadUpTo w e × (bare (rest_from w e) ≡ false) × (target < h.inodes) }
+    ensures { Turned result (enter (view_of h image.now) (position_of w) (rest_from w e) target) }
 {
     let inode = layout::records::inode(image, h, target);
     let kind = layout::inode::kind(inode);
@@ -73,7 +73,7 @@ fn enter(image: &[u8], h: Shape, w: Walk, e: usize, target: usize) -> Turn
 // The final name exists: a slash behind it asks for a directory.
 fn arrive(image: &[u8], h: Shape, w: Walk, e: usize, slot: usize, target: usize) -> Turn
     requires { Readable h image.now × ReadUpTo w e × (target ≡ (view_of h image.now).target slot) × (target < h.inodes) }
-    ensures { Turned result (arrive (view_of h image.now) (position_of w) (restFrom w e) slot) }
+    ensures { Turned result (arrive (view_of h image.now) (position_of w) (rest_from w e) slot) }
 {
     if e == w.len {
         return state::exists(w, slot, target, false);
@@ -88,8 +88,8 @@ fn arrive(image: &[u8], h: Shape, w: Walk, e: usize, slot: usize, target: usize)
 
 // The name that ends at index e is in slot.
 fn hit(image: &[u8], h: Shape, w: Walk, e: usize, slot: usize) -> Turn
-    requires { Readable h image.now × ReadUpTo w e × (slot < h.entries) × (entryUsed (view_of h image.now) slot ≡ true) }
-    ensures { Turned result (hit (view_of h image.now) (position_of w) (restFrom w e) slot) }
+    requires { Readable h image.now × ReadUpTo w e × (slot < h.entries) × (entry_used (view_of h image.now) slot ≡ true) }
+    ensures { Turned result (hit (view_of h image.now) (position_of w) (rest_from w e) slot) }
 {
     let entry = layout::records::entry(image, h, slot);
     let target = layout::entry::target(entry);
@@ -104,7 +104,7 @@ fn hit(image: &[u8], h: Shape, w: Walk, e: usize, slot: usize) -> Turn
 // The final name, from index a up to e, is not there: whether that is a refusal depends on the path.
 fn lack(last: Final, w: Walk, a: usize, e: usize) -> Turn
     requires { ReadUpTo w e × (a ≤ e) }
-    ensures { Turned result (lack last (position_of w) (nameIn w a e) (restFrom w e)) }
+    ensures { Turned result (lack last (position_of w) (name_in w a e) (rest_from w e)) }
 {
     if last.present {
         return state::refuse(w, errno::ENOENT);
@@ -115,7 +115,7 @@ fn lack(last: Final, w: Walk, a: usize, e: usize) -> Turn
 // The name from index a up to e is not there.
 fn miss(last: Final, w: Walk, a: usize, e: usize) -> Turn
     requires { ReadUpTo w e × (a ≤ e) }
-    ensures { Turned result (miss last (position_of w) (nameIn w a e) (restFrom w e)) }
+    ensures { Turned result (miss last (position_of w) (name_in w a e) (rest_from w e)) }
 {
     let path = w.path;
     let len = w.len;
@@ -128,7 +128,7 @@ fn miss(last: Final, w: Walk, a: usize, e: usize) -> Turn
 // The name from index a up to e is looked up.
 fn seek(image: &[u8], h: Shape, last: Final, w: Walk, a: usize, e: usize) -> Turn
     requires { Readable h image.now × ReadUpTo w e × (a ≤ e) }
-    ensures { Turned result (seek (view_of h image.now) last (position_of w) (nameIn w a e) (restFrom w e)) }
+    ensures { Turned result (seek (view_of h image.now) last (position_of w) (name_in w a e) (rest_from w e)) }
 {
     let path = w.path;
     let slot = paths::find::find(image, h, w.directory, &path[a..e]);
@@ -141,7 +141,7 @@ fn seek(image: &[u8], h: Shape, last: Final, w: Walk, a: usize, e: usize) -> Tur
 // Whether the name from index a up to e is final, has to be portable, and is not.
 fn is_barred(last: Final, w: Walk, a: usize, e: usize) -> bool
     requires { ReadUpTo w e × (a ≤ e) }
-    ensures { result ≡ barred last (nameIn w a e) (restFrom w e) }
+    ensures { result ≡ barred last (name_in w a e) (rest_from w e) }
 {
     if !last.portable {
         return false;
@@ -158,7 +158,7 @@ fn is_barred(last: Final, w: Walk, a: usize, e: usize) -> bool
 // The component from index a up to e is a name.
 fn name(image: &[u8], h: Shape, last: Final, w: Walk, a: usize, e: usize) -> Turn
     requires { Readable h image.now × ReadUpTo w e × (a ≤ e) }
-    ensures { Turned result (named (view_of h image.now) last (position_of w) (nameIn w a e) (restFrom w e)) }
+    ensures { Turned result (named (view_of h image.now) last (position_of w) (name_in w a e) (rest_from w e)) }
 {
     if is_barred(last, w, a, e) {
         return state::refuse(w, errno::EPERM);
@@ -169,7 +169,7 @@ fn name(image: &[u8], h: Shape, last: Final, w: Walk, a: usize, e: usize) -> Tur
 // The component from index a up to e is a dot or two.
 fn dots(image: &[u8], h: Shape, w: Walk, a: usize, e: usize) -> Turn
     requires { Readable h image.now × ReadUpTo w e × (a ≤ e) × (w.directory < h.inodes) }
-    ensures { Turned result (dots (view_of h image.now) (position_of w) (nameIn w a e) (restFrom w e)) }
+    ensures { Turned result (dots (view_of h image.now) (position_of w) (name_in w a e) (rest_from w e)) }
 {
     let path = w.path;
     let len = w.len;
@@ -187,7 +187,7 @@ fn dots(image: &[u8], h: Shape, w: Walk, a: usize, e: usize) -> Turn
 // The component from index a up to e.
 fn component(image: &[u8], h: Shape, last: Final, w: Walk, a: usize, e: usize) -> Turn
     requires { Readable h image.now × ReadUpTo w e × (a ≤ e) × (w.directory < h.inodes) }
-    ensures { Turned result (read (view_of h image.now) last (position_of w) (nameIn w a e) (restFrom w e)) }
+    ensures { Turned result (read (view_of h image.now) last (position_of w) (name_in w a e) (rest_from w e)) }
 {
     if h.width - limits::NAME_OFFSET < e - a {
         return state::refuse(w, errno::ENAMETOOLONG);
@@ -205,7 +205,7 @@ fn component(image: &[u8], h: Shape, last: Final, w: Walk, a: usize, e: usize) -
 // Whether the directory may be searched.
 fn may_search(image: &[u8], h: Shape, who: Credentials, w: Walk) -> bool
     requires { Readable h image.now × (w.directory < h.inodes) }
-    ensures { result ≡ (w.waived || allows (view_of h image.now) who w.directory searchBit) }
+    ensures { result ≡ (w.waived || allows (view_of h image.now) who w.directory search_bit) }
 {
     if w.waived {
         return true;
@@ -215,7 +215,7 @@ fn may_search(image: &[u8], h: Shape, who: Credentials, w: Walk) -> bool
 
 // The next component, in a directory.
 fn inside(image: &[u8], h: Shape, who: Credentials, last: Final, w: Walk) -> Turn
-    requires { Readable h image.now × Fit w × (w.steps < stepLimit) × (w.directory < h.inodes) }
+    requires { Readable h image.now × Fit w × (w.steps < step_limit) × (w.directory < h.inodes) }
     ensures { Turned result (inside (view_of h image.now) who last (position_of w)) }
 {
     if !may_search(image, h, who, w) {
@@ -231,8 +231,8 @@ fn inside(image: &[u8], h: Shape, who: Credentials, last: Final, w: Walk) -> Tur
 
 // The next component: it is read in a directory, or refused by any other type number.
 pub fn step(image: &[u8], h: Shape, who: Credentials, last: Final, w: Walk) -> Turn
-    requires { Readable h image.now × Fit w × (w.steps < stepLimit) }
-    ensures { Turned result (walkStep (view_of h image.now) who last (position_of w)) }
+    requires { Readable h image.now × Fit w × (w.steps < step_limit) }
+    ensures { Turned result (walk_step (view_of h image.now) who last (position_of w)) }
 {
     let kind = layout::lookup::kind(image, h, w.directory);
     match kind {

@@ -4,53 +4,53 @@ use Rattle.std.proofs.Math.Path.{sym}
 use Rattle.std.proofs.Common.{◌∙◌, eq-eqb, ne_eqb, le-leb}
 use Rattle.std.proofs.Math.Bool.{and-false}
 use Rattle.std.proofs.lemmas.Bool.{lt-leb}
-use Rattle.seq.specs.Bytes.{zeros, noZero}
+use Rattle.seq.specs.Bytes.{zeros, no_zero}
 use Rattle.seq.specs.Truth.{fails, holds}
 use Rattle.layout.specs.declared.Shape.{Shape}
-use Rattle.layout.specs.Limits.{textRoom}
+use Rattle.layout.specs.Limits.{text_room}
 use Rattle.layout.specs.Facts.{Reads}
 use Rattle.layout.specs.RecordLaws.{field_of}
-use Rattle.layout.specs.Fields.{textLength, textBytes}
-use Rattle.layout.specs.View.{view_of, textAt}
-use Rattle.consistency.specs.Others.{textPadded, textBytesGood, textOwned, textGood}
-use Rattle.consistency.specs.Sound.{textLinked}
+use Rattle.layout.specs.Fields.{text_length, text_bytes}
+use Rattle.layout.specs.View.{view_of, text_at}
+use Rattle.consistency.specs.Others.{text_padded, text_bytes_good, text_owned, text_good}
+use Rattle.consistency.specs.Sound.{text_linked}
 
 -- r and n are text t and its length as they were read
-module _ (h : Shape) (s : List ℕ) (t : ℕ) {r : List ℕ} {m n : ℕ} (reads : Reads r (textAt h s t) m) (says : n ≡ textLength r) where
-  length-is : n ≡ textLength (textAt h s t)
-  length-is = field_of textLength reads says
+module _ (h : Shape) (s : List ℕ) (t : ℕ) {r : List ℕ} {m n : ℕ} (reads : Reads r (text_at h s t) m) (says : n ≡ text_length r) where
+  length_is : n ≡ text_length (text_at h s t)
+  length_is = field_of text_length reads says
 
-  padding-is : zeros r (1 + n) (textRoom - n) ≡ textPadded h s t
+  padding_is : zeros r (1 + n) (text_room - n) ≡ text_padded h s t
   unfolding view_of
-  padding-is = rw (reads.is, length-is)
+  padding_is = rw (reads.is, length_is)
 
-  bytes-are : noZero (textBytes r) ≡ textBytesGood (view_of h s) t
+  bytes_are : no_zero (text_bytes r) ≡ text_bytes_good (view_of h s) t
   unfolding view_of
-  bytes-are = rw reads.is
+  bytes_are = rw reads.is
 
-  pub text-long : textRoom < n → false ≡ textGood h s t
-  unfolding textGood view_of
-  text-long l = simp (lt-leb _ _ (rw length-is at l))
+  pub text_long : text_room < n → false ≡ text_good h s t
+  unfolding text_good view_of
+  text_long l = simp (lt-leb _ _ (rw length_is at l))
 
-  pub text-unpadded : {b : Bool} → b ≡ zeros r (1 + n) (textRoom - n) → not b ≡ true → false ≡ textGood h s t
-  unfolding textGood
-  text-unpadded e f = simp (and-false, fails (e ∙ padding-is) f)
+  pub text_unpadded : {b : Bool} → b ≡ zeros r (1 + n) (text_room - n) → not b ≡ true → false ≡ text_good h s t
+  unfolding text_good
+  text_unpadded e f = simp (and-false, fails (e ∙ padding_is) f)
 
-  pub text-zero : {b : Bool} → b ≡ noZero (textBytes r) → not b ≡ true → false ≡ textGood h s t
-  unfolding textGood
-  text-zero e f = simp (and-false, fails (e ∙ bytes-are) f)
+  pub text_zero : {b : Bool} → b ≡ no_zero (text_bytes r) → not b ≡ true → false ≡ text_good h s t
+  unfolding text_good
+  text_zero e f = simp (and-false, fails (e ∙ bytes_are) f)
 
   -- past these three only the symlink that has the text is left to ask for
-  module _ (short : n ≤ textRoom) {b d : Bool} (padded : b ≡ zeros r (1 + n) (textRoom - n)) (passed : not b ≡ false) (clean : d ≡ noZero (textBytes r))
+  module _ (short : n ≤ text_room) {b d : Bool} (padded : b ≡ zeros r (1 + n) (text_room - n)) (passed : not b ≡ false) (clean : d ≡ no_zero (text_bytes r))
       (passes : not d ≡ false) where
-    formed : textGood h s t ≡ textOwned (view_of h s) t
-    unfolding textGood view_of
-    formed = simp (le-leb _ _ (rw length-is at short), holds (padded ∙ padding-is) passed, holds (clean ∙ bytes-are) passes)
+    formed : text_good h s t ≡ text_owned (view_of h s) t
+    unfolding text_good view_of
+    formed = simp (le-leb _ _ (rw length_is at short), holds (padded ∙ padding_is) passed, holds (clean ∙ bytes_are) passes)
 
-    pub text-free : n ≡ 0 → true ≡ textGood h s t
+    pub text_free_lem : n ≡ 0 → true ≡ text_good h s t
     unfolding view_of
-    text-free z = sym (formed ∙ simp (eq-eqb _ _ (sym length-is ∙ z)))
+    text_free_lem z = sym (formed ∙ simp (eq-eqb _ _ (sym length_is ∙ z)))
 
-    pub text-linked : (n ≡ 0 → ⊥) → {l : Bool} → l ≡ textLinked (view_of h s) t → l ≡ textGood h s t
+    pub text_linked_lem : (n ≡ 0 → ⊥) → {l : Bool} → l ≡ text_linked (view_of h s) t → l ≡ text_good h s t
     unfolding view_of
-    text-linked z e = e ∙ sym (formed ∙ simp (ne_eqb _ _ (λ o. z (length-is ∙ o))))
+    text_linked_lem z e = e ∙ sym (formed ∙ simp (ne_eqb _ _ (λ o. z (length_is ∙ o))))

@@ -1,8 +1,8 @@
 // The consistency of an image, and the job check.
 ghost use Rattle.std.specs.Prelude.{◌≡◌};
 ghost use Rattle.layout.specs.Facts.{Laid};
-ghost use Rattle.consistency.specs.Sound.{journalClear, bodiesGood};
-ghost use Rattle.consistency.specs.Consistent.{recordsNumber, checkNumber};
+ghost use Rattle.consistency.specs.Sound.{journal_clear, bodies_good};
+ghost use Rattle.consistency.specs.Consistent.{records_number, check_number};
 
 use layout::contents::Contents;
 use layout::{Shape, errno, limits};
@@ -14,7 +14,7 @@ pub mod texts;
 // Whether the records in front of the journal record are consistent.
 pub fn bodies_good(image: &[u8], h: Shape) -> bool
     requires { Laid h image.now }
-    ensures { result ≡ bodiesGood h image.now }
+    ensures { result ≡ bodies_good h image.now }
 {
     if !layout::lookup::is_directory(image, h, 0) {
         return false;
@@ -38,7 +38,7 @@ pub fn bodies_good(image: &[u8], h: Shape) -> bool
 // Whether the journal record is all zero.
 pub fn journal_clear(image: &[u8], h: Shape) -> bool
     requires { Laid h image.now }
-    ensures { result ≡ journalClear h image.now }
+    ensures { result ≡ journal_clear h image.now }
 {
     let r = layout::records::journal(image, h);
     layout::bytes::all_zero(r, 0, limits::JOURNAL_BYTES)
@@ -47,7 +47,7 @@ pub fn journal_clear(image: &[u8], h: Shape) -> bool
 // The number of an image with a good layout.
 pub fn records_number(image: &[u8], h: Shape) -> u8
     requires { Laid h image.now }
-    ensures { result ≡ recordsNumber h image.now }
+    ensures { result ≡ records_number h image.now }
 {
     if !journal_clear(image, h) {
         return errno::JOURNAL_PENDING;
@@ -60,7 +60,7 @@ pub fn records_number(image: &[u8], h: Shape) -> u8
 
 // The job check: 0 for a consistent image, 203 for one whose journal record is not zero, 201 for any other bytes.
 pub fn check(image: &[u8]) -> u8
-    ensures { result ≡ checkNumber image.now }
+    ensures { result ≡ check_number image.now }
 {
     let found = layout::contents::read(image);
     match found {

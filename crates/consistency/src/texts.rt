@@ -4,15 +4,15 @@ ghost use Rattle.seq.specs.Search.{all};
 ghost use Rattle.layout.specs.Facts.{Laid};
 ghost use Rattle.layout.specs.View.{view_of};
 ghost use Rattle.tallies.specs.Tallies.{TextOwners};
-ghost use Rattle.consistency.specs.Others.{textGood};
-ghost use Rattle.consistency.specs.Sound.{textLinked};
+ghost use Rattle.consistency.specs.Others.{text_good};
+ghost use Rattle.consistency.specs.Sound.{text_linked};
 
 use layout::{Shape, limits};
 
 // Whether some symlink has text t.
 fn linked(image: &[u8], h: Shape, owners: &[u16; 65], t: usize) -> bool
     requires { Laid h image.now × (t < h.texts) × TextOwners h image.now owners.now }
-    ensures { result ≡ textLinked (view_of h image.now) t }
+    ensures { result ≡ text_linked (view_of h image.now) t }
 {
     tables::wide(owners[t]) < h.inodes
 }
@@ -20,7 +20,7 @@ fn linked(image: &[u8], h: Shape, owners: &[u16; 65], t: usize) -> bool
 // Whether text t fits its room, is followed by zeros, holds no zero, and belongs to a symlink if it is in use.
 fn good(image: &[u8], h: Shape, owners: &[u16; 65], t: usize) -> bool
     requires { Laid h image.now × (t < h.texts) × TextOwners h image.now owners.now }
-    ensures { result ≡ textGood h image.now t }
+    ensures { result ≡ text_good h image.now t }
 {
     let r = layout::records::text(image, h, t);
     let n = layout::text::length(r);
@@ -42,7 +42,7 @@ fn good(image: &[u8], h: Shape, owners: &[u16; 65], t: usize) -> bool
 // Whether every text is consistent.
 pub fn all_good(image: &[u8], h: Shape, owners: &[u16; 65]) -> bool
     requires { Laid h image.now × TextOwners h image.now owners.now }
-    ensures { result ≡ all (textGood h image.now) h.texts }
+    ensures { result ≡ all (text_good h image.now) h.texts }
 {
     let n = h.texts;
     let mut t: usize = 0;

@@ -31,7 +31,7 @@ module _ {𝓢 : Store} {recover : RecoverOf 𝓢} where
     -- once the rows of all calls have all been applied, and no crash came, every call is decided and the image is what all of them make of it
     pub ordered : T (over q) → (decisions q ≡ calls c) × (q.state.img ≡ image_of (calls c) c)
     -- a recovery with buffers that are long enough can be carried through
-    pub can-finish : (b : 𝓢.Lent) → T (𝓢.enough b q.state.img) → ChainEnds (next q (crash b))
+    pub can_finish : (b : 𝓢.Lent) → T (𝓢.enough b q.state.img) → ChainEnds (next q (crash b))
 
   -- no call is left
   abbrev pub ChainEnded : {X : 𝓢.Img} → Chain 𝓢 recover X → Type 0

@@ -13,13 +13,13 @@ module _ {𝓢 : Store} (𝓒 : Change 𝓢) where
   -- What holds of a state.
   pub record Safe (s : St 𝓒) : Type 0 where
     -- the image is on the way: every record but the journal's is as before or as after
-    pub on-the-way : OnTheWay 𝓒 (decided 𝓒 s) s.img
+    pub on_the_way : OnTheWay 𝓒 (decided 𝓒 s) s.img
     -- recovery answers with rows, whichever buffers it is lent that are long enough
     pub recoverable : (b : 𝓢.Lent) → T (𝓢.enough b s.img) → (w : Rows 𝓢) × (𝓒.recover b s.img ≡ some w)
     -- and refuses with any that are too short
     pub refused : (b : 𝓢.Lent) → T (not (𝓢.enough b s.img)) → 𝓒.recover b s.img ≡ none
     -- an accepted recovery can be carried through
-    pub can-finish : (b : 𝓢.Lent) → T (𝓢.enough b s.img) → Finishes 𝓒 (step 𝓒 s (crash b))
+    pub can_finish : (b : 𝓢.Lent) → T (𝓢.enough b s.img) → Finishes 𝓒 (step 𝓒 s (crash b))
     -- each waiting row is accepted
     pub accepted : All (λ r. T (𝓢.accepts s.img r)) s.waiting
     -- if any row waits, the turn of one has come

@@ -48,10 +48,10 @@ logged recovering r log = log
 logged stopped r log = log
 
 -- only a recovery whose rows have all been applied is done, and stays so
-abbrev pub recoveryDone : {R : Type 0} → Phase → Bool → List R → Bool
-recoveryDone own done waiting = done
-recoveryDone recovering done waiting = done || null waiting
-recoveryDone stopped done waiting = done
+abbrev pub recovery_done : {R : Type 0} → Phase → Bool → List R → Bool
+recovery_done own done waiting = done
+recovery_done recovering done waiting = done || null waiting
+recovery_done stopped done waiting = done
 
 -- whether the call's own rows have all been applied, and no crash came
 abbrev pub through : {R : Type 0} → Phase → List R → Bool
@@ -93,7 +93,7 @@ module _ {𝓢 : Store} (𝓒 : Change 𝓢) where
     waiting = rest;
     phase = s.phase;
     applied = logged s.phase r s.applied;
-    done = recoveryDone s.phase s.done rest;
+    done = recovery_done s.phase s.done rest;
   }
 
   -- a row is taken if its turn has come; otherwise the event does not count
@@ -115,7 +115,7 @@ module _ {𝓢 : Store} (𝓒 : Change 𝓢) where
   abbrev pub answered : St → Option (Rows 𝓢) → St
   answered s none = record { img = s.img; waiting = []; phase = stopped; applied = s.applied; done = s.done }
   answered s (some w) =
-      let done = recoveryDone recovering s.done w in
+      let done = recovery_done recovering s.done w in
       record { img = s.img; waiting = w; phase = recovering; applied = s.applied; done = done }
 
   -- the state after an event

@@ -57,8 +57,8 @@ module _ {𝓢 : Store} (F : Form 𝓢) where
     same = 𝓢.same;
     takes = λ {X} {r} o t. F.takes o t;
     refuses = F.refuses;
-    put-ok = λ {X} {r} o t. subst 𝓢.Ok (sym (F.puts o t)) (𝓢.put-ok o (F.fits o t));
-    get-same = λ {X} {r} o t. ap (λ (Y : 𝓢.Img). 𝓢.get Y (𝓢.key (F.says r))) (F.puts o t) ∙ 𝓢.get-same o (F.fits o t);
+    put_ok = λ {X} {r} o t. subst 𝓢.Ok (sym (F.puts o t)) (𝓢.put_ok o (F.fits o t));
+    get_same = λ {X} {r} o t. ap (λ (Y : 𝓢.Img). 𝓢.get Y (𝓢.key (F.says r))) (F.puts o t) ∙ 𝓢.get_same o (F.fits o t);
     get_other = λ {X} {r} o t k n. ap (λ (Y : 𝓢.Img). 𝓢.get Y k) (F.puts o t) ∙ 𝓢.get_other o (F.fits o t) k n;
     ext = λ {X} {Y} o p e. 𝓢.ext o p e;
   }
@@ -80,8 +80,8 @@ module _ {𝓢 : Store} (F : Form 𝓢) where
   -- ---- a change in rows of this form
 
   -- the change with other rows and another recovery: what it makes of an image stays
-  abbrev pub inForm : Change 𝓢 → Rows store_of → F.Row → Rows store_of → RecoverOf store_of → Change store_of
-  inForm 𝓒 ahead decide behind recover = record {
+  abbrev pub in_form : Change 𝓢 → Rows store_of → F.Row → Rows store_of → RecoverOf store_of → Change store_of
+  in_form 𝓒 ahead decide behind recover = record {
     before = 𝓒.before;
     after = 𝓒.after;
     journal = 𝓒.journal;
@@ -98,7 +98,7 @@ module _ {𝓢 : Store} (F : Form 𝓢) where
   -- The change 𝓙 is 𝓒 in rows of this form.
   pub record Carries (𝓒 : Change 𝓢) (𝓙 : Change store_of) : Type 1 where
     -- but for its rows and its recovery it is the same
-    pub same : inForm 𝓒 𝓙.ahead 𝓙.decide 𝓙.behind 𝓙.recover ≡ 𝓙
+    pub same : in_form 𝓒 𝓙.ahead 𝓙.decide 𝓙.behind 𝓙.recover ≡ 𝓙
     -- its rows ahead of the deciding one do what those of 𝓒 say
     pub ahead : Do 𝓙.ahead 𝓒.ahead
     -- so does the deciding one

@@ -5,10 +5,10 @@ use Rattle.std.proofs.Math.Option
 use Rattle.crash_theorem.specs.Pick.{All}
 use Rattle.crash_theorem.specs.Change.{Change, plan}
 use Rattle.crash_theorem.specs.Obligations.{Obligations}
-use Rattle.crash_theorem.specs.Form.{Form, store_of, Do, inForm}
-use Rattle.crash_theorem.specs.FormLaws.{carries-of, owed-in}
+use Rattle.crash_theorem.specs.Form.{Form, store_of, Do, in_form}
+use Rattle.crash_theorem.specs.FormLaws.{carries_of, owed_in}
 use Rattle.crash_theorem.specs.Plan.{change}
-use Rattle.crash_theorem.specs.Example.{Write, inside, written, refused, toy, first, recover, first-owed}
+use Rattle.crash_theorem.specs.Example.{Write, inside, written, refused, toy, first, recover, first_owed}
 
 abbrev pub mine : ℕ × Write → Bool
 mine r = eqb r.0 7 && inside r.1
@@ -37,20 +37,20 @@ numbered = record {
 abbrev pub tagged : List Write → List (ℕ × Write)
 tagged ws = map (λ w. (7, w)) ws
 
-tags-do : (ws : List Write) → All toy.Fits ws → Do numbered (tagged ws) ws
-tags-do [] f = tt
-tags-do (w ∷ ws) f = (record { takes = f.0; row = refl }, tags-do ws f.1)
+tags_do : (ws : List Write) → All toy.Fits ws → Do numbered (tagged ws) ws
+tags_do [] f = tt
+tags_do (w ∷ ws) f = (record { takes = f.0; row = refl }, tags_do ws f.1)
 
 -- the example's first call by such rows
 abbrev pub call : Change (store_of numbered)
 call =
     let 𝓒 = change toy first recover in
-    inForm numbered 𝓒 (tagged 𝓒.ahead) (7, 𝓒.decide) (tagged 𝓒.behind) (λ room X. Option.map tagged (𝓒.recover room X))
+    in_form numbered 𝓒 (tagged 𝓒.ahead) (7, 𝓒.decide) (tagged 𝓒.behind) (λ room X. Option.map tagged (𝓒.recover room X))
 
 -- it meets every demand, since it does by its own
-pub call-owed : Obligations call
-call-owed = owed-in (carries-of numbered (change toy first recover) call refl refl
-    (tags-do (plan (change toy first recover)) (tt, (tt, (tt, (tt, (tt, tt))))))) (record {
-      answers = λ room X o t ws f e. (tagged ws, ap (Option.map tagged) e, tags-do ws f);
-      refuses = λ room X o t. ap (Option.map tagged) (first-owed.refuses X o room t);
-    }) first-owed
+pub call_owed : Obligations call
+call_owed = owed_in (carries_of numbered (change toy first recover) call refl refl
+    (tags_do (plan (change toy first recover)) (tt, (tt, (tt, (tt, (tt, tt))))))) (record {
+      answers = λ room X o t ws f e. (tagged ws, ap (Option.map tagged) e, tags_do ws f);
+      refuses = λ room X o t. ap (Option.map tagged) (first_owed.refuses X o room t);
+    }) first_owed

@@ -29,7 +29,7 @@ module _ {𝓢 : Store} (𝓒 : Change 𝓢) where
   -- sets the journal record, in a group before all others
   pub record Sets (r : 𝓢.Row) : Type 0 where
     -- the record is the journal's
-    pub at-journal : 𝓢.key r ≡ 𝓒.journal
+    pub at_journal : 𝓢.key r ≡ 𝓒.journal
     -- it says that the call is under way
     pub mark : 𝓢.body r ≡ 𝓒.marked
     -- nothing else is written in this group or an earlier one
@@ -54,7 +54,7 @@ module _ {𝓢 : Store} (𝓒 : Change 𝓢) where
   -- clears the journal record, in a group behind all others
   pub record Clears (r : 𝓢.Row) : Type 0 where
     -- the record is the journal's
-    pub at-journal : 𝓢.key r ≡ 𝓒.journal
+    pub at_journal : 𝓢.key r ≡ 𝓒.journal
     -- nothing else is written in this group or a later one, so all of it has been applied by then
     pub late : 𝓒.last ≤ 𝓢.group r
 
@@ -89,7 +89,7 @@ module _ {𝓢 : Store} (𝓒 : Change 𝓢) where
     -- recovery takes back what it writes
     pub undone : (𝓢.key r ≡ 𝓒.journal) ⊎ 𝓒.pending false (𝓢.key r)
     -- where the journal record's own row decides, no row comes ahead of it
-    pub other-decides : 𝓢.key 𝓒.decide ≢ 𝓒.journal
+    pub other_decides : 𝓢.key 𝓒.decide ≢ 𝓒.journal
 
   -- a row after the deciding one
   pub record Behind (r : 𝓢.Row) : Type 0 where
@@ -113,19 +113,19 @@ module _ {𝓢 : Store} (𝓒 : Change 𝓢) where
   -- in higher ones.
   pub record Orderly : Type 0 where
     -- the image before has the layout
-    pub before-ok : 𝓢.Ok 𝓒.before
+    pub before_ok : 𝓢.Ok 𝓒.before
     -- and so has the image after
-    pub after-ok : 𝓢.Ok 𝓒.after
+    pub after_ok : 𝓢.Ok 𝓒.after
     -- each row ahead of the deciding one is in order
-    pub ahead-rows : All Ahead 𝓒.ahead
+    pub ahead_rows : All Ahead 𝓒.ahead
     -- the deciding row sets the journal record or writes one of the outcome
-    pub decide-row : Opens 𝓒.decide
+    pub decide_row_lem : Opens 𝓒.decide
     -- each row after it is in order
-    pub behind-rows : All Behind 𝓒.behind
+    pub behind_rows : All Behind 𝓒.behind
     -- the journal record is set, by a row ahead or by the deciding one
-    pub sets-journal : Covers 𝓢 𝓒.ahead 𝓒.journal ⊎ (𝓢.key 𝓒.decide ≡ 𝓒.journal)
+    pub sets_journal : Covers 𝓢 𝓒.ahead 𝓒.journal ⊎ (𝓢.key 𝓒.decide ≡ 𝓒.journal)
     -- and cleared, by a row after the deciding one
-    pub clears-journal : Covers 𝓢 𝓒.behind 𝓒.journal
+    pub clears_journal : Covers 𝓢 𝓒.behind 𝓒.journal
     -- a record that the call changes is written by some row
     pub complete : (k : 𝓢.Key) → k ≢ 𝓒.journal → (𝓢.get 𝓒.before k ≡ 𝓢.get 𝓒.after k) ⊎ Covers 𝓢 (plan 𝓒) k
 

@@ -40,29 +40,29 @@ module _ (𝓢 : Store) where
   comes none = false
   comes (some p) = lowest 𝓢.group (𝓢.group p.0) p.1
 
-  abbrev pub eventCounts : ℕ → Rows 𝓢 → Bool
-  eventCounts i W = comes (pick i W)
+  abbrev pub event_counts : ℕ → Rows 𝓢 → Bool
+  event_counts i W = comes (pick i W)
 
 module _ {𝓢 : Store} {recover : RecoverOf 𝓢} where
   -- the rows of calls not yet in hand
-  abbrev pub laterRows : {X : 𝓢.Img} → ℕ → Chain 𝓢 recover X → List (Item 𝓢)
-  laterRows n end = []
-  laterRows n (call 𝓒 o r e c) = numbered 𝓢 n (plan 𝓒) ++ laterRows (suc n) c
+  abbrev pub later_rows : {X : 𝓢.Img} → ℕ → Chain 𝓢 recover X → List (Item 𝓢)
+  later_rows n end = []
+  later_rows n (call 𝓒 o r e c) = numbered 𝓢 n (plan 𝓒) ++ later_rows (suc n) c
 
   -- a crash loses them
-  abbrev pub stillQueued : {X : 𝓢.Img} → Phase → Chain 𝓢 recover X → List (Item 𝓢)
-  stillQueued own c = laterRows 1 c
-  stillQueued recovering c = []
-  stillQueued stopped c = []
+  abbrev pub still_queued : {X : 𝓢.Img} → Phase → Chain 𝓢 recover X → List (Item 𝓢)
+  still_queued own c = later_rows 1 c
+  still_queued recovering c = []
+  still_queued stopped c = []
 
   -- all rows queued, in the order entered
   abbrev pub queued : Queue 𝓢 recover → List (Item 𝓢)
-  queued q = numbered 𝓢 0 q.state.waiting ++ stillQueued q.state.phase q.later
+  queued q = numbered 𝓢 0 q.state.waiting ++ still_queued q.state.phase q.later
 
   -- the rule and the event agree
   pub record PlacesAgree (q : Queue 𝓢 recover) (i : ℕ) : Type 0 where
     -- on whether the row at the place is applied
-    pub agrees : permitted 𝓢 i (queued q) ≡ eventCounts 𝓢 i q.state.waiting
+    pub agrees : permitted 𝓢 i (queued q) ≡ event_counts 𝓢 i q.state.waiting
     -- and on which row that is: one of the call in hand
     pub same_row : (p : Picked q.state.waiting) → pick i q.state.waiting ≡ some p
         → (e : Picked (queued q)) × (pick i (queued q) ≡ some e) × (e.0 ≡ (0, p.0))

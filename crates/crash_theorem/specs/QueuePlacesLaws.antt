@@ -4,7 +4,7 @@ use Rattle.std.proofs.Common.{sym, ap, ap₂, ◌∙◌, inl, inr, arith, eqb→
 use Rattle.std.proofs.Math.Option.{Option, none, some}
 use Rattle.std.proofs.Math.Dec.{not_T}
 use Rattle.crash_theorem.specs.Pick.{All, Has, Empty, Pick, here, there, Picked, pick, further}
-use Rattle.crash_theorem.specs.PickLaws.{empty-null, all-has, all_join}
+use Rattle.crash_theorem.specs.PickLaws.{empty_null, all_has, all_join}
 use Rattle.crash_theorem.specs.Turn.{lowest}
 use Rattle.crash_theorem.specs.Store.{Store, Rows}
 use Rattle.crash_theorem.specs.Change.{RecoverOf, Change, plan}
@@ -12,8 +12,8 @@ use Rattle.crash_theorem.specs.Events.{EventOf, Phase, own, recovering, stopped,
 use Rattle.crash_theorem.specs.Obligations.{Obligations}
 use Rattle.crash_theorem.specs.Queue.{Chain, end, call, Queue, play}
 use Rattle.crash_theorem.specs.Chain.{Last, ChainEnded}
-use Rattle.crash_theorem.specs.ChainLaws.{queue, chain-along}
-use Rattle.crash_theorem.specs.QueuePlaces.{Item, numbered, precedes, unblocked, permits, permitted, comes, eventCounts, laterRows, stillQueued, PlacesAgree}
+use Rattle.crash_theorem.specs.ChainLaws.{queue, chain_along}
+use Rattle.crash_theorem.specs.QueuePlaces.{Item, numbered, precedes, unblocked, permits, permitted, comes, event_counts, later_rows, still_queued, PlacesAgree}
 
 -- ---- tests
 
@@ -23,44 +23,44 @@ same_test true false f g = absurd (f tt)
 same_test false true f g = absurd (g tt)
 same_test false false f g = refl
 
-not-below : (a b : ℕ) → not (ltb a b) ≡ leb b a
-not-below a b =
+not_below : (a b : ℕ) → not (ltb a b) ≡ leb b a
+not_below a b =
     same_test (not (ltb a b)) (leb b a) (λ t. le→leb b a (nltb→le a b t))
     (λ t. not_T (ltb a b) (λ h. omega (arith, leb→le b a t, ltb→lt a b h)))
 
-none-some : {A : Type 0} {x : A} → none ≡ some x → ⊥
-none-some e = let z : ◌≡◌ {A = ℕ} 0 1 = cc in omega arith
+none_some : {A : Type 0} {x : A} → none ≡ some x → ⊥
+none_some e = let z : ◌≡◌ {A = ℕ} 0 1 = cc in omega arith
 
-pick-has : {A : Type 0} {r : A} {xs ys : List A} → Pick r xs ys → Has xs r
-pick-has here = inl refl
-pick-has (there p) = inr (pick-has p)
+pick_has : {A : Type 0} {r : A} {xs ys : List A} → Pick r xs ys → Has xs r
+pick_has here = inl refl
+pick_has (there p) = inr (pick_has p)
 
 module _ (𝓢 : Store) where
   -- of a later call
   abbrev Later : Item 𝓢 → Type 0
   Later u = 0 < u.0
 
-  later-waits : (u : Item 𝓢) (r : 𝓢.Row) → Later u → not (precedes 𝓢 u (0, r)) ≡ true
-  later-waits u r h = go (ltb u.0 0) (ltb→lt u.0 0) (eqb u.0 0) (eqb→eq u.0 0)
+  later_waits : (u : Item 𝓢) (r : 𝓢.Row) → Later u → not (precedes 𝓢 u (0, r)) ≡ true
+  later_waits u r h = go (ltb u.0 0) (ltb→lt u.0 0) (eqb u.0 0) (eqb→eq u.0 0)
     where
       go : (a : Bool) → (T a → u.0 < 0) → (b : Bool) → (T b → u.0 ≡ 0) → not (a || (b && ltb (𝓢.group u.1) (𝓢.group r))) ≡ true
       go true f b g = absurd (omega (arith, f tt))
       go false f true g = absurd (omega (arith, g tt))
       go false f false g = refl
 
-  first-blocks : (w : 𝓢.Row) (t : Item 𝓢) → Later t → not (precedes 𝓢 (0, w) t) ≡ false
-  first-blocks w t h = go (ltb 0 t.0) (lt→ltb 0 t.0 h)
+  first_blocks : (w : 𝓢.Row) (t : Item 𝓢) → Later t → not (precedes 𝓢 (0, w) t) ≡ false
+  first_blocks w t h = go (ltb 0 t.0) (lt→ltb 0 t.0 h)
     where
       go : (a : Bool) → T a → not (a || (eqb 0 t.0 && ltb (𝓢.group w) (𝓢.group t.1))) ≡ false
       go true h = refl
       go false h = absurd h
 
   -- a row of the call in hand waits for the lower groups of that call alone
-  first-turn : (r : 𝓢.Row) (rest : Rows 𝓢) (L : List (Item 𝓢)) → All Later L
+  first_turn : (r : 𝓢.Row) (rest : Rows 𝓢) (L : List (Item 𝓢)) → All Later L
       → unblocked 𝓢 (0, r) (numbered 𝓢 0 rest ++ L) ≡ lowest 𝓢.group (𝓢.group r) rest
-  first-turn r [] [] h = refl
-  first-turn r [] (u ∷ L) h = rw (later-waits u r h.0) (first-turn r [] L h.1)
-  first-turn r (x ∷ rest) L h = ap₂ ◌&&◌ (not-below (𝓢.group x) (𝓢.group r)) (first-turn r rest L h)
+  first_turn r [] [] h = refl
+  first_turn r [] (u ∷ L) h = rw (later_waits u r h.0) (first_turn r [] L h.1)
+  first_turn r (x ∷ rest) L h = ap₂ ◌&&◌ (not_below (𝓢.group x) (𝓢.group r)) (first_turn r rest L h)
 
   -- what a place among all rows points to
   data Points (i : ℕ) (W : Rows 𝓢) (L : List (Item 𝓢)) : Type 0 where
@@ -78,7 +78,7 @@ module _ (𝓢 : Store) where
     where
       go : (o : Option (Picked L)) → pick i L ≡ o → Points i [] L
       go none e = past refl e
-      go (some p) e = other p p.1 refl e (pick-has p.2) refl
+      go (some p) e = other p p.1 refl e (pick_has p.2) refl
   points zero (w ∷ W) L = hand (w, W, here) ((0, w), numbered 𝓢 0 W ++ L, here) refl refl refl refl
   points (suc i) (w ∷ W) L = on (points i W L)
     where
@@ -100,11 +100,11 @@ module _ (𝓢 : Store) where
   blocked : (W : Rows 𝓢) (L M : List (Item 𝓢)) → All Later L → (Empty W → Empty L) → (t : Item 𝓢) → Has L t
       → unblocked 𝓢 t (numbered 𝓢 0 W ++ M) ≡ false
   blocked [] L M h n t a = absurd (none_of L (n tt) t a)
-  blocked (w ∷ W) L M h n t a = ap (λ (b : Bool). b && unblocked 𝓢 t (numbered 𝓢 0 W ++ M)) (first-blocks w t (all-has Later L h t a))
+  blocked (w ∷ W) L M h n t a = ap (λ (b : Bool). b && unblocked 𝓢 t (numbered 𝓢 0 W ++ M)) (first_blocks w t (all_has Later L h t a))
 
   agree : (i : ℕ) (W : Rows 𝓢) (L : List (Item 𝓢)) → All Later L → (Empty W → Empty L) → Points i W L
-      → permitted 𝓢 i (numbered 𝓢 0 W ++ L) ≡ eventCounts 𝓢 i W
-  agree i W L h n (hand p e a b c d) = ap (permits 𝓢) b ∙ (rw (c, d) (first-turn p.0 p.1 L h)) ∙ sym (ap (comes 𝓢) a)
+      → permitted 𝓢 i (numbered 𝓢 0 W ++ L) ≡ event_counts 𝓢 i W
+  agree i W L h n (hand p e a b c d) = ap (permits 𝓢) b ∙ (rw (c, d) (first_turn p.0 p.1 L h)) ∙ sym (ap (comes 𝓢) a)
   agree i W L h n (other e M a b c d) = ap (permits 𝓢) b ∙ (rw d (blocked W L M h n e.0 c)) ∙ sym (ap (comes 𝓢) a)
   agree i W L h n (past a b) = ap (permits 𝓢) b ∙ sym (ap (comes 𝓢) a)
 
@@ -115,43 +115,43 @@ module _ (𝓢 : Store) where
       row : Option (Picked W) → 𝓢.Row
       row none = q.0
       row (some p) = p.0
-  row_of i W L (other e M a b c d) p k = absurd (none-some (sym a ∙ k))
-  row_of i W L (past a b) p k = absurd (none-some (sym a ∙ k))
+  row_of i W L (other e M a b c d) p k = absurd (none_some (sym a ∙ k))
+  row_of i W L (past a b) p k = absurd (none_some (sym a ∙ k))
 
-  numbered-later : (n : ℕ) → 0 < n → (rs : Rows 𝓢) → All Later (numbered 𝓢 n rs)
-  numbered-later n h [] = tt
-  numbered-later n h (r ∷ rs) = (h, numbered-later n h rs)
+  numbered_later : (n : ℕ) → 0 < n → (rs : Rows 𝓢) → All Later (numbered 𝓢 n rs)
+  numbered_later n h [] = tt
+  numbered_later n h (r ∷ rs) = (h, numbered_later n h rs)
 
 module _ {𝓢 : Store} {recover : RecoverOf 𝓢} where
-  rows-later : {X : 𝓢.Img} (n : ℕ) → 0 < n → (c : Chain 𝓢 recover X) → All (Later 𝓢) (laterRows n c)
-  rows-later n h end = tt
-  rows-later n h (call 𝓒 o r e c) =
-      all_join (Later 𝓢) (numbered 𝓢 n (plan 𝓒)) (laterRows (suc n) c) (numbered-later 𝓢 n h (plan 𝓒)) (rows-later (suc n) (omega arith) c)
+  rows_later : {X : 𝓢.Img} (n : ℕ) → 0 < n → (c : Chain 𝓢 recover X) → All (Later 𝓢) (later_rows n c)
+  rows_later n h end = tt
+  rows_later n h (call 𝓒 o r e c) =
+      all_join (Later 𝓢) (numbered 𝓢 n (plan 𝓒)) (later_rows (suc n) c) (numbered_later 𝓢 n h (plan 𝓒)) (rows_later (suc n) (omega arith) c)
 
-  still-later : {X : 𝓢.Img} (ph : Phase) (c : Chain 𝓢 recover X) → All (Later 𝓢) (stillQueued ph c)
-  still-later own c = rows-later 1 (omega arith) c
-  still-later recovering c = tt
-  still-later stopped c = tt
+  still_later : {X : 𝓢.Img} (ph : Phase) (c : Chain 𝓢 recover X) → All (Later 𝓢) (still_queued ph c)
+  still_later own c = rows_later 1 (omega arith) c
+  still_later recovering c = tt
+  still_later stopped c = tt
 
   -- where nothing of the call in hand waits, nothing waits at all
-  nothing-else : {X : 𝓢.Img} (ph : Phase) (W : Rows 𝓢) (c : Chain 𝓢 recover X) → (T (through ph W) → ChainEnded c) → Empty W
-      → Empty (stillQueued ph c)
-  nothing-else own W end f e = tt
-  nothing-else own W (call 𝓒 o r x c) f e = absurd (f (empty-null W e))
-  nothing-else recovering W c f e = tt
-  nothing-else stopped W c f e = tt
+  nothing_else : {X : 𝓢.Img} (ph : Phase) (W : Rows 𝓢) (c : Chain 𝓢 recover X) → (T (through ph W) → ChainEnded c) → Empty W
+      → Empty (still_queued ph c)
+  nothing_else own W end f e = tt
+  nothing_else own W (call 𝓒 o r x c) f e = absurd (f (empty_null W e))
+  nothing_else recovering W c f e = tt
+  nothing_else stopped W c f e = tt
 
-  pub places-agree : (q : Queue 𝓢 recover) → Last q → (i : ℕ) → PlacesAgree q i
-  places-agree q l i =
+  pub places_agree : (q : Queue 𝓢 recover) → Last q → (i : ℕ) → PlacesAgree q i
+  places_agree q l i =
       let W = q.state.waiting in
-      let L = stillQueued q.state.phase q.later in
+      let L = still_queued q.state.phase q.later in
       let at = points 𝓢 i W L in
       record {
-        agrees = agree 𝓢 i W L (still-later q.state.phase q.later) (nothing-else q.state.phase W q.later l) at;
+        agrees = agree 𝓢 i W L (still_later q.state.phase q.later) (nothing_else q.state.phase W q.later l) at;
         same_row = row_of 𝓢 i W L at;
       }
 
   -- in every queue that events lead to
-  pub chain-placed : (𝓒 : Change 𝓢) (𝓞 : Obligations 𝓒) (r : 𝓒.recover ≡ recover) (later : Chain 𝓢 recover 𝓒.after)
+  pub chain_placed : (𝓒 : Change 𝓢) (𝓞 : Obligations 𝓒) (r : 𝓒.recover ≡ recover) (later : Chain 𝓢 recover 𝓒.after)
       (es : List (EventOf 𝓢)) (i : ℕ) → PlacesAgree (play (queue 𝓒 𝓞 r later) es) i
-  chain-placed 𝓒 𝓞 r later es i = places-agree (play (queue 𝓒 𝓞 r later) es) (chain-along 𝓒 𝓞 r later es).1 i
+  chain_placed 𝓒 𝓞 r later es i = places_agree (play (queue 𝓒 𝓞 r later) es) (chain_along 𝓒 𝓞 r later es).1 i

@@ -39,9 +39,9 @@ pub record Store : Type 1 where
   -- a row that is not accepted changes nothing
   pub refuses : (X : Img) (r : Row) → T (not (accepts X r)) → put X r ≡ X
   -- applying keeps the layout
-  pub put-ok : {X : Img} {r : Row} → Ok X → Fits r → Ok (put X r)
+  pub put_ok : {X : Img} {r : Row} → Ok X → Fits r → Ok (put X r)
   -- the row's record holds the row's body afterwards
-  pub get-same : {X : Img} {r : Row} → Ok X → Fits r → get (put X r) (key r) ≡ body r
+  pub get_same : {X : Img} {r : Row} → Ok X → Fits r → get (put X r) (key r) ≡ body r
   -- and every other record what it held
   pub get_other : {X : Img} {r : Row} → Ok X → Fits r → (j : Key) → j ≢ key r → get (put X r) j ≡ get X j
   -- images of the layout with the same records are the same

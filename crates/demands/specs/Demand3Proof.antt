@@ -5,45 +5,45 @@ use Rattle.std.proofs.Math.Path.{ap, subst}
 use Rattle.std.proofs.Math.Logic.{inl, inr, ⊎_elim}
 use Prim.Native.Nat.{ℕ, ◌≤◌, ◌<◌}
 use Rattle.std.proofs.lemmas.Bool.{eqb-false, not-true}
-use Rattle.seq.specs.Truth.{not-both}
+use Rattle.seq.specs.Truth.{not_both}
 use Rattle.layout.specs.declared.Shape.{Shape}
 use Rattle.layout.specs.Contents.{shape_of}
-use Rattle.layout.specs.View.{entryUsed}
+use Rattle.layout.specs.View.{entry_used}
 use Rattle.edits.specs.Kinds.{EntryUsed}
 use Rattle.paths.specs.declared.request.Request.{Request}
-use Rattle.paths.specs.Flags.{exchangeFlag}
+use Rattle.paths.specs.Flags.{exchange_flag}
 use Rattle.component.specs.Step.{existing}
 use Rattle.walk.specs.Ends.{Existing}
 use Rattle.refusals.specs.declared.case.Answer.{Answer}
 use Rattle.refusals.specs.declared.case.Answer.TheVariants.{Refused, Same, Planned, Exchanged}
-use Rattle.plan.specs.Form.{planBytes, entryGroup}
+use Rattle.plan.specs.Form.{plan_bytes, entry_group}
 use Rattle.recounts.specs.declared.Move.{Move}
 use Rattle.crash_theorem.specs.Pick.{Has}
 use Rattle.moves.specs.Plan.{move_of}
 use Rattle.rename.specs.Order.{walks, slot_of}
 use Rattle.rename.specs.Job.{answer, move, called, rows_by, renamed}
 use Rattle.outcome.specs.Outcome.{finished}
-use Rattle.outcome.specs.RenamePlan.{renamePlan}
-use Rattle.outcome.specs.RenamePlanLaws.{rename-planned}
+use Rattle.outcome.specs.RenamePlan.{rename_plan}
+use Rattle.outcome.specs.RenamePlanLaws.{rename_planned}
 use Rattle.outcome.specs.Called.{Called}
 use Rattle.rename_survives.specs.Run.{NamesKept}
-use Rattle.rename_survives.specs.PlanSurvives.{planJobs}
-use Rattle.rename_survives.specs.Safe.{rename-group, rename-kept}
-use Rattle.demands.specs.Crashes.{Event, State, entryApplied}
+use Rattle.rename_survives.specs.PlanSurvives.{plan_jobs}
+use Rattle.rename_survives.specs.Safe.{rename_group, rename_kept}
+use Rattle.demands.specs.Crashes.{Event, State, entry_applied}
 use Rattle.demands.specs.Outlives.{Outlives}
-use Rattle.demands.specs.Demand2.{finishedBy, finishedImage, thePlan, after}
+use Rattle.demands.specs.Demand2.{finished_by, finished_image, the_plan, after}
 use Rattle.demands.specs.Demand3.{Demand3, GivenRename, before, moved, now}
-use Rattle.demands.specs.Called.{planned-new}
-use Rattle.demands.specs.Exchanges.{exchange-asked}
-use Rattle.demands.specs.Retold.{eventOf}
-use Rattle.demands.specs.OutlivesProof.{image-same, applied-is, outlives}
-use Rattle.demands.specs.Planned.{planned-move, planned-room, planned-bytes, planned-survives}
+use Rattle.demands.specs.Called.{planned_new}
+use Rattle.demands.specs.Exchanges.{exchange_asked}
+use Rattle.demands.specs.Retold.{event_of}
+use Rattle.demands.specs.OutlivesProof.{image_same, applied_is, outlives}
+use Rattle.demands.specs.Planned.{planned_move, planned_room, planned_bytes, planned_survives}
 
 -- rows are planned only where the answer is so
-pub planned-answer : (s plan : List ℕ) (q : Request) (old new : List ℕ) → 1 ≤ (renamed s plan q old new).rows
+pub planned_answer : (s plan : List ℕ) (q : Request) (old new : List ℕ) → 1 ≤ (renamed s plan q old new).rows
     → (answer s plan q old new ≡ Planned) ⊎ (answer s plan q old new ≡ Exchanged)
 unfolding renamed
-planned-answer s plan q old new rows = go (answer s plan q old new) refl rows
+planned_answer s plan q old new rows = go (answer s plan q old new) refl rows
   where
     go : (a : Answer) → answer s plan q old new ≡ a → 1 ≤ rows_by s plan q old new a → (answer s plan q old new ≡ Planned) ⊎ (answer s plan q old new ≡ Exchanged)
     go (Refused n) e l = absurd (omega arith)
@@ -61,48 +61,48 @@ module _ {s plan : List ℕ} {q : Request} {old new : List ℕ} (given : GivenRe
   abbrev name : List ℕ
   name = called s plan q old new
 
-  is-planned : answer s plan q old new ≡ Planned
-  is-planned = ⊎_elim (λ e. e) (λ e. absurd (not-both (eqb q.flags exchangeFlag) (eq-eqb _ _ (exchange-asked s plan q old new e)) given.asked))
-      (planned-answer s plan q old new given.rows)
+  is_planned_lem : answer s plan q old new ≡ Planned
+  is_planned_lem = ⊎_elim (λ e. e) (λ e. absurd (not_both (eqb q.flags exchange_flag) (eq-eqb _ _ (exchange_asked s plan q old new e)) given.asked))
+      (planned_answer s plan q old new given.rows)
 
   abbrev c : Called h s m name
-  c = planned-move s plan q old new is-planned given.time
+  c = planned_move s plan q old new is_planned_lem given.time
 
-  abbrev long : planBytes ≤ length plan
-  long = planned-room s plan q old new is-planned given.time
+  abbrev long : plan_bytes ≤ length plan
+  long = planned_room s plan q old new is_planned_lem given.time
 
   -- the finished image is a rename's
-  finished-is : finished h s m name ≡ finishedImage s plan q old new
-  finished-is = sym (ap (finishedBy s plan q old new) is-planned)
+  finished_is : finished h s m name ≡ finished_image s plan q old new
+  finished_is = sym (ap (finished_by s plan q old new) is_planned_lem)
 
   module _ (es : List Event) where
     abbrev x : State
     x = after s plan q old new es
 
-    lasts : Outlives s (finishedImage s plan q old new) entryApplied x
+    lasts : Outlives s (finished_image s plan q old new) entry_applied x
     lasts =
-        subst (λ (t : List ℕ). Outlives s t entryApplied x) finished-is
-        (outlives h s (renamePlan h s m name) plan (thePlan s plan q old new) (finished h s m name) refl
-        (planned-survives s plan q old new is-planned given.time) entryGroup (rename-group c plan long) es)
+        subst (λ (t : List ℕ). Outlives s t entry_applied x) finished_is
+        (outlives h s (rename_plan h s m name) plan (the_plan s plan q old new) (finished h s m name) refl
+        (planned_survives s plan q old new is_planned_lem given.time) entry_group (rename_group c plan long) es)
 
-    decides-by : (planJobs h s (renamePlan h s m name) plan).decide ≡ record { plan = thePlan s plan q old new; number = 1 }
-    decides-by = λ i. record { plan = (rename-planned h s m name plan ∙ sym (planned-bytes s plan q old new is-planned given.time)) i; number = 1 }
+    decides_by : (plan_jobs h s (rename_plan h s m name) plan).decide ≡ record { plan = the_plan s plan q old new; number = 1 }
+    decides_by = λ i. record { plan = (rename_planned h s m name plan ∙ sym (planned_bytes s plan q old new is_planned_lem given.time)) i; number = 1 }
 
-    entry : (entryApplied x ≡ true) ↔ Has x.applied (record { plan = thePlan s plan q old new; number = 1 })
+    entry : (entry_applied x ≡ true) ↔ Has x.applied (record { plan = the_plan s plan q old new; number = 1 })
     entry =
-        applied-is h s (renamePlan h s m name) plan (thePlan s plan q old new) (finished h s m name) refl
-        (planned-survives s plan q old new is-planned given.time) entryGroup (rename-group c plan long) es _ decides-by
+        applied_is h s (rename_plan h s m name) plan (the_plan s plan q old new) (finished h s m name) refl
+        (planned_survives s plan q old new is_planned_lem given.time) entry_group (rename_group c plan long) es _ decides_by
 
     -- ---- names
 
     kept : NamesKept h s x.image m
     kept =
         subst (λ (z : List ℕ). NamesKept h s z m)
-        (sym (image-same h s (renamePlan h s m name) plan (thePlan s plan q old new) (finished h s m name) refl
-        (planned-survives s plan q old new is-planned given.time) entryGroup (rename-group c plan long) es))
-        (rename-kept c plan long (map eventOf es))
+        (sym (image_same h s (rename_plan h s m name) plan (the_plan s plan q old new) (finished h s m name) refl
+        (planned_survives s plan q old new is_planned_lem given.time) entry_group (rename_group c plan long) es))
+        (rename_kept c plan long (map event_of es))
 
-    named : (j : ℕ) × (j < (now s plan q old new es).entries) × (entryUsed (now s plan q old new es) j ≡ true) × ((now s plan q old new es).target j ≡ moved s plan q old new)
+    named : (j : ℕ) × (j < (now s plan q old new es).entries) × (entry_used (now s plan q old new es) j ≡ true) × ((now s plan q old new es).target j ≡ moved s plan q old new)
     unfolding move_of
     named = let (j, (below, used), target) = kept.name in (j, below, rw (ne_eqb _ 0 used), target)
 
@@ -112,7 +112,7 @@ module _ {s plan : List ℕ} {q : Request} {old new : List ℕ} (given : GivenRe
       slot = ap (slot_of (before s plan q old new)) e
 
       found : Existing (before s plan q old new) d n t slash
-      found = planned-new s plan q old new is-planned d n t slash e
+      found = planned_new s plan q old new is_planned_lem d n t slash e
 
       in_use : EntryUsed (before s plan q old new) m.new
       in_use = subst (EntryUsed (before s plan q old new)) (sym slot) (found.below, eqb-false _ _ (not-true _ found.used))
@@ -129,5 +129,5 @@ module _ {s plan : List ℕ} {q : Request} {old new : List ℕ} (given : GivenRe
           )
 
   -- The claim.
-  pub demand-3 : (es : List Event) → Demand3 s plan q old new es
-  demand-3 es = record { outlives = lasts es; entry-is = entry es; moved_named = named es; new-names = slot_kept es }
+  pub demand_3 : (es : List Event) → Demand3 s plan q old new es
+  demand_3 es = record { outlives = lasts es; entry_is = entry es; moved_named = named es; new_names = slot_kept es }

@@ -7,34 +7,34 @@ use Rattle.layout.specs.View.{View, view_of}
 use Rattle.paths.specs.declared.request.Request.{Request}
 use Rattle.component.specs.Step.{existing}
 use Rattle.refusals.specs.declared.case.Answer.TheVariants.{Exchanged}
-use Rattle.plan.specs.Form.{planBytes, journalGroup}
+use Rattle.plan.specs.Form.{plan_bytes, journal_group}
 use Rattle.recounts.specs.declared.Move.{Move}
 use Rattle.crash_theorem.specs.Pick.{Has}
 use Rattle.exchanges.specs.Exchange.{back}
-use Rattle.rename.specs.Order.{slot_of, inodeOf, walks}
+use Rattle.rename.specs.Order.{slot_of, inode_of, walks}
 use Rattle.rename.specs.Job.{answer, exchange}
 use Rattle.exchange_outcome.specs.Outcome.{exchanged}
-use Rattle.exchange_outcome.specs.ExchangePlan.{exchangePlan}
-use Rattle.exchange_outcome.specs.ExchangePlanLaws.{exchange-planned}
+use Rattle.exchange_outcome.specs.ExchangePlan.{exchange_plan}
+use Rattle.exchange_outcome.specs.ExchangePlanLaws.{exchange_planned_lem}
 use Rattle.exchange_outcome.specs.Paired.{Paired}
-use Rattle.rename_survives.specs.PlanSurvives.{planJobs, planState}
+use Rattle.rename_survives.specs.PlanSurvives.{plan_jobs, plan_state}
 use Rattle.exchange_survives.specs.Run.{SlotKept, ExchangeKept, EachNamed}
-use Rattle.exchange_survives.specs.Safe.{exchange-group, slots_kept, named-before, named-after}
-use Rattle.demands.specs.Crashes.{Event, State, journalApplied}
+use Rattle.exchange_survives.specs.Safe.{exchange_group, slots_kept, named_before, named_after}
+use Rattle.demands.specs.Crashes.{Event, State, journal_applied}
 use Rattle.demands.specs.Outlives.{Outlives}
-use Rattle.demands.specs.Demand2.{finishedBy, finishedImage, thePlan, after}
+use Rattle.demands.specs.Demand2.{finished_by, finished_image, the_plan, after}
 use Rattle.demands.specs.Demand3.{before, now}
 use Rattle.demands.specs.ExchangeDemand3.{GivenExchange, SlotStands, NamesStand, ExchangeDemand3}
-use Rattle.demands.specs.Called.{planned-flags}
-use Rattle.demands.specs.Exchanges.{found-old, found-new}
-use Rattle.demands.specs.Retold.{eventOf}
-use Rattle.demands.specs.OutlivesProof.{image-same, done-same, decision-same, applied-is, outlives}
-use Rattle.demands.specs.Planned.{exchange-move, exchange-room, exchange-bytes, exchange-outlasts}
-use Rattle.demands.specs.Demand3Proof.{planned-answer}
+use Rattle.demands.specs.Called.{planned_flags}
+use Rattle.demands.specs.Exchanges.{found_old, found_new}
+use Rattle.demands.specs.Retold.{event_of}
+use Rattle.demands.specs.OutlivesProof.{image_same, done_same, decision_same, applied_is, outlives}
+use Rattle.demands.specs.Planned.{exchange_move, exchange_room, exchange_bytes, exchange_outlasts}
+use Rattle.demands.specs.Demand3Proof.{planned_answer}
 
 -- a slot as the crash theorem keeps it
-slot-stands : (h : Shape) (s x : List ℕ) (m : Move) → SlotKept h s x m → SlotStands (view_of h s) (view_of h x) m.new m.moved m.replaced
-slot-stands h s x m k = record { used = rw (ne_eqb _ 0 k.used.1); parent = k.parent; name = k.name; target = k.target }
+slot_stands_lem : (h : Shape) (s x : List ℕ) (m : Move) → SlotKept h s x m → SlotStands (view_of h s) (view_of h x) m.new m.moved m.replaced
+slot_stands_lem h s x m k = record { used = rw (ne_eqb _ 0 k.used.1); parent = k.parent; name = k.name; target = k.target }
 
 -- either order of the two inodes
 turned : {v w : View} {j i t : ℕ} → SlotStands v w j t i → SlotStands v w j i t
@@ -42,8 +42,8 @@ turned k = record { used = k.used; parent = k.parent; name = k.name; target = �
 
 names_stand : (h : Shape) (s x : List ℕ) (m : Move) → ExchangeKept h s x m → NamesStand (view_of h s) (view_of h x) m.old m.moved m.new m.replaced
 names_stand h s x m k = record {
-  old-slot = turned (slot-stands h s x (back m) k.old);
-  new-slot = slot-stands h s x m k.new;
+  old_slot = turned (slot_stands_lem h s x (back m) k.old);
+  new_slot = slot_stands_lem h s x m k.new;
   first = k.moved;
   second = k.replaced;
 }
@@ -55,26 +55,26 @@ module _ {s plan : List ℕ} {q : Request} {old new : List ℕ} (given : GivenEx
   abbrev m : Move
   m = exchange s plan q old new
 
-  is-exchanged : answer s plan q old new ≡ Exchanged
-  is-exchanged =
-      ⊎_elim (λ e. absurd (planned-flags s plan q old new e (eqb-true _ _ given.asked))) (λ e. e) (planned-answer s plan q old new given.rows)
+  is_exchanged_lem : answer s plan q old new ≡ Exchanged
+  is_exchanged_lem =
+      ⊎_elim (λ e. absurd (planned_flags s plan q old new e (eqb-true _ _ given.asked))) (λ e. e) (planned_answer s plan q old new given.rows)
 
   abbrev c : Paired h s m
-  c = exchange-move s plan q old new is-exchanged given.time
+  c = exchange_move s plan q old new is_exchanged_lem given.time
 
-  abbrev long : planBytes ≤ length plan
-  long = exchange-room s plan q old new is-exchanged given.time
+  abbrev long : plan_bytes ≤ length plan
+  long = exchange_room s plan q old new is_exchanged_lem given.time
 
   -- the finished image is an exchange's
-  finished-is : exchanged h s m ≡ finishedImage s plan q old new
-  finished-is = sym (ap (finishedBy s plan q old new) is-exchanged)
+  finished_is : exchanged h s m ≡ finished_image s plan q old new
+  finished_is = sym (ap (finished_by s plan q old new) is_exchanged_lem)
 
   -- the parts of what a walk has found
   at_old : (d o i : ℕ) (slash : Bool) → (walks s plan q old new).old.found ≡ existing d o i slash → (m.old ≡ o) × (m.moved ≡ i)
-  at_old d o i slash e = (ap (slot_of (before s plan q old new)) e, ap inodeOf e)
+  at_old d o i slash e = (ap (slot_of (before s plan q old new)) e, ap inode_of e)
 
   at_new : (d n t : ℕ) (slash : Bool) → (walks s plan q old new).new.found ≡ existing d n t slash → (m.new ≡ n) × (m.replaced ≡ t)
-  at_new d n t slash e = (ap (slot_of (before s plan q old new)) e, ap inodeOf e)
+  at_new d n t slash e = (ap (slot_of (before s plan q old new)) e, ap inode_of e)
 
   -- a fact of the exchange's slots and inodes, said of those that the walks have found
   said : (P : ℕ → ℕ → ℕ → ℕ → Type 0) → P m.old m.moved m.new m.replaced → (d o i : ℕ) (slash : Bool)
@@ -89,50 +89,50 @@ module _ {s plan : List ℕ} {q : Request} {old new : List ℕ} (given : GivenEx
     abbrev x : State
     x = after s plan q old new es
 
-    lasts : Outlives s (finishedImage s plan q old new) journalApplied x
+    lasts : Outlives s (finished_image s plan q old new) journal_applied x
     lasts =
-        subst (λ (t : List ℕ). Outlives s t journalApplied x) finished-is
-        (outlives h s (exchangePlan h s m) plan (thePlan s plan q old new) (exchanged h s m) refl
-        (exchange-outlasts s plan q old new is-exchanged given.time) journalGroup (exchange-group c plan long) es)
+        subst (λ (t : List ℕ). Outlives s t journal_applied x) finished_is
+        (outlives h s (exchange_plan h s m) plan (the_plan s plan q old new) (exchanged h s m) refl
+        (exchange_outlasts s plan q old new is_exchanged_lem given.time) journal_group (exchange_group c plan long) es)
 
-    decides-by : (planJobs h s (exchangePlan h s m) plan).decide ≡ record { plan = thePlan s plan q old new; number = 0 }
-    decides-by = λ i. record { plan = (exchange-planned h s m plan ∙ exchange-bytes s plan q old new is-exchanged given.time) i; number = 0 }
+    decides_by : (plan_jobs h s (exchange_plan h s m) plan).decide ≡ record { plan = the_plan s plan q old new; number = 0 }
+    decides_by = λ i. record { plan = (exchange_planned_lem h s m plan ∙ exchange_bytes s plan q old new is_exchanged_lem given.time) i; number = 0 }
 
-    journal : (journalApplied x ≡ true) ↔ Has x.applied (record { plan = thePlan s plan q old new; number = 0 })
+    journal : (journal_applied x ≡ true) ↔ Has x.applied (record { plan = the_plan s plan q old new; number = 0 })
     journal =
-        applied-is h s (exchangePlan h s m) plan (thePlan s plan q old new) (exchanged h s m) refl
-        (exchange-outlasts s plan q old new is-exchanged given.time) journalGroup (exchange-group c plan long) es _ decides-by
+        applied_is h s (exchange_plan h s m) plan (the_plan s plan q old new) (exchanged h s m) refl
+        (exchange_outlasts s plan q old new is_exchanged_lem given.time) journal_group (exchange_group c plan long) es _ decides_by
 
     -- ---- names
 
-    image : x.image ≡ (planState h s (exchangePlan h s m) plan (map eventOf es)).img
+    image : x.image ≡ (plan_state h s (exchange_plan h s m) plan (map event_of es)).img
     image =
-        image-same h s (exchangePlan h s m) plan (thePlan s plan q old new) (exchanged h s m) refl
-        (exchange-outlasts s plan q old new is-exchanged given.time) journalGroup (exchange-group c plan long) es
+        image_same h s (exchange_plan h s m) plan (the_plan s plan q old new) (exchanged h s m) refl
+        (exchange_outlasts s plan q old new is_exchanged_lem given.time) journal_group (exchange_group c plan long) es
 
     kept : ExchangeKept h s x.image m
-    kept = subst (λ (z : List ℕ). ExchangeKept h s z m) (sym image) (slots_kept c plan long (map eventOf es))
+    kept = subst (λ (z : List ℕ). ExchangeKept h s z m) (sym image) (slots_kept c plan long (map event_of es))
 
-    each : (journalApplied x ≡ false) ⊎ (x.done ≡ true) → EachNamed (view_of h x.image) m
+    each : (journal_applied x ≡ false) ⊎ (x.done ≡ true) → EachNamed (view_of h x.image) m
     each k =
-        let fact = exchange-outlasts s plan q old new is-exchanged given.time in
-        let group = exchange-group c plan long in
+        let fact = exchange_outlasts s plan q old new is_exchanged_lem given.time in
+        let group = exchange_group c plan long in
         subst (λ (z : List ℕ). EachNamed (view_of h z) m) (sym image)
-        (⊎_elim (λ e. named-before c plan long (map eventOf es)
-        (decision-same h s (exchangePlan h s m) plan (thePlan s plan q old new) (exchanged h s m) refl fact journalGroup group es ∙ e))
-        (λ d. named-after c plan long (map eventOf es)
-        (done-same h s (exchangePlan h s m) plan (thePlan s plan q old new) (exchanged h s m) refl fact journalGroup group es d)) k)
+        (⊎_elim (λ e. named_before c plan long (map event_of es)
+        (decision_same h s (exchange_plan h s m) plan (the_plan s plan q old new) (exchanged h s m) refl fact journal_group group es ∙ e))
+        (λ d. named_after c plan long (map event_of es)
+        (done_same h s (exchange_plan h s m) plan (the_plan s plan q old new) (exchanged h s m) refl fact journal_group group es d)) k)
 
     abbrev w : View
     w = now s plan q old new es
 
   -- The claim.
-  pub exchange-demand-3 : (es : List Event) → ExchangeDemand3 s plan q old new es
-  exchange-demand-3 es = record {
+  pub exchange_demand_3 : (es : List Event) → ExchangeDemand3 s plan q old new es
+  exchange_demand_3 es = record {
     outlives = lasts es;
-    journal-is = journal es;
-    found = (_, _, _, _, _, _, _, _, found-old s plan q old new is-exchanged, found-new s plan q old new is-exchanged);
+    journal_is = journal es;
+    found = (_, _, _, _, _, _, _, _, found_old s plan q old new is_exchanged_lem, found_new s plan q old new is_exchanged_lem);
     names = said (λ o i n t. NamesStand (before s plan q old new) (w es) o i n t) (names_stand h s (x es).image m (kept es));
-    each-named = λ d o i slash f e n t also g k.
+    each_named = λ d o i slash f e n t also g k.
         said (λ o i n t. (((w es).target o ≡ i) × ((w es).target n ≡ t)) ⊎ (((w es).target o ≡ t) × ((w es).target n ≡ i))) (each es k) d o i slash f e n t also g;
   }

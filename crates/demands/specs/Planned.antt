@@ -8,25 +8,25 @@ use Rattle.layout.specs.Contents.{shape_of}
 use Rattle.paths.specs.declared.request.Request.{Request}
 use Rattle.refusals.specs.declared.case.Answer.{Answer}
 use Rattle.refusals.specs.declared.case.Answer.TheVariants.{Planned, Exchanged}
-use Rattle.plan.specs.Form.{planBytes}
+use Rattle.plan.specs.Form.{plan_bytes}
 use Rattle.recounts.specs.declared.Move.{Move}
 use Rattle.crash_theorem.specs.Events.{EventOf}
-use Rattle.exchanges.specs.Exchange.{exchangePlanned}
+use Rattle.exchanges.specs.Exchange.{exchange_planned}
 use Rattle.moves.specs.Plan.{planned}
-use Rattle.rename.specs.Job.{answer, move, exchange, called, planBy, planAfter}
+use Rattle.rename.specs.Job.{answer, move, exchange, called, plan_by, plan_after}
 use Rattle.image_store.specs.JobLaws.{jobs}
 use Rattle.outcome.specs.Outcome.{finished}
-use Rattle.outcome.specs.RenamePlan.{renamePlan}
+use Rattle.outcome.specs.RenamePlan.{rename_plan}
 use Rattle.outcome.specs.Called.{Called}
 use Rattle.exchange_outcome.specs.Outcome.{exchanged}
-use Rattle.exchange_outcome.specs.ExchangePlan.{exchangePlan}
+use Rattle.exchange_outcome.specs.ExchangePlan.{exchange_plan}
 use Rattle.exchange_outcome.specs.Paired.{Paired}
 use Rattle.rename_survives.specs.PlanSurvives.{PlanSurvives}
-use Rattle.rename_survives.specs.Safe.{rename-lasts}
-use Rattle.exchange_survives.specs.Safe.{exchange-lasts}
-use Rattle.demands.specs.Demand2.{thePlan}
-use Rattle.demands.specs.Called.{planned-long, planned-called}
-use Rattle.demands.specs.Exchanges.{exchange-long, exchange-paired}
+use Rattle.rename_survives.specs.Safe.{rename_lasts}
+use Rattle.exchange_survives.specs.Safe.{exchange_lasts}
+use Rattle.demands.specs.Demand2.{the_plan}
+use Rattle.demands.specs.Called.{planned_long, planned_called}
+use Rattle.demands.specs.Exchanges.{exchange_long, exchange_paired}
 
 module _ (s plan : List ℕ) (q : Request) (old new : List ℕ) (e : answer s plan q old new ≡ Planned) (time : q.now < span 8) where
   abbrev h : Shape
@@ -38,40 +38,40 @@ module _ (s plan : List ℕ) (q : Request) (old new : List ℕ) (e : answer s pl
   abbrev name : List ℕ
   name = called s plan q old new
 
-  abbrev pub planned-move : Called h s m name
-  planned-move = planned-called s plan q old new e time
+  abbrev pub planned_move : Called h s m name
+  planned_move = planned_called s plan q old new e time
 
-  abbrev pub planned-room : planBytes ≤ length plan
-  planned-room = planned-long s plan q old new e
+  abbrev pub planned_room : plan_bytes ≤ length plan
+  planned_room = planned_long s plan q old new e
 
   -- the plan's bytes
-  pub planned-bytes : thePlan s plan q old new ≡ planned h s m name plan
-  unfolding planAfter
-  planned-bytes = ap (λ (a : Answer). planBy s plan q old new a) e
+  pub planned_bytes : the_plan s plan q old new ≡ planned h s m name plan
+  unfolding plan_after
+  planned_bytes = ap (λ (a : Answer). plan_by s plan q old new a) e
 
   -- it survives, by the crash theorem
-  pub planned-survives : (es : List (EventOf (jobs h s))) → PlanSurvives h s (renamePlan h s m name) plan (thePlan s plan q old new) (finished h s m name) es
-  planned-survives es =
-      subst (λ (b : List ℕ). PlanSurvives h s (renamePlan h s m name) plan b (finished h s m name) es) (sym planned-bytes)
-      (rename-lasts planned-move plan planned-room es)
+  pub planned_survives : (es : List (EventOf (jobs h s))) → PlanSurvives h s (rename_plan h s m name) plan (the_plan s plan q old new) (finished h s m name) es
+  planned_survives es =
+      subst (λ (b : List ℕ). PlanSurvives h s (rename_plan h s m name) plan b (finished h s m name) es) (sym planned_bytes)
+      (rename_lasts planned_move plan planned_room es)
 
 module _ (s plan : List ℕ) (q : Request) (old new : List ℕ) (e : answer s plan q old new ≡ Exchanged) (time : q.now < span 8) where
   abbrev n : Move
   n = exchange s plan q old new
 
-  abbrev pub exchange-move : Paired (shape_of s) s n
-  exchange-move = exchange-paired s plan q old new e time
+  abbrev pub exchange_move : Paired (shape_of s) s n
+  exchange_move = exchange_paired s plan q old new e time
 
-  abbrev pub exchange-room : planBytes ≤ length plan
-  exchange-room = exchange-long s plan q old new e
+  abbrev pub exchange_room : plan_bytes ≤ length plan
+  exchange_room = exchange_long s plan q old new e
 
   -- the plan's bytes
-  pub exchange-bytes : exchangePlanned (shape_of s) s n plan ≡ thePlan s plan q old new
-  unfolding planAfter
-  exchange-bytes = sym (ap (λ (a : Answer). planBy s plan q old new a) e)
+  pub exchange_bytes : exchange_planned (shape_of s) s n plan ≡ the_plan s plan q old new
+  unfolding plan_after
+  exchange_bytes = sym (ap (λ (a : Answer). plan_by s plan q old new a) e)
 
-  pub exchange-outlasts : (es : List (EventOf (jobs (shape_of s) s)))
-      → PlanSurvives (shape_of s) s (exchangePlan (shape_of s) s n) plan (thePlan s plan q old new) (exchanged (shape_of s) s n) es
-  exchange-outlasts es =
-      subst (λ (b : List ℕ). PlanSurvives (shape_of s) s (exchangePlan (shape_of s) s n) plan b (exchanged (shape_of s) s n) es) exchange-bytes
-      (exchange-lasts exchange-move plan exchange-room es)
+  pub exchange_outlasts : (es : List (EventOf (jobs (shape_of s) s)))
+      → PlanSurvives (shape_of s) s (exchange_plan (shape_of s) s n) plan (the_plan s plan q old new) (exchanged (shape_of s) s n) es
+  exchange_outlasts es =
+      subst (λ (b : List ℕ). PlanSurvives (shape_of s) s (exchange_plan (shape_of s) s n) plan b (exchanged (shape_of s) s n) es) exchange_bytes
+      (exchange_lasts exchange_move plan exchange_room es)

@@ -10,8 +10,8 @@ use Rattle.refusals.specs.declared.case.Answer.TheVariants.{Planned}
 use Rattle.refusals.specs.Rules.{Rule, refuse, decide}
 use Rattle.refusals.specs.Decide.{answers}
 use Rattle.refusals.specs.Passes.{Passes}
-use Rattle.refusals.specs.PassesLaws.{passes-before}
-use Rattle.rename.specs.Order.{walks, caseRules, early, order}
+use Rattle.refusals.specs.PassesLaws.{passes_before}
+use Rattle.rename.specs.Order.{walks, case_rules, early, order}
 use Rattle.rename.specs.Job.{answer, case}
 
 -- where no test of a list holds, the part behind decides
@@ -35,17 +35,17 @@ module _ (s plan : List ℕ) (q : Request) (old new : List ℕ) where
   module _ (p : Answer → Bool) (each : answers (λ a. not (p a)) ahead ≡ true) (is : p (answer s plan q old new) ≡ true) where
     passed : Passes ahead
     unfolding order
-    passed = passes-before p (caseRules v q (case s plan q old new)) ahead each is
+    passed = passes_before p (case_rules v q (case s plan q old new)) ahead each is
 
     pub begun : decide (early s plan q old new) ≡ Planned
     begun = rw (passed.0, passed.1.0, passed.1.1.0, passed.1.1.1.0, passed.1.1.1.1.0, passed.1.1.1.1.1.0)
 
-    pub old-whole : (walks s plan q old new).old.number ≡ 0
-    old-whole = eqb-true _ _ (not-false _ passed.1.1.1.1.1.1.0)
+    pub old_whole : (walks s plan q old new).old.number ≡ 0
+    old_whole = eqb-true _ _ (not-false _ passed.1.1.1.1.1.1.0)
 
-    pub new-whole : (walks s plan q old new).new.number ≡ 0
-    new-whole = eqb-true _ _ (not-false _ passed.1.1.1.1.1.1.1.0)
+    pub new_whole : (walks s plan q old new).new.number ≡ 0
+    new_whole = eqb-true _ _ (not-false _ passed.1.1.1.1.1.1.1.0)
 
-    pub by-case : answer s plan q old new ≡ decide (caseRules v q (case s plan q old new))
+    pub by_case : answer s plan q old new ≡ decide (case_rules v q (case s plan q old new))
     unfolding order
-    by-case = skipped ahead (caseRules v q (case s plan q old new)) passed
+    by_case = skipped ahead (case_rules v q (case s plan q old new)) passed

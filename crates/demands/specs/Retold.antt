@@ -14,7 +14,7 @@ phase nobody = theory.stopped
 abbrev pub state_of : State → theory.State (List ℕ) Job
 state_of x = record { img = x.image; waiting = x.waiting; phase = phase x.whose; applied = x.applied; done = x.done }
 
-abbrev pub eventOf : Event → theory.Event Job Buffers
-eventOf (apply i) = theory.apply i
-eventOf (refused plan n) = theory.stray (record { plan = plan; number = n })
-eventOf (crash plan scratch) = theory.crash (record { plan = plan; scratch = scratch })
+abbrev pub event_of : Event → theory.Event Job Buffers
+event_of (apply i) = theory.apply i
+event_of (refused plan n) = theory.stray (record { plan = plan; number = n })
+event_of (crash plan scratch) = theory.crash (record { plan = plan; scratch = scratch })

@@ -8,7 +8,7 @@ use Rattle.std.proofs.Math.Dec.{eqb}
 use Rattle.layout.specs.declared.Shape.{Shape}
 use Rattle.plan.specs.Form.{row_at}
 use Rattle.plan.specs.Jobs.{Job}
-use Rattle.apply.specs.Apply.{applyNumber}
+use Rattle.apply.specs.Apply.{apply_number}
 use Rattle.crash_theorem.specs.Pick.{All, Picked, pick}
 use Rattle.crash_theorem.specs.Turn.{lowest}
 use Rattle.crash_theorem.specs.Change.{Change}
@@ -18,14 +18,14 @@ use Rattle.crash_theorem.specs.Plan.{Plan}
 use Rattle.recover.specs.Job.{recovered}
 use Rattle.image_store.specs.ImageLaws.{images}
 use Rattle.image_store.specs.JobLaws.{jobs}
-use Rattle.image_store.specs.Recovery.{waitingAt}
-use Rattle.rename_survives.specs.PlanSurvives.{planJobs}
-use Rattle.demands.specs.Crashes.{Event, apply, refused, crash, Whose, call, recovery, nobody, State, group_of, taken, at_place, tried, answered, step, run, hasGroup}
-use Rattle.demands.specs.Retold.{state_of, eventOf}
+use Rattle.image_store.specs.Recovery.{waiting_at}
+use Rattle.rename_survives.specs.PlanSurvives.{plan_jobs}
+use Rattle.demands.specs.Crashes.{Event, apply, refused, crash, Whose, call, recovery, nobody, State, group_of, taken, at_place, tried, answered, step, run, has_group}
+use Rattle.demands.specs.Retold.{state_of, event_of}
 
 module _ (h : Shape) (s : List ℕ) (p : Plan (images h s)) (buffer : List ℕ) where
   abbrev 𝓒 : Change (jobs h s)
-  𝓒 = planJobs h s p buffer
+  𝓒 = plan_jobs h s p buffer
 
   -- ---- one event
 
@@ -43,36 +43,36 @@ module _ (h : Shape) (s : List ℕ) (p : Plan (images h s)) (buffer : List ℕ) 
   same_place x none = refl
   same_place x (some p) = same_taken (lowest group_of (group_of p.0) p.1) x p.0 p.1
 
-  same-tried : (b : Bool) (x : State) (plan : List ℕ) (n : ℕ) → state_of (tried b x plan n) ≡ theory.tried 𝓒 b (state_of x) (record { plan = plan; number = n })
-  same-tried true x plan n = refl
-  same-tried false x plan n = refl
+  same_tried : (b : Bool) (x : State) (plan : List ℕ) (n : ℕ) → state_of (tried b x plan n) ≡ theory.tried 𝓒 b (state_of x) (record { plan = plan; number = n })
+  same_tried true x plan n = refl
+  same_tried false x plan n = refl
 
-  same-answered : (x : State) (n : ℕ) (plan : List ℕ) → state_of (answered x n plan) ≡ theory.answered 𝓒 (state_of x) (waitingAt n plan)
-  same-answered x zero plan = refl
-  same-answered x (suc n) plan = refl
+  same_answered : (x : State) (n : ℕ) (plan : List ℕ) → state_of (answered x n plan) ≡ theory.answered 𝓒 (state_of x) (waiting_at n plan)
+  same_answered x zero plan = refl
+  same_answered x (suc n) plan = refl
 
-  pub same_step : (x : State) (e : Event) → state_of (step x e) ≡ theory.step 𝓒 (state_of x) (eventOf e)
+  pub same_step : (x : State) (e : Event) → state_of (step x e) ≡ theory.step 𝓒 (state_of x) (event_of e)
   same_step x (apply i) = same_place x (pick i x.waiting)
-  same_step x (refused plan n) = same-tried (eqb (applyNumber x.image plan n) 0) x plan n
-  same_step x (crash plan scratch) = same-answered x (recovered plan scratch x.image).number (recovered plan scratch x.image).plan
+  same_step x (refused plan n) = same_tried (eqb (apply_number x.image plan n) 0) x plan n
+  same_step x (crash plan scratch) = same_answered x (recovered plan scratch x.image).number (recovered plan scratch x.image).plan
 
   -- ---- a list of them
 
-  pub same-run : (x : State) (es : List Event) → state_of (run x es) ≡ theory.run 𝓒 (state_of x) (map eventOf es)
-  same-run x [] = refl
-  same-run x (e ∷ es) = same-run (step x e) es ∙ ap (λ (y : theory.State (List ℕ) Job). theory.run 𝓒 y (map eventOf es)) (same_step x e)
+  pub same_run : (x : State) (es : List Event) → state_of (run x es) ≡ theory.run 𝓒 (state_of x) (map event_of es)
+  same_run x [] = refl
+  same_run x (e ∷ es) = same_run (step x e) es ∙ ap (λ (y : theory.State (List ℕ) Job). theory.run 𝓒 y (map event_of es)) (same_step x e)
 
   -- ---- the decision, by the group of the row that decides
 
-  pub same-decision : (g : ℕ) → (jobs h s).group 𝓒.decide ≡ g → (rs : List Job) → theory.decides 𝓒 rs ≡ hasGroup g rs
+  pub same_decision : (g : ℕ) → (jobs h s).group 𝓒.decide ≡ g → (rs : List Job) → theory.decides 𝓒 rs ≡ has_group g rs
   unfolding row_at
-  same-decision g e [] = refl
-  same-decision g e (r ∷ rs) =
-      ap (λ (k : ℕ). eqb (group_of r) k || theory.decides 𝓒 rs) e ∙ ap (λ (b : Bool). eqb (group_of r) g || b) (same-decision g e rs)
+  same_decision g e [] = refl
+  same_decision g e (r ∷ rs) =
+      ap (λ (k : ℕ). eqb (group_of r) k || theory.decides 𝓒 rs) e ∙ ap (λ (b : Bool). eqb (group_of r) g || b) (same_decision g e rs)
 
   -- ---- events that only apply rows are places
 
-  pub places : (es : List (theory.EventOf (jobs h s))) → All OnlyApplies es → (is : List ℕ) × (map eventOf (map apply is) ≡ es)
+  pub places : (es : List (theory.EventOf (jobs h s))) → All OnlyApplies es → (is : List ℕ) × (map event_of (map apply is) ≡ es)
   places [] a = ([], refl)
   places (theory.apply i ∷ es) a = let (is, e) = places es a.1 in (i ∷ is, ap (λ (fs : List (theory.EventOf (jobs h s))). theory.apply i ∷ fs) e)
   places (theory.stray r ∷ es) a = absurd a.0

@@ -3,18 +3,18 @@
 use Rattle.std.specs.Prelude.{cond, List, ℕ, eqb}
 use Rattle.std.proofs.Math.Option.{Option, none}
 use Rattle.layout.specs.declared.Shape.{Shape}
-use Rattle.layout.specs.View.{journalAt}
+use Rattle.layout.specs.View.{journal_at}
 use Rattle.encode.specs.declared.journal.Journal.{Journal}
-use Rattle.encode.specs.Journal.{renameKind, exchangeKind, journalOf, journalFormed}
+use Rattle.encode.specs.Journal.{rename_kind, exchange_kind, journal_of, journal_formed}
 use Rattle.plan.specs.Write.{Write}
-use Rattle.rename_drafts.specs.PendingRename.{renameDraft}
-use Rattle.exchange_drafts.specs.PendingExchange.{exchangeDraft}
+use Rattle.rename_drafts.specs.PendingRename.{rename_draft}
+use Rattle.exchange_drafts.specs.PendingExchange.{exchange_draft}
 
 module _ (h : Shape) (x : List ℕ) where
   -- rule 104: the rows by the kind of the operation; there are no others
-  abbrev pub kindDraft : ℕ → Journal → Option (List Write)
-  kindDraft kind j = cond (eqb kind renameKind) (renameDraft h x j) (cond (eqb kind exchangeKind) (exchangeDraft h x j) none)
+  abbrev pub kind_draft : ℕ → Journal → Option (List Write)
+  kind_draft kind j = cond (eqb kind rename_kind) (rename_draft h x j) (cond (eqb kind exchange_kind) (exchange_draft h x j) none)
 
   -- rule 104: a record that is not formed fits no operation
   unfoldable pub draft : Option (List Write)
-  draft = cond (journalFormed (journalAt h x)) (kindDraft (journalOf (journalAt h x)).kind (journalOf (journalAt h x))) none
+  draft = cond (journal_formed (journal_at h x)) (kind_draft (journal_of (journal_at h x)).kind (journal_of (journal_at h x))) none

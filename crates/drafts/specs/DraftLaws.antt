@@ -2,47 +2,47 @@
 use Rattle.std.specs.Prelude.{◌≡◌, ◌≢◌, true, false, cond, List, [], ◌∷◌, ◌++◌, ℕ, eqb}
 use Rattle.std.proofs.Common.{◌∙◌, subst, ne_eqb}
 use Rattle.std.proofs.Math.Option.{Option, none, some}
-use Rattle.seq.specs.Truth.{by-test}
+use Rattle.seq.specs.Truth.{by_test}
 use Rattle.layout.specs.declared.Shape.{Shape}
 use Rattle.layout.specs.Facts.{Laid}
-use Rattle.layout.specs.View.{view_of, journalAt}
+use Rattle.layout.specs.View.{view_of, journal_at}
 use Rattle.encode.specs.declared.journal.Journal.{Journal}
-use Rattle.encode.specs.Journal.{renameKind, exchangeKind, journalOf, journalFormed}
+use Rattle.encode.specs.Journal.{rename_kind, exchange_kind, journal_of, journal_formed}
 use Rattle.plan.specs.Write.{Write}
 use Rattle.plan.specs.Filled.{AllWrites}
-use Rattle.plan.specs.WriteLaws.{writes-join}
+use Rattle.plan.specs.WriteLaws.{writes_join}
 use Rattle.recounts.specs.declared.Move.{Move}
-use Rattle.results.specs.Results.{results, clearRow}
+use Rattle.results.specs.Results.{results, clear_row}
 use Rattle.results.specs.InImage.{InImage}
-use Rattle.results.specs.Owed.{results-write, clear-writes}
-use Rattle.exchanges.specs.Exchange.{exchangeResults}
-use Rattle.exchanges.specs.ExchangeRows.{exchange-writes}
-use Rattle.rename_drafts.specs.PendingRename.{renameFits, moveFrom, entryStands, intoGood, undoing, finishing, moveDraft, renameDraft}
-use Rattle.exchange_drafts.specs.PendingExchange.{exchangeFits, finishingExchange, exchangeDraft}
-use Rattle.drafts.specs.Draft.{kindDraft, draft}
-use Rattle.rename_drafts.specs.Fit.{fits-image}
+use Rattle.results.specs.Owed.{results_write, clear_writes}
+use Rattle.exchanges.specs.Exchange.{exchange_results}
+use Rattle.exchanges.specs.ExchangeRows.{exchange_writes}
+use Rattle.rename_drafts.specs.PendingRename.{rename_fits, move_from, entry_stands, into_good, undoing, finishing, move_draft, rename_draft}
+use Rattle.exchange_drafts.specs.PendingExchange.{exchange_fits, finishing_exchange, exchange_draft}
+use Rattle.drafts.specs.Draft.{kind_draft, draft}
+use Rattle.rename_drafts.specs.Fit.{fits_image}
 use Rattle.exchange_drafts.specs.ExchangeFit.{fits_both}
 
 -- ---- the ways out of a draft
 
 module _ (h : Shape) (x : List ℕ) where
-  pub draft-unformed : journalFormed (journalAt h x) ≡ false → draft h x ≡ none
+  pub draft_unformed : journal_formed (journal_at h x) ≡ false → draft h x ≡ none
   unfolding draft
-  draft-unformed bad = rw bad
+  draft_unformed bad = rw bad
 
-  module _ (formed : journalFormed (journalAt h x) ≡ true) (j : Journal) (is : j ≡ journalOf (journalAt h x)) where
-    kind-draft : draft h x ≡ kindDraft h x j.kind j
+  module _ (formed : journal_formed (journal_at h x) ≡ true) (j : Journal) (is : j ≡ journal_of (journal_at h x)) where
+    kind_draft_lem : draft h x ≡ kind_draft h x j.kind j
     unfolding draft
-    kind-draft = rw (formed, is)
+    kind_draft_lem = rw (formed, is)
 
-    pub draft-rename : j.kind ≡ renameKind → draft h x ≡ renameDraft h x j
-    draft-rename e = kind-draft ∙ rw e
+    pub draft_rename : j.kind ≡ rename_kind → draft h x ≡ rename_draft h x j
+    draft_rename e = kind_draft_lem ∙ rw e
 
-    pub draft-exchange : j.kind ≡ exchangeKind → draft h x ≡ exchangeDraft h x j
-    draft-exchange e = kind-draft ∙ rw e
+    pub draft_exchange : j.kind ≡ exchange_kind → draft h x ≡ exchange_draft h x j
+    draft_exchange e = kind_draft_lem ∙ rw e
 
-    pub draft-other : j.kind ≢ renameKind → j.kind ≢ exchangeKind → draft h x ≡ none
-    draft-other rename exchange = kind-draft ∙ rw (ne_eqb _ _ rename, ne_eqb _ _ exchange)
+    pub draft_other : j.kind ≢ rename_kind → j.kind ≢ exchange_kind → draft h x ≡ none
+    draft_other rename exchange = kind_draft_lem ∙ rw (ne_eqb _ _ rename, ne_eqb _ _ exchange)
 
 -- ---- what a draft writes
 
@@ -52,42 +52,42 @@ Owed h none = Unit {0}
 Owed h (some ws) = AllWrites h ws
 
 module _ (h : Shape) (x : List ℕ) (laid : Laid h x) where
-  undoing-owed : Owed h (some (undoing h x))
-  undoing-owed = (clear-writes h, tt)
+  undoing_owed : Owed h (some (undoing h x))
+  undoing_owed = (clear_writes h, tt)
 
-  cleared-owed : (ws : List Write) → AllWrites h ws → Owed h (some (ws ++ clearRow h ∷ []))
-  cleared-owed ws each = writes-join h ws (clearRow h ∷ []) each (clear-writes h, tt)
+  cleared_owed : (ws : List Write) → AllWrites h ws → Owed h (some (ws ++ clear_row h ∷ []))
+  cleared_owed ws each = writes_join h ws (clear_row h ∷ []) each (clear_writes h, tt)
 
-  move-owed : (m : Move) → (intoGood (view_of h x) m ≡ true → InImage h m) → Owed h (moveDraft h x m)
-  unfolding moveDraft
-  move-owed m range =
-      by-test (Owed h) (entryStands (view_of h x) m) _ _
-      (λ _. by-test (Owed h) (intoGood (view_of h x) m) (some (finishing h x m)) none (λ good. cleared-owed (results h x m) (results-write h x m laid (range good))) (λ _. tt))
-      (λ _. undoing-owed)
+  move_owed : (m : Move) → (into_good (view_of h x) m ≡ true → InImage h m) → Owed h (move_draft h x m)
+  unfolding move_draft
+  move_owed m range =
+      by_test (Owed h) (entry_stands (view_of h x) m) _ _
+      (λ _. by_test (Owed h) (into_good (view_of h x) m) (some (finishing h x m)) none (λ good. cleared_owed (results h x m) (results_write h x m laid (range good))) (λ _. tt))
+      (λ _. undoing_owed)
 
-  rename-owed : (j : Journal) → Owed h (renameDraft h x j)
-  unfolding renameDraft
-  rename-owed j =
-      by-test (Owed h) (renameFits h x j) (moveDraft h x (moveFrom (view_of h x) j)) none (λ fit. move-owed _ (fits-image h x j fit)) (λ _. tt)
+  rename_owed : (j : Journal) → Owed h (rename_draft h x j)
+  unfolding rename_draft
+  rename_owed j =
+      by_test (Owed h) (rename_fits h x j) (move_draft h x (move_from (view_of h x) j)) none (λ fit. move_owed _ (fits_image h x j fit)) (λ _. tt)
 
-  exchange-owed : (j : Journal) → Owed h (exchangeDraft h x j)
-  unfolding exchangeDraft
-  exchange-owed j =
-      let m = moveFrom (view_of h x) j in
-      by-test (Owed h) (exchangeFits h x j) (some (finishingExchange h x m)) none
-      (λ fit. cleared-owed (exchangeResults h x m) (exchange-writes h x laid m (fits_both h x j fit))) (λ _. tt)
+  exchange_owed : (j : Journal) → Owed h (exchange_draft h x j)
+  unfolding exchange_draft
+  exchange_owed j =
+      let m = move_from (view_of h x) j in
+      by_test (Owed h) (exchange_fits h x j) (some (finishing_exchange h x m)) none
+      (λ fit. cleared_owed (exchange_results h x m) (exchange_writes h x laid m (fits_both h x j fit))) (λ _. tt)
 
-  kind-owed : (k : ℕ) (j : Journal) → Owed h (kindDraft h x k j)
-  kind-owed k j =
-      by-test (Owed h) (eqb k renameKind) (renameDraft h x j) (cond (eqb k exchangeKind) (exchangeDraft h x j) none) (λ _. rename-owed j)
-      (λ _. by-test (Owed h) (eqb k exchangeKind) (exchangeDraft h x j) none (λ _. exchange-owed j) (λ _. tt))
+  kind_owed : (k : ℕ) (j : Journal) → Owed h (kind_draft h x k j)
+  kind_owed k j =
+      by_test (Owed h) (eqb k rename_kind) (rename_draft h x j) (cond (eqb k exchange_kind) (exchange_draft h x j) none) (λ _. rename_owed j)
+      (λ _. by_test (Owed h) (eqb k exchange_kind) (exchange_draft h x j) none (λ _. exchange_owed j) (λ _. tt))
 
-  draft-owed : Owed h (draft h x)
+  draft_owed : Owed h (draft h x)
   unfolding draft
-  draft-owed =
-      let j = journalOf (journalAt h x) in
-      by-test (Owed h) (journalFormed (journalAt h x)) (kindDraft h x j.kind j) none (λ _. kind-owed j.kind j) (λ _. tt)
+  draft_owed =
+      let j = journal_of (journal_at h x) in
+      by_test (Owed h) (journal_formed (journal_at h x)) (kind_draft h x j.kind j) none (λ _. kind_owed j.kind j) (λ _. tt)
 
   -- so whatever rows a draft has, they can be applied
-  pub draft-writes : (ws : List Write) → draft h x ≡ some ws → AllWrites h ws
-  draft-writes ws e = subst (Owed h) e draft-owed
+  pub draft_writes : (ws : List Write) → draft h x ≡ some ws → AllWrites h ws
+  draft_writes ws e = subst (Owed h) e draft_owed

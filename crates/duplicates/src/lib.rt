@@ -2,8 +2,8 @@
 ghost use Rattle.std.specs.Prelude.{◌≡◌, ◌<◌, ◌≤◌, length};
 ghost use Rattle.layout.specs.Facts.{Laid};
 ghost use Rattle.layout.specs.View.{view_of};
-ghost use Rattle.names.specs.NameTests.{hasDuplicate, Named};
-ghost use Rattle.duplicates.specs.Bucket.{mixedOf, bucketAt, buckets};
+ghost use Rattle.names.specs.NameTests.{has_duplicate, Named};
+ghost use Rattle.duplicates.specs.Bucket.{mixed_of, bucket_at, buckets};
 
 use layout::{Shape, limits};
 
@@ -12,7 +12,7 @@ const BUCKETS: usize = 2048;
 // The bucket of an entry in use, from its bytes: its parent and its name decide it.
 fn mixed(e: &[u8]) -> usize
     requires { 32 ≤ length e.now }
-    ensures { (result ≡ mixedOf e.now) × (result < buckets) }
+    ensures { (result ≡ mixed_of e.now) × (result < buckets) }
 {
     let p = layout::entry::parent(e) as u64;
     let a = layout::number::get32(e, 8) as u64;
@@ -34,7 +34,7 @@ fn mixed(e: &[u8]) -> usize
 // The bucket of the entry in slot j; one past the last where it is free.
 fn bucket(image: &[u8], h: Shape, j: usize) -> usize
     requires { Laid h image.now × Named h image.now × (j < h.entries) }
-    ensures { (result ≡ bucketAt (view_of h image.now) j) × (result ≤ buckets) }
+    ensures { (result ≡ bucket_at (view_of h image.now) j) × (result ≤ buckets) }
 {
     let e = layout::records::entry(image, h, j);
     if layout::entry::name_length(e) == 0 {
@@ -48,7 +48,7 @@ fn bucket(image: &[u8], h: Shape, j: usize) -> usize
 // chosen to crowd into one bucket cost no search over all pairs.
 pub fn has_duplicate(image: &[u8], h: Shape) -> bool
     requires { Laid h image.now × Named h image.now }
-    ensures { result ≡ hasDuplicate (view_of h image.now) }
+    ensures { result ≡ has_duplicate (view_of h image.now) }
 {
     let n = h.entries;
     let mut heads = [0u16; 2048];

@@ -5,22 +5,22 @@ use Rattle.std.proofs.Math.Bool.{true}
 use Rattle.std.proofs.Math.Decide.{ℕ_discrete, dec_lt}
 use native.Mathlib.Omega.{arith}
 use borrow.Author.Tests.{eqb-true, eqb-false, eq-eqb, ne_eqb, not-true, not-false}
-use Rattle.seq.specs.Truth.{not-both, refuted, and_left, and_right, and_both}
-use Rattle.seq.specs.SearchLaws.{any-not, any_false, any-hit, any_at}
+use Rattle.seq.specs.Truth.{not_both, refuted, and_left, and_right, and_both}
+use Rattle.seq.specs.SearchLaws.{any_not, any_false, any_hit, any_at}
 use Rattle.seq.specs.Climb.{up}
 use Rattle.layout.specs.declared.Shape.{Shape}
-use Rattle.layout.specs.Limits.{linkLimit, modeLimit}
-use Rattle.layout.specs.View.{View, view_of, isSymlink}
-use Rattle.tree.specs.Tree.{hasText, textShared}
-use Rattle.tree.specs.TreeLaws.{reaches-goal}
+use Rattle.layout.specs.Limits.{link_limit, mode_limit}
+use Rattle.layout.specs.View.{View, view_of, is_symlink}
+use Rattle.tree.specs.Tree.{has_text, text_shared}
+use Rattle.tree.specs.TreeLaws.{reaches_goal}
 use Rattle.tree.specs.InodeFacts.{Leaf, File, Directory, Symlink, Inode}
-use Rattle.consistency.specs.Sound.{textLinked}
+use Rattle.consistency.specs.Sound.{text_linked}
 use Rattle.consistency.specs.RecordFacts.{Linked, Entry, Text, Handle, Bodies}
 use Rattle.edits.specs.Kinds.{IsDirectory, IsSymlink, IsUsed, IsLeaf, EntryUsed, TextUsed, HandleOpen}
-use Rattle.edits.specs.Tests.{kind-is, kind-test, no_kind, not-kind, used-is, is-used, clash-is, is-clash}
-use Rattle.edits.specs.WayUp.{leads-way, way-leads}
+use Rattle.edits.specs.Tests.{kind_is, kind_test, no_kind, not_kind, used_is, is_used_lem, clash_is, is_clash}
+use Rattle.edits.specs.WayUp.{leads_way, way_leads}
 use Rattle.edits.specs.ConsistentView.{EntryLinked, Placed, Counted, Texts, ConsistentView}
-use Rattle.edits.specs.ConsistentViewLaws.{parent-directory}
+use Rattle.edits.specs.ConsistentViewLaws.{parent_directory_lem}
 use Rattle.edits.specs.Formed.{Formed}
 
 -- the types of an inode in use
@@ -33,8 +33,8 @@ by_kind {A} k l n a b c = go (ℕ_discrete k 1) (ℕ_discrete k 2)
     go (no x) (no y) = c (omega arith)
 
 -- numbers of which neither is the smaller one
-no-smaller : (i k : ℕ) → (i < k → ⊥) → (k < i → ⊥) → i ≡ k
-no-smaller i k f g = go (ℕ_discrete i k) (dec_lt i k)
+no_smaller : (i k : ℕ) → (i < k → ⊥) → (k < i → ⊥) → i ≡ k
+no_smaller i k f g = go (ℕ_discrete i k) (dec_lt i k)
   where
     go : Dec (i ≡ k) → Dec (i < k) → i ≡ k
     go (yes e) l = e
@@ -52,9 +52,9 @@ module _ {h : Shape} {s : List ℕ} (f : Bodies h s) where
       let e = ((f.entry j l).used (rw (ne_eqb _ _ u))).linked in
       record {
         below_root = e.below_root;
-        parent = kind-is v _ 2 e.parent;
-        target = used-is v _ e.target;
-        above = λ d. e.up (kind-test v _ 2 d);
+        parent = kind_is v _ 2 e.parent;
+        target = used_is v _ e.target;
+        above = λ d. e.up (kind_test v _ 2 d);
         system = λ n. e.system (no_kind v _ 2 n);
       }
 
@@ -71,13 +71,13 @@ module _ {h : Shape} {s : List ℕ} (f : Bodies h s) where
   unfolding view_of
   symlink i (l, e) = (f.inode i l).symlink e
 
-  mode : (i : ℕ) → IsUsed v i → v.mode i < modeLimit
+  mode : (i : ℕ) → IsUsed v i → v.mode i < mode_limit
   unfolding view_of
   mode i (l, n) =
       let o = f.inode i l in
       by_kind _ o.kind n (λ e. (o.file e).leaf.mode) (λ e. (o.directory e).mode) (λ e. (o.symlink e).leaf.mode)
 
-  within : (i : ℕ) → IsUsed v i → v.links i ≤ linkLimit
+  within : (i : ℕ) → IsUsed v i → v.links i ≤ link_limit
   unfolding view_of
   within i (l, n) =
       let o = f.inode i l in
@@ -85,14 +85,14 @@ module _ {h : Shape} {s : List ℕ} (f : Bodies h s) where
 
   placed : Placed v
   placed = record {
-    top = (directory 0 root).own-parent refl;
+    top = (directory 0 root).own_parent refl;
     root = root;
     entry = linked;
     one_entry = λ i d n. (directory i d).one_entry n;
   }
     where
       root : IsDirectory v 0
-      root = kind-is v 0 2 f.root
+      root = kind_is v 0 2 f.root
 
   counted : Counted v
   unfolding view_of
@@ -109,29 +109,29 @@ module _ {h : Shape} {s : List ℕ} (f : Bodies h s) where
   distinct : (i j : ℕ) → EntryUsed v i → EntryUsed v j → v.parent i ≡ v.parent j → v.name i ≡ v.name j → i ≡ j
   unfolding view_of
   distinct i j (li, ui) (lj, uj) p n =
-      no-smaller i j
-      (λ l. not-both _ (is-clash v i j ui uj p n) (f.distinct i j l lj))
-      (λ l. not-both _ (is-clash v j i uj ui (sym p) (sym n)) (f.distinct j i l li))
+      no_smaller i j
+      (λ l. not_both _ (is_clash v i j ui uj p n) (f.distinct i j l lj))
+      (λ l. not_both _ (is_clash v j i uj ui (sym p) (sym n)) (f.distinct j i l li))
 
   leads : (i : ℕ) → IsDirectory v i → (k : ℕ) × (up v.field k i ≡ 0)
   leads i d = go (ℕ_discrete i 0)
     where
       go : Dec (i ≡ 0) → (k : ℕ) × (up v.field k i ≡ 0)
-      go (yes e) = leads-way v 0 0 i (reaches-goal v 0 0 i e)
-      go (no n) = leads-way v 0 v.inodes i ((directory i d).leads-up n)
+      go (yes e) = leads_way v 0 0 i (reaches_goal v 0 0 i e)
+      go (no n) = leads_way v 0 v.inodes i ((directory i d).leads_up_lem n)
 
   own : (i k : ℕ) → IsSymlink v i → IsSymlink v k → v.field i ≡ v.field k → i ≡ k
-  unfolding textShared
+  unfolding text_shared
   own i k si sk e =
-      no-smaller i k
-      (λ l. not-both _ (and_both _ _ (kind-test v i 3 si) (eq-eqb _ _ e)) (any-not _ k (symlink k sk).own i l))
-      (λ l. not-both _ (and_both _ _ (kind-test v k 3 sk) (eq-eqb _ _ (sym e))) (any-not _ i (symlink i si).own k l))
+      no_smaller i k
+      (λ l. not_both _ (and_both _ _ (kind_test v i 3 si) (eq-eqb _ _ e)) (any_not _ k (symlink k sk).own i l))
+      (λ l. not_both _ (and_both _ _ (kind_test v k 3 sk) (eq-eqb _ _ (sym e))) (any_not _ i (symlink i si).own k l))
 
   owned : (t : ℕ) → TextUsed v t → (i : ℕ) × IsSymlink v i × (v.field i ≡ t)
-  unfolding textLinked view_of
+  unfolding text_linked view_of
   owned t (l, u) =
-      let (i, b, e) = any_at (hasText v t) h.inodes ((f.text t l).linked (rw (ne_eqb _ _ u))) in
-      (i, kind-is v i 3 (and_left (isSymlink v i) _ e), eqb-true _ _ (and_right (isSymlink v i) (eqb (v.field i) t) e))
+      let (i, b, e) = any_at (has_text v t) h.inodes ((f.text t l).linked (rw (ne_eqb _ _ u))) in
+      (i, kind_is v i 3 (and_left (is_symlink v i) _ e), eqb-true _ _ (and_right (is_symlink v i) (eqb (v.field i) t) e))
 
   texts : Texts v
   texts = record {
@@ -142,16 +142,16 @@ module _ {h : Shape} {s : List ℕ} (f : Bodies h s) where
 
   handles : (n : ℕ) → HandleOpen v n → IsUsed v (v.opened n)
   unfolding view_of
-  handles n o = used-is v _ ((f.handle n o.0).opened o.1).used
+  handles n o = used_is v _ ((f.handle n o.0).opened o.1).used
 
-  pub bodies-consistent : ConsistentView v
-  bodies-consistent = record { placed = placed; counted = counted; distinct = distinct; leads = leads; texts = texts; handles = handles }
+  pub bodies_consistent : ConsistentView v
+  bodies_consistent = record { placed = placed; counted = counted; distinct = distinct; leads = leads; texts = texts; handles = handles }
 
-  pub bodies-formed : Formed h s
+  pub bodies_formed : Formed h s
   unfolding view_of
-  bodies-formed = record {
-    free-inode = λ i l. (f.inode i l).free;
-    free-entry = λ j l e. (f.entry j l).free (rw (eq-eqb _ _ e));
+  bodies_formed = record {
+    free_inode = λ i l. (f.inode i l).free;
+    free_entry = λ j l e. (f.entry j l).free (rw (eq-eqb _ _ e));
     entry = λ j l n.
         let u = (f.entry j l).used (rw (ne_eqb _ _ n)) in
         record { short = u.short; padded = u.padded; filled = u.filled; name = u.name };
@@ -174,97 +174,97 @@ module _ {h : Shape} {s : List ℕ} (form : Formed h s) (good : ConsistentView (
     counted = good.counted.entries i l;
   }
 
-  is-file : (i : ℕ) → i < w.inodes → w.kind i ≡ 1 → File w i
-  is-file i l e = record { leaf = is_leaf i (l, (λ z. omega arith), λ z. omega arith); plain = good.counted.plain i (l, e) }
+  is_file : (i : ℕ) → i < w.inodes → w.kind i ≡ 1 → File w i
+  is_file i l e = record { leaf = is_leaf i (l, (λ z. omega arith), λ z. omega arith); plain = good.counted.plain i (l, e) }
 
-  is-directory : (i : ℕ) → IsDirectory w i → Directory w i
-  is-directory i d =
+  is_directory_lem : (i : ℕ) → IsDirectory w i → Directory w i
+  is_directory_lem i d =
       let u : IsUsed w i = (d.0, λ z. omega (arith, d.1)) in
       record {
         mode = good.counted.mode i u;
         within = good.counted.within i u;
         counted = good.counted.children i d;
-        own-parent = λ e. rw e good.placed.top;
+        own_parent = λ e. rw e good.placed.top;
         one_entry = good.placed.one_entry i d;
-        leads-up = λ _. let (k, e) = good.leads i d in way-leads w (parent-directory w good.placed) 0 i k d e;
+        leads_up_lem = λ _. let (k, e) = good.leads i d in way_leads w (parent_directory_lem w good.placed) 0 i k d e;
       }
 
-  is-symlink : (i : ℕ) → IsSymlink w i → Symlink w i
-  unfolding textShared
-  is-symlink i l =
+  is_symlink_lem : (i : ℕ) → IsSymlink w i → Symlink w i
+  unfolding text_shared
+  is_symlink_lem i l =
       let t = good.texts.used i l in
       record {
         leaf = is_leaf i (l.0, (λ z. omega (arith, l.1)), λ z. omega (arith, l.1));
         text = t.0;
         used = rw (ne_eqb _ _ t.1);
         own = any_false _ i (λ k m. refuted _ (λ e. other k m
-            (good.texts.own k i (kind-is w k 3 (and_left (isSymlink w k) _ e)) l (eqb-true _ _ (and_right (isSymlink w k) (eqb (w.field k) (w.field i)) e)))));
+            (good.texts.own k i (kind_is w k 3 (and_left (is_symlink w k) _ e)) l (eqb-true _ _ (and_right (is_symlink w k) (eqb (w.field k) (w.field i)) e)))));
       }
     where
       other : (k : ℕ) → k < i → k ≢ i
       other k m e = omega arith
 
-  is-inode : (i : ℕ) → i < h.inodes → Inode h s i
+  is_inode : (i : ℕ) → i < h.inodes → Inode h s i
   unfolding view_of
-  is-inode i l = record {
+  is_inode i l = record {
     kind = good.counted.kind i l;
-    free = form.free-inode i l;
-    file = is-file i l;
-    directory = λ e. is-directory i (l, e);
-    symlink = λ e. is-symlink i (l, e);
+    free = form.free_inode i l;
+    file = is_file i l;
+    directory = λ e. is_directory_lem i (l, e);
+    symlink = λ e. is_symlink_lem i (l, e);
   }
 
-  is-linked : (j : ℕ) → EntryUsed w j → Linked w j
-  is-linked j u =
+  is_linked : (j : ℕ) → EntryUsed w j → Linked w j
+  is_linked j u =
       let l = good.placed.entry j u in
       record {
-        parent = kind-test w _ 2 l.parent;
-        target = is-used w _ l.target;
+        parent = kind_test w _ 2 l.parent;
+        target = is_used_lem w _ l.target;
         below_root = l.below_root;
-        up = λ d. l.above (kind-is w _ 2 d);
-        system = λ n. l.system (not-kind w _ 2 n);
+        up = λ d. l.above (kind_is w _ 2 d);
+        system = λ n. l.system (not_kind w _ 2 n);
       }
 
-  is-entry : (j : ℕ) → j < h.entries → Entry h s j
+  is_entry : (j : ℕ) → j < h.entries → Entry h s j
   unfolding view_of
-  is-entry j l = record {
-    free = λ u. form.free-entry j l (eqb-true _ _ (not-false _ u));
+  is_entry j l = record {
+    free = λ u. form.free_entry j l (eqb-true _ _ (not-false _ u));
     used = λ u.
-        let n : w.nameLength j ≢ 0 = eqb-false _ _ (not-true _ u) in
+        let n : w.name_length j ≢ 0 = eqb-false _ _ (not-true _ u) in
         let e = form.entry j l n in
-        record { short = e.short; padded = e.padded; filled = e.filled; name = e.name; linked = is-linked j (l, n) };
+        record { short = e.short; padded = e.padded; filled = e.filled; name = e.name; linked = is_linked j (l, n) };
   }
 
-  is-text : (t : ℕ) → t < h.texts → Text h s t
-  unfolding view_of textLinked
-  is-text t l =
+  is_text : (t : ℕ) → t < h.texts → Text h s t
+  unfolding view_of text_linked
+  is_text t l =
       let e = form.text t l in
       record { short = e.short; filled = e.filled; bytes = e.bytes; linked = λ u. owner (eqb-false _ _ (not-true _ u)) }
     where
-      owner : w.textLength t ≢ 0 → textLinked w t ≡ true
+      owner : w.text_length t ≢ 0 → text_linked w t ≡ true
       owner n =
           let (i, k, e) = good.texts.owned t (l, n) in
-          any-hit (hasText w t) h.inodes i k.0 (and_both _ _ (kind-test w i 3 k) (eq-eqb _ _ e))
+          any_hit (has_text w t) h.inodes i k.0 (and_both _ _ (kind_test w i 3 k) (eq-eqb _ _ e))
 
-  is-handle : (n : ℕ) → n < h.handles → Handle h s n
+  is_handle : (n : ℕ) → n < h.handles → Handle h s n
   unfolding view_of
-  is-handle n l =
+  is_handle n l =
       let e = form.handle n l in
       record {
         state = e.state;
         closed = e.closed;
-        opened = λ o. record { second = e.second o; rest = e.rest o; used = is-used w _ (good.handles n (l, o)) };
+        opened = λ o. record { second = e.second o; rest = e.rest o; used = is_used_lem w _ (good.handles n (l, o)) };
       }
 
-  pub consistent-bodies : Bodies h s
+  pub consistent_bodies : Bodies h s
   unfolding view_of
-  consistent-bodies = record {
-    root = kind-test w 0 2 good.placed.root;
-    inode = is-inode;
-    entry = is-entry;
-    distinct = λ i j l m. refuted _ (λ e. let (a, b, p, n) = clash-is w i j e in other i j l (good.distinct i j (omega arith, a) (m, b) p n));
-    text = is-text;
-    handle = is-handle;
+  consistent_bodies = record {
+    root = kind_test w 0 2 good.placed.root;
+    inode = is_inode;
+    entry = is_entry;
+    distinct = λ i j l m. refuted _ (λ e. let (a, b, p, n) = clash_is w i j e in other i j l (good.distinct i j (omega arith, a) (m, b) p n));
+    text = is_text;
+    handle = is_handle;
   }
     where
       other : (i j : ℕ) → i < j → i ≢ j

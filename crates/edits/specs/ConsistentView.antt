@@ -1,9 +1,9 @@
 -- What the records of a consistent image say of each other, as facts over its view, one field for each rule. Assumes nothing.
 use Rattle.std.specs.Prelude.{◌≡◌, ◌≢◌, ℕ, ◌+◌, ◌≤◌, ◌<◌}
 use Rattle.seq.specs.Climb.{up}
-use Rattle.layout.specs.Limits.{linkLimit, modeLimit}
+use Rattle.layout.specs.Limits.{link_limit, mode_limit}
 use Rattle.layout.specs.View.{View}
-use Rattle.tree.specs.Tree.{entriesOf, childDirectories}
+use Rattle.tree.specs.Tree.{entries_of, child_directories}
 use Rattle.edits.specs.Kinds.{IsKind, IsDirectory, IsSymlink, IsUsed, IsLeaf, EntryUsed, TextUsed, HandleOpen}
 
 -- what an entry in use names
@@ -28,7 +28,7 @@ pub record Placed (v : View) : Type 0 where
   -- rules 21 to 23, 29 and 35
   pub entry : (j : ℕ) → EntryUsed v j → EntryLinked v j
   -- rule 28
-  pub one_entry : (i : ℕ) → IsDirectory v i → i ≢ 0 → entriesOf v i ≡ 1
+  pub one_entry : (i : ℕ) → IsDirectory v i → i ≢ 0 → entries_of v i ≡ 1
 
 -- each inode by itself, and its link count
 pub record Counted (v : View) : Type 0 where
@@ -37,15 +37,15 @@ pub record Counted (v : View) : Type 0 where
   -- rule 8
   pub plain : (i : ℕ) → IsKind v i 1 → v.field i ≡ 0
   -- rule 19
-  pub mode : (i : ℕ) → IsUsed v i → v.mode i < modeLimit
+  pub mode : (i : ℕ) → IsUsed v i → v.mode i < mode_limit
   -- rule 31
-  pub children : (i : ℕ) → IsDirectory v i → v.links i ≡ 2 + childDirectories v i
+  pub children : (i : ℕ) → IsDirectory v i → v.links i ≡ 2 + child_directories v i
   -- rule 32
-  pub entries : (i : ℕ) → IsLeaf v i → v.links i ≡ entriesOf v i
+  pub entries : (i : ℕ) → IsLeaf v i → v.links i ≡ entries_of v i
   -- rule 33
   pub linked : (i : ℕ) → IsLeaf v i → 1 ≤ v.links i
   -- rule 34
-  pub within : (i : ℕ) → IsUsed v i → v.links i ≤ linkLimit
+  pub within : (i : ℕ) → IsUsed v i → v.links i ≤ link_limit
 
 -- symlinks and their texts
 pub record Texts (v : View) : Type 0 where

@@ -7,7 +7,7 @@ use Rattle.layout.specs.View.{View}
 pub record SameEntry (v w : View) (j : ℕ) : Type 0 where
   pub parent : w.parent j ≡ v.parent j
   pub target : w.target j ≡ v.target j
-  pub nameLength : w.nameLength j ≡ v.nameLength j
+  pub name_length : w.name_length j ≡ v.name_length j
   pub name : w.name j ≡ v.name j
 
 pub record SameInode (v w : View) (i : ℕ) : Type 0 where

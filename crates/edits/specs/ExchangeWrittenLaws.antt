@@ -6,49 +6,49 @@ use Rattle.std.proofs.Math.Logic.{inr}
 use Rattle.std.proofs.Math.Decide.{ℕ_discrete}
 use Rattle.layout.specs.declared.Shape.{Shape}
 use Rattle.layout.specs.Facts.{Laid}
-use Rattle.layout.specs.Fields.{inodeLinks, textLength}
-use Rattle.layout.specs.View.{View, view_of, inodeAt, entry_at}
+use Rattle.layout.specs.Fields.{inode_links, text_length}
+use Rattle.layout.specs.View.{View, view_of, inode_at, entry_at}
 use Rattle.encode.specs.Facts.{Names}
 use Rattle.encode.specs.Entry.{retargeted}
 use Rattle.consistency.specs.RecordFacts.{Bodies}
-use Rattle.edits.specs.KindsLaws.{directory-used}
+use Rattle.edits.specs.KindsLaws.{directory_used}
 use Rattle.edits.specs.ConsistentView.{ConsistentView}
 use Rattle.edits.specs.Exchanged.{Side, Exchangeable, Swapped, Exchanged}
-use Rattle.edits.specs.ExchangedLaws.{side-directory, side-used, exchanged-consistent}
+use Rattle.edits.specs.ExchangedLaws.{side_directory, side_used, exchanged_consistent}
 use Rattle.edits.specs.Formed.{Formed, InodeFormed, EntryFormed}
-use Rattle.edits.specs.FormedLaws.{formed-changed}
-use Rattle.edits.specs.Bodies.{bodies-consistent, bodies-formed, consistent-bodies}
-use Rattle.edits.specs.PartlyWritten.{same_head, head-form, entry-itself, retargeted-names, names-form}
-use Rattle.edits.specs.WrittenLaws.{same_size, same-entry, same-handle}
+use Rattle.edits.specs.FormedLaws.{formed_changed}
+use Rattle.edits.specs.Bodies.{bodies_consistent, bodies_formed, consistent_bodies}
+use Rattle.edits.specs.PartlyWritten.{same_head, head_form, entry_itself, retargeted_names, names_form}
+use Rattle.edits.specs.WrittenLaws.{same_size, same_entry, same_handle}
 use Rattle.edits.specs.ExchangeWritten.{SideWritten, ExchangeWritten}
 
 -- one side: the slot with its new target, parent and name as they are
 module _ {h : Shape} {s : List ℕ} {here inode own other there : ℕ} (laid : Laid h s) (f : Bodies h s) (a : Side (view_of h s) here inode own other there)
     (below : other < h.inodes) where
-  pub side-names : Names (retargeted other (entry_at h s here)) h.width own other ((view_of h s).name here)
-  side-names =
+  pub side_names : Names (retargeted other (entry_at h s here)) h.width own other ((view_of h s).name here)
+  side_names =
       subst (λ (p : ℕ). Names (retargeted other (entry_at h s here)) h.width p other ((view_of h s).name here)) a.parent
-      (retargeted-names laid (bodies-formed f) here a.used other below)
+      (retargeted_names laid (bodies_formed f) here a.used other below)
 
   module _ {t : List ℕ} (m : SideWritten h s t here inode own other there) where
-    slot-names : Names (entry_at h t here) h.width own other ((view_of h s).name here)
-    slot-names = rw m.slot side-names
+    slot_names : Names (entry_at h t here) h.width own other ((view_of h s).name here)
+    slot_names = rw m.slot side_names
 
-    slot-used : (view_of h t).nameLength here ≢ 0
+    slot_used : (view_of h t).name_length here ≢ 0
     unfolding view_of
-    slot-used z = a.used.1 ((entry-itself laid (bodies-formed f) here a.used).name-length ∙ sym slot-names.name-length ∙ z)
+    slot_used z = a.used.1 ((entry_itself laid (bodies_formed f) here a.used).name_length_lem ∙ sym slot_names.name_length_lem ∙ z)
 
-    slot-form : EntryFormed h s t here
+    slot_form : EntryFormed h s t here
     unfolding view_of
-    slot-form = inr ((λ z. absurd (slot-used z)), λ _. names-form h t here slot-names ((bodies-formed f).entry here a.used.0 a.used.1).name)
+    slot_form = inr ((λ z. absurd (slot_used z)), λ _. names_form h t here slot_names ((bodies_formed f).entry here a.used.0 a.used.1).name)
 
-    side-swapped : Swapped (view_of h s) (view_of h t) here inode own other there
+    side_swapped : Swapped (view_of h s) (view_of h t) here inode own other there
     unfolding view_of
-    side-swapped = record {
-      used = slot-used;
-      parent = slot-names.parent;
-      target = slot-names.target;
-      name = slot-names.name;
+    side_swapped = record {
+      used = slot_used;
+      parent = slot_names.parent;
+      target = slot_names.target;
+      name = slot_names.name;
       reparented = m.reparented;
       recounted = m.recounted;
     }
@@ -62,59 +62,59 @@ module _ {h : Shape} {s t : List ℕ} {old new moved from replaced into : ℕ} (
   w = view_of h t
 
   good : ConsistentView v
-  good = bodies-consistent f
+  good = bodies_consistent f
 
-  moved-below : moved < h.inodes
+  moved_below : moved < h.inodes
   unfolding view_of
-  moved-below = (side-used good ok.first).0
+  moved_below = (side_used good ok.first).0
 
-  replaced-below : replaced < h.inodes
+  replaced_below : replaced < h.inodes
   unfolding view_of
-  replaced-below = (side-used good ok.second).0
+  replaced_below = (side_used good ok.second).0
 
-  links-kept : (i : ℕ) → i < h.inodes → i ≢ from → i ≢ into → w.links i ≡ v.links i
+  links_kept : (i : ℕ) → i < h.inodes → i ≢ from → i ≢ into → w.links i ≡ v.links i
   unfolding view_of
-  links-kept i l not-from not-into = go (ℕ_discrete i moved) (ℕ_discrete i replaced)
+  links_kept i l not-from not-into = go (ℕ_discrete i moved) (ℕ_discrete i replaced)
     where
       go : Dec (i ≡ moved) → Dec (i ≡ replaced) → w.links i ≡ v.links i
       go (yes e) z = rw e m.first.links
       go (no n) (yes e) = rw e m.second.links
-      go (no n) (no k) = ap inodeLinks (m.inode i l n not-from not-into k)
+      go (no n) (no k) = ap inode_links (m.inode i l n not-from not-into k)
 
-  pub written-exchanged : Exchanged v w old new moved from replaced into
+  pub written_exchanged : Exchanged v w old new moved from replaced into
   unfolding view_of
-  written-exchanged = record {
-    first = side-swapped laid f ok.first replaced-below m.first;
-    second = side-swapped laid f ok.second moved-below m.second;
+  written_exchanged = record {
+    first = side_swapped laid f ok.first replaced_below m.first;
+    second = side_swapped laid f ok.second moved_below m.second;
     size = same_size h s t;
-    entry = λ j l a b. same-entry h s t j (m.entry j l a b);
+    entry = λ j l a b. same_entry h s t j (m.entry j l a b);
     same = λ i l. same_head h s t i (m.head i l);
     field = m.field;
-    links = links-kept;
-    text = λ x l. ap textLength (m.text x l);
-    handle = λ n l. same-handle h s t n (m.handle n l);
+    links = links_kept;
+    text = λ x l. ap text_length (m.text x l);
+    handle = λ n l. same_handle h s t n (m.handle n l);
   }
 
   -- each record is as before, or well formed; the inodes that an exchange writes were in use
-  inode-form : (i : ℕ) → i < h.inodes → InodeFormed h s t i
-  inode-form i l = head-form h s t i (m.head i l) free
+  inode_form : (i : ℕ) → i < h.inodes → InodeFormed h s t i
+  inode_form i l = head_form h s t i (m.head i l) free
     where
-      free : v.kind i ≡ 0 → inodeAt h t i ≡ inodeAt h s i
+      free : v.kind i ≡ 0 → inode_at h t i ≡ inode_at h s i
       free z =
-          m.inode i l (λ e. (side-used good ok.first).1 (rw e at z)) (λ e. (directory-used v from (side-directory good ok.first)).1 (rw e at z))
-          (λ e. (directory-used v into (side-directory good ok.second)).1 (rw e at z)) (λ e. (side-used good ok.second).1 (rw e at z))
+          m.inode i l (λ e. (side_used good ok.first).1 (rw e at z)) (λ e. (directory_used v from (side_directory good ok.first)).1 (rw e at z))
+          (λ e. (directory_used v into (side_directory good ok.second)).1 (rw e at z)) (λ e. (side_used good ok.second).1 (rw e at z))
 
-  entry-form : (j : ℕ) → j < h.entries → EntryFormed h s t j
-  entry-form j l = go (ℕ_discrete j old) (ℕ_discrete j new)
+  entry_form : (j : ℕ) → j < h.entries → EntryFormed h s t j
+  entry_form j l = go (ℕ_discrete j old) (ℕ_discrete j new)
     where
       go : Dec (j ≡ old) → Dec (j ≡ new) → EntryFormed h s t j
-      go (yes e) z = rw e (slot-form laid f ok.first replaced-below m.first)
-      go (no n) (yes e) = rw e (slot-form laid f ok.second moved-below m.second)
+      go (yes e) z = rw e (slot_form laid f ok.first replaced_below m.first)
+      go (no n) (yes e) = rw e (slot_form laid f ok.second moved_below m.second)
       go (no n) (no k) = inl (m.entry j l n k)
 
-  pub exchange-formed : Formed h t
-  exchange-formed = formed-changed h s t (bodies-formed f) inode-form entry-form (λ x l. inl (m.text x l)) (λ n l. inl (m.handle n l))
+  pub exchange_formed : Formed h t
+  exchange_formed = formed_changed h s t (bodies_formed f) inode_form entry_form (λ x l. inl (m.text x l)) (λ n l. inl (m.handle n l))
 
   -- The bodies of the finished image are consistent.
-  pub exchange-written-consistent : Bodies h t
-  exchange-written-consistent = consistent-bodies exchange-formed (exchanged-consistent good ok written-exchanged)
+  pub exchange_written_consistent : Bodies h t
+  exchange_written_consistent = consistent_bodies exchange_formed (exchanged_consistent good ok written_exchanged)

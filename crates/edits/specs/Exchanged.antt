@@ -2,9 +2,9 @@
 -- Slot `old` of directory `from` names inode `moved`, slot `new` of directory `into` names `replaced`; afterwards each slot names the other's inode.
 use Rattle.std.specs.Prelude.{◌≡◌, ◌≢◌, ℕ, ◌+◌, ◌<◌}
 use Rattle.seq.specs.Climb.{up}
-use Rattle.layout.specs.Limits.{linkLimit}
+use Rattle.layout.specs.Limits.{link_limit}
 use Rattle.layout.specs.View.{View}
-use Rattle.tree.specs.Tree.{childDirectories}
+use Rattle.tree.specs.Tree.{child_directories}
 use Rattle.edits.specs.Kinds.{IsDirectory, EntryUsed}
 use Rattle.edits.specs.Edit.{SameEntry, SameInode, SameHandle, SameSize}
 
@@ -15,9 +15,9 @@ pub record Side (v : View) (here inode own other there : ℕ) : Type 0 where
   pub parent : v.parent here ≡ own
   pub target : v.target here ≡ inode
   -- step 7: the inode is not the directory that it goes to, nor above it
-  pub not-above : (k : ℕ) → up v.field k there ≢ inode
+  pub not_above : (k : ℕ) → up v.field k there ≢ inode
   -- step 12: that directory can have one more child directory, if it gets one and gives none
-  pub room : IsDirectory v inode → (IsDirectory v other → ⊥) → own ≢ there → v.links there ≢ linkLimit
+  pub room : IsDirectory v inode → (IsDirectory v other → ⊥) → own ≢ there → v.links there ≢ link_limit
 
 -- Both sides, and the refusals that did not come.
 pub record Exchangeable (v : View) (old new moved from replaced into : ℕ) : Type 0 where
@@ -31,14 +31,14 @@ pub record Exchangeable (v : View) (old new moved from replaced into : ℕ) : Ty
 -- Of the finished image: one side.
 pub record Swapped (v w : View) (here inode own other there : ℕ) : Type 0 where
   -- the slot names the other inode, its parent and its name stay
-  pub used : w.nameLength here ≢ 0
+  pub used : w.name_length here ≢ 0
   pub parent : w.parent here ≡ own
   pub target : w.target here ≡ other
   pub name : w.name here ≡ v.name here
   -- a directory that goes to the other side gets its new parent
   pub reparented : IsDirectory v inode → w.field inode ≡ there
   -- the side's directory is counted afresh
-  pub recounted : w.links own ≡ 2 + childDirectories w own
+  pub recounted : w.links own ≡ 2 + child_directories w own
 
 -- Both sides, and all else as before.
 pub record Exchanged (v w : View) (old new moved from replaced into : ℕ) : Type 0 where
@@ -50,5 +50,5 @@ pub record Exchanged (v w : View) (old new moved from replaced into : ℕ) : Typ
   -- any inode but a directory that changed sides keeps its field, any but the two parents its link count
   pub field : (i : ℕ) → i < v.inodes → (i ≡ moved → IsDirectory v moved → ⊥) → (i ≡ replaced → IsDirectory v replaced → ⊥) → w.field i ≡ v.field i
   pub links : (i : ℕ) → i < v.inodes → i ≢ from → i ≢ into → w.links i ≡ v.links i
-  pub text : (t : ℕ) → t < v.texts → w.textLength t ≡ v.textLength t
+  pub text : (t : ℕ) → t < v.texts → w.text_length t ≡ v.text_length t
   pub handle : (n : ℕ) → n < v.handles → SameHandle v w n

@@ -4,14 +4,14 @@ use Rattle.layout.specs.declared.Shape.{Shape}
 use Rattle.layout.specs.View.{view_of}
 use Rattle.consistency.specs.RecordFacts.{Bodies}
 use Rattle.edits.specs.Moved.{Allowed, Moved}
-use Rattle.edits.specs.Finished.{moved-consistent}
+use Rattle.edits.specs.Finished.{moved_consistent}
 use Rattle.edits.specs.Formed.{Formed}
-use Rattle.edits.specs.Bodies.{bodies-consistent, consistent-bodies}
+use Rattle.edits.specs.Bodies.{bodies_consistent, consistent_bodies}
 
-pub rename-consistent : {h : Shape} {s t : List ℕ} {old new moved from into : ℕ} {called : List ℕ}
+pub rename_consistent : {h : Shape} {s t : List ℕ} {old new moved from into : ℕ} {called : List ℕ}
     → Bodies h s
     → Allowed (view_of h s) old new moved from into called
     → Moved (view_of h s) (view_of h t) old new moved from into called
     → Formed h t
     → Bodies h t
-rename-consistent f ok m form = consistent-bodies form (moved-consistent (bodies-consistent f) ok m)
+rename_consistent f ok m form = consistent_bodies form (moved_consistent (bodies_consistent f) ok m)

@@ -21,10 +21,10 @@ IsLeaf v i = (i < v.inodes) × (v.kind i ≢ 0) × (v.kind i ≢ 2)
 
 -- an entry in use, a text in use, an open handle
 abbrev pub EntryUsed : View → ℕ → Type 0
-EntryUsed v j = (j < v.entries) × (v.nameLength j ≢ 0)
+EntryUsed v j = (j < v.entries) × (v.name_length j ≢ 0)
 
 abbrev pub TextUsed : View → ℕ → Type 0
-TextUsed v t = (t < v.texts) × (v.textLength t ≢ 0)
+TextUsed v t = (t < v.texts) × (v.text_length t ≢ 0)
 
 abbrev pub HandleOpen : View → ℕ → Type 0
 HandleOpen v n = (n < v.handles) × (v.state n ≢ 0)

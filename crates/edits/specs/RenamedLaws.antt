@@ -5,125 +5,125 @@ use Rattle.std.proofs.Common.{sym, ◌∙◌, inl, inr, ⊎_elim, arith}
 use Rattle.std.proofs.Math.Bool.{or-true}
 use borrow.Author.Tests.{eqb-true, eqb-false, eq-eqb, ne_eqb, not-true}
 use Rattle.seq.specs.Truth.{refuted, and_left, and_right, and_both}
-use Rattle.seq.specs.CountLaws.{count-zero}
-use Rattle.layout.specs.View.{View, isDirectory}
-use Rattle.tree.specs.Tree.{targets, entriesOf, childDirectories}
+use Rattle.seq.specs.CountLaws.{count_zero}
+use Rattle.layout.specs.View.{View, is_directory}
+use Rattle.tree.specs.Tree.{targets, entries_of, child_directories}
 use Rattle.edits.specs.Kinds.{IsDirectory, IsSymlink, EntryUsed}
-use Rattle.edits.specs.Tests.{kind-is, kind-test, is-targets}
+use Rattle.edits.specs.Tests.{kind_is, kind_test, is_targets}
 use Rattle.edits.specs.ConsistentView.{ConsistentView}
 use Rattle.edits.specs.Edit.{SameInode, Edit}
-use Rattle.edits.specs.EditLaws.{entries-edited, children-edited}
+use Rattle.edits.specs.EditLaws.{entries_edited, children_edited}
 use Rattle.edits.specs.Moved.{Allowed, Replaced, Gone, Moved}
-use Rattle.edits.specs.Finished.{slots-differ, from-stays, into-stays, moved-stays, moved-consistent}
-use Rattle.edits.specs.Renamed.{editedView, isReplaced, isGone, textGone, movedView}
+use Rattle.edits.specs.Finished.{slots_differ, from_stays, into_stays, moved_stays, moved_consistent}
+use Rattle.edits.specs.Renamed.{edited_view, is_replaced, is_gone, text_gone, moved_view}
 
 module _ {v : View} {old new moved from into : ℕ} {called : List ℕ} (good : ConsistentView v) (ok : Allowed v old new moved from into called)
     (nonempty : length called ≢ 0) where
   abbrev e : View
-  e = editedView v old new moved from into called
+  e = edited_view v old new moved from into called
 
   abbrev w : View
-  w = movedView v old new moved from into called
+  w = moved_view v old new moved from into called
 
   abbrev replaced : ℕ → Bool
-  replaced = isReplaced v old new moved from into called
+  replaced = is_replaced v old new moved from into called
 
   abbrev gone : ℕ → Bool
-  gone = isGone v old new moved from into called
+  gone = is_gone v old new moved from into called
 
   -- the recount does not see what becomes of the inodes
   recounted : Edit e w []
-  unfolding editedView movedView
+  unfolding edited_view moved_view
   recounted = record {
     size = record { inodes = refl; entries = refl; texts = refl; handles = refl };
     places = tt;
-    entry = λ j _ _. record { parent = refl; target = refl; nameLength = refl; name = refl };
+    entry = λ j _ _. record { parent = refl; target = refl; name_length = refl; name = refl };
   }
 
-  entries-same : (i : ℕ) → entriesOf w i ≡ entriesOf e i
-  entries-same i = omega (arith, entries-edited recounted i)
+  entries_same : (i : ℕ) → entries_of w i ≡ entries_of e i
+  entries_same i = omega (arith, entries_edited recounted i)
 
   -- the tests as facts
-  replaced-is : (i : ℕ) → replaced i ≡ true → Replaced v new i
-  replaced-is i h =
-      ((ok.new-below, eqb-false _ _ (not-true (eqb (v.nameLength new) 0) (search (and_left, and_right)))), eqb-true _ _ (search (and_left, and_right)))
+  replaced_is : (i : ℕ) → replaced i ≡ true → Replaced v new i
+  replaced_is i h =
+      ((ok.new_below, eqb-false _ _ (not-true (eqb (v.name_length new) 0) (search (and_left, and_right)))), eqb-true _ _ (search (and_left, and_right)))
 
-  is-replaced : (i : ℕ) → Replaced v new i → replaced i ≡ true
-  is-replaced i (u, t) = rw (ne_eqb _ _ u.1, eq-eqb _ _ t)
+  is_replaced_lem : (i : ℕ) → Replaced v new i → replaced i ≡ true
+  is_replaced_lem i (u, t) = rw (ne_eqb _ _ u.1, eq-eqb _ _ t)
 
-  not-replaced : (i : ℕ) → (Replaced v new i → ⊥) → replaced i ≡ false
-  not-replaced i n = refuted (replaced i) (λ h. n (replaced-is i h))
+  not_replaced : (i : ℕ) → (Replaced v new i → ⊥) → replaced i ≡ false
+  not_replaced i n = refuted (replaced i) (λ h. n (replaced_is i h))
 
-  gone-is : (i : ℕ) → gone i ≡ true → Gone v w new i
-  gone-is i h = (replaced-is i (and_left (replaced i) _ h), entries-same i ∙ eqb-true _ _ (and_right (replaced i) _ h))
+  gone_is : (i : ℕ) → gone i ≡ true → Gone v w new i
+  gone_is i h = (replaced_is i (and_left (replaced i) _ h), entries_same i ∙ eqb-true _ _ (and_right (replaced i) _ h))
 
-  is-gone : (i : ℕ) → Gone v w new i → gone i ≡ true
-  is-gone i (r, z) = and_both (replaced i) _ (is-replaced i r) (eq-eqb _ _ (sym (entries-same i) ∙ z))
+  is_gone_lem : (i : ℕ) → Gone v w new i → gone i ≡ true
+  is_gone_lem i (r, z) = and_both (replaced i) _ (is_replaced_lem i r) (eq-eqb _ _ (sym (entries_same i) ∙ z))
 
-  not-gone : (i : ℕ) → (Gone v w new i → ⊥) → gone i ≡ false
-  not-gone i n = refuted (gone i) (λ h. n (gone-is i h))
+  not_gone : (i : ℕ) → (Gone v w new i → ⊥) → gone i ≡ false
+  not_gone i n = refuted (gone i) (λ h. n (gone_is i h))
 
   -- an inode that is not freed
   same : (i : ℕ) → (Gone v w new i → ⊥) → SameInode v w i
-  unfolding movedView
-  same i n = let z = not-gone i n in record { kind = rw z; system = rw z; mode = rw z }
+  unfolding moved_view
+  same i n = let z = not_gone i n in record { kind = rw z; system = rw z; mode = rw z }
 
-  named-kept : (j : ℕ) → EntryUsed e j → Gone v w new (e.target j) → ⊥
-  unfolding entriesOf
-  named-kept j l g = count-zero (targets e _) e.entries (sym (entries-same _) ∙ g.1) j l.0 (is-targets e _ j l.1 refl)
+  named_kept : (j : ℕ) → EntryUsed e j → Gone v w new (e.target j) → ⊥
+  unfolding entries_of
+  named_kept j l g = count_zero (targets e _) e.entries (sym (entries_same _) ∙ g.1) j l.0 (is_targets e _ j l.1 refl)
 
-  children-same : (d : ℕ) → childDirectories w d ≡ childDirectories e d
-  unfolding editedView
-  children-same d = omega (arith, children-edited recounted (λ j _ l. (same _ (named-kept j l)).kind) d)
+  children_same : (d : ℕ) → child_directories w d ≡ child_directories e d
+  unfolding edited_view
+  children_same d = omega (arith, children_edited recounted (λ j _ l. (same _ (named_kept j l)).kind) d)
 
   -- the parents are not replaced
-  parent-stays : (i : ℕ) → (i ≡ from) ⊎ (i ≡ into) → Replaced v new i → ⊥
-  parent-stays i h r = ⊎_elim (λ z. from-stays good ok (rw z at r)) (λ z. into-stays good ok (rw z at r)) h
+  parent_stays : (i : ℕ) → (i ≡ from) ⊎ (i ≡ into) → Replaced v new i → ⊥
+  parent_stays i h r = ⊎_elim (λ z. from_stays good ok (rw z at r)) (λ z. into_stays good ok (rw z at r)) h
 
-  is-parent : (i : ℕ) → (i ≡ from) ⊎ (i ≡ into) → (eqb i from || eqb i into) ≡ true
-  is-parent i h = ⊎_elim (λ (z : i ≡ from). rw (eq-eqb i from z)) (λ (z : i ≡ into). rw (eq-eqb i into z, or-true)) h
+  is_parent : (i : ℕ) → (i ≡ from) ⊎ (i ≡ into) → (eqb i from || eqb i into) ≡ true
+  is_parent i h = ⊎_elim (λ (z : i ≡ from). rw (eq-eqb i from z)) (λ (z : i ≡ into). rw (eq-eqb i into z, or-true)) h
 
-  no-parent : (i : ℕ) → i ≢ from → i ≢ into → (eqb i from || eqb i into) ≡ false
-  no-parent i a b = rw (ne_eqb _ _ a, ne_eqb _ _ b)
+  no_parent : (i : ℕ) → i ≢ from → i ≢ into → (eqb i from || eqb i into) ≡ false
+  no_parent i a b = rw (ne_eqb _ _ a, ne_eqb _ _ b)
 
-  not-reparented : (i : ℕ) → (i ≡ moved → IsDirectory v moved → ⊥) → (eqb i moved && isDirectory v moved) ≡ false
-  not-reparented i n =
-      refuted _ (λ h. n (eqb-true _ _ (and_left (eqb i moved) _ h)) (kind-is v moved 2 (and_right (eqb i moved) (isDirectory v moved) h)))
+  not_reparented : (i : ℕ) → (i ≡ moved → IsDirectory v moved → ⊥) → (eqb i moved && is_directory v moved) ≡ false
+  not_reparented i n =
+      refuted _ (λ h. n (eqb-true _ _ (and_left (eqb i moved) _ h)) (kind_is v moved 2 (and_right (eqb i moved) (is_directory v moved) h)))
 
-  text-kept : (t : ℕ) → ((i : ℕ) → Gone v w new i → IsSymlink v i → v.field i ≢ t) → textGone v old new moved from into called t ≡ false
-  text-kept t n =
-      refuted _ (λ h. n (v.target new) (gone-is _ (search (and_left, and_right))) (kind-is v _ 3 (search (and_left, and_right))) (eqb-true _ _ (search (and_left, and_right))))
+  text_kept : (t : ℕ) → ((i : ℕ) → Gone v w new i → IsSymlink v i → v.field i ≢ t) → text_gone v old new moved from into called t ≡ false
+  text_kept t n =
+      refuted _ (λ h. n (v.target new) (gone_is _ (search (and_left, and_right))) (kind_is v _ 3 (search (and_left, and_right))) (eqb-true _ _ (search (and_left, and_right))))
 
-  pub renamed-moved : Moved v w old new moved from into called
-  unfolding editedView movedView
-  renamed-moved = record {
+  pub renamed_moved : Moved v w old new moved from into called
+  unfolding edited_view moved_view
+  renamed_moved = record {
     size = record { inodes = refl; entries = refl; texts = refl; handles = refl };
     entry = λ j _ a b.
         let x = ne_eqb _ _ a in
         let y = ne_eqb _ _ b in
-        record { parent = rw (y, x); target = rw (y, x); nameLength = rw (y, x); name = rw (y, x) };
-    cleared = rw (ne_eqb _ _ (slots-differ good ok), eq-eqb old old refl);
+        record { parent = rw (y, x); target = rw (y, x); name_length = rw (y, x); name = rw (y, x) };
+    cleared = rw (ne_eqb _ _ (slots_differ good ok), eq-eqb old old refl);
     used = λ z. nonempty (rw (eq-eqb new new refl) at z);
     parent = rw (eq-eqb new new refl);
     target = rw (eq-eqb new new refl);
     name = rw (eq-eqb new new refl);
-    freed = λ i _ g. rw (is-gone i g);
+    freed = λ i _ g. rw (is_gone_lem i g);
     same = λ i _. same i;
-    reparented = λ d. rw (not-gone moved (λ g. moved-stays good ok g.0), eq-eqb moved moved refl, kind-test v moved 2 d);
-    field = λ i _ n r. rw (not-gone i n, not-reparented i r);
-    parents = λ i _ h. rw (not-gone i (λ g. parent-stays i h g.0), is-parent i h) (ap (λ n. 2 + n) (sym (children-same i)));
+    reparented = λ d. rw (not_gone moved (λ g. moved_stays good ok g.0), eq-eqb moved moved refl, kind_test v moved 2 d);
+    field = λ i _ n r. rw (not_gone i n, not_reparented i r);
+    parents = λ i _ h. rw (not_gone i (λ g. parent_stays i h g.0), is_parent i h) (ap (λ n. 2 + n) (sym (children_same i)));
     replaced = λ i _ r n.
-        rw (not-gone i n, no-parent i (λ z. parent-stays i (inl z) r) (λ z. parent-stays i (inr z) r), is-replaced i r) (sym (entries-same i));
-    links = λ i _ a b n. rw (not-gone i (λ g. n g.0), no-parent i a b, not-replaced i n);
-    text = λ t _ n. rw (text-kept t n);
-    text-freed = text-freed;
+        rw (not_gone i n, no_parent i (λ z. parent_stays i (inl z) r) (λ z. parent_stays i (inr z) r), is_replaced_lem i r) (sym (entries_same i));
+    links = λ i _ a b n. rw (not_gone i (λ g. n g.0), no_parent i a b, not_replaced i n);
+    text = λ t _ n. rw (text_kept t n);
+    text_freed = text_freed;
     handle = λ _ _. record { state = refl; opened = refl };
   }
     where
-      text-freed : (i : ℕ) → Gone v w new i → IsSymlink v i → w.textLength (v.field i) ≡ 0
-      text-freed i ((u, t), z) l =
-          rw (is-gone (v.target new) ((u, refl), ap (entriesOf w) t ∙ z), kind-test v (v.target new) 3 (rw t l), eq-eqb _ _ (ap v.field t))
+      text_freed : (i : ℕ) → Gone v w new i → IsSymlink v i → w.text_length (v.field i) ≡ 0
+      text_freed i ((u, t), z) l =
+          rw (is_gone_lem (v.target new) ((u, refl), ap (entries_of w) t ∙ z), kind_test v (v.target new) 3 (rw t l), eq-eqb _ _ (ap v.field t))
 
   -- The finished view of a rename is consistent.
-  pub renamed-consistent : ConsistentView w
-  renamed-consistent = moved-consistent good ok renamed-moved
+  pub renamed_consistent : ConsistentView w
+  renamed_consistent = moved_consistent good ok renamed_moved

@@ -1,12 +1,12 @@
 // A directory entry, written whole or with another target.
 ghost use Rattle.std.specs.Prelude.{◌≡◌, ◌+◌, ◌<◌, ◌≤◌, length};
-ghost use Rattle.layout.specs.Limits.{entrySize, nameOffset};
-ghost use Rattle.encode.specs.Entry.{entryBytes, retargeted};
+ghost use Rattle.layout.specs.Limits.{entry_size, name_offset};
+ghost use Rattle.encode.specs.Entry.{entry_bytes, retargeted};
 
 // Makes the whole record an entry of this name.
 pub fn write(r: &mut [u8], parent: usize, target: usize, name: &[u8])
-    requires { (nameOffset + length name.now ≤ length r.old) × (length name.now < 256) }
-    ensures { r.new ≡ entryBytes (length r.old) parent target name.now }
+    requires { (name_offset + length name.now ≤ length r.old) × (length name.now < 256) }
+    ensures { r.new ≡ entry_bytes (length r.old) parent target name.now }
 {
     let head = [
         (parent % 256) as u8,
@@ -24,7 +24,7 @@ pub fn write(r: &mut [u8], parent: usize, target: usize, name: &[u8])
 }
 
 pub fn set_target(r: &mut [u8], target: usize)
-    requires { entrySize ≤ length r.old }
+    requires { entry_size ≤ length r.old }
     ensures { r.new ≡ retargeted target r.old }
 {
     crate::number::put16(r, 2, target);

@@ -1,7 +1,7 @@
 // The journal record as one value: read, tested and written.
 ghost use Rattle.std.specs.Prelude.{◌≡◌, ◌≤◌, length};
-ghost use Rattle.layout.specs.Limits.{journalSize};
-ghost use Rattle.encode.specs.Journal.{journalOf, journalFormed, journalHead, journalBytes};
+ghost use Rattle.layout.specs.Limits.{journal_size};
+ghost use Rattle.encode.specs.Journal.{journal_of, journal_formed, journal_head, journal_bytes};
 ghost use Rattle.encode.specs.Facts.{InRange};
 
 // The kinds of operations.
@@ -26,8 +26,8 @@ pub struct Journal {
 }
 
 pub fn read(r: &[u8]) -> Journal
-    requires { journalSize ≤ length r.now }
-    ensures { (result ≡ journalOf r.now) × InRange result }
+    requires { journal_size ≤ length r.now }
+    ensures { (result ≡ journal_of r.now) × InRange result }
 {
     Journal {
         kind: r[1],
@@ -43,8 +43,8 @@ pub fn read(r: &[u8]) -> Journal
 
 // Whether the record is marked as pending and the zeros that it has to have are there.
 pub fn formed(r: &[u8]) -> bool
-    requires { journalSize ≤ length r.now }
-    ensures { result ≡ journalFormed r.now }
+    requires { journal_size ≤ length r.now }
+    ensures { result ≡ journal_formed r.now }
 {
     if r[0] != 1 {
         return false;
@@ -57,7 +57,7 @@ pub fn formed(r: &[u8]) -> bool
 
 // The sixteen bytes in front of the time.
 fn head(j: Journal) -> [u8; 16]
-    ensures { result ≡ journalHead j }
+    ensures { result ≡ journal_head j }
 {
     [
         1,
@@ -81,8 +81,8 @@ fn head(j: Journal) -> [u8; 16]
 
 // Makes the whole record that of a pending operation.
 pub fn write(r: &mut [u8], j: Journal)
-    requires { length r.old ≡ journalSize }
-    ensures { r.new ≡ journalBytes j }
+    requires { length r.old ≡ journal_size }
+    ensures { r.new ≡ journal_bytes j }
 {
     let front = head(j);
     crate::record::clear(r);

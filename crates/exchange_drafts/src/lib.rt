@@ -3,10 +3,10 @@
 ghost use Rattle.std.specs.Prelude.{◌≡◌, ◌≤◌, ◌<◌, length};
 ghost use Rattle.layout.specs.Facts.{Laid};
 ghost use Rattle.layout.specs.View.{view_of};
-ghost use Rattle.plan.specs.Form.{planBytes};
+ghost use Rattle.plan.specs.Form.{plan_bytes};
 ghost use Rattle.plan.specs.Filled.{Filled};
 ghost use Rattle.exchanges.specs.InImage.{BothInImage};
-ghost use Rattle.exchange_drafts.specs.PendingExchange.{bothInRange, bothDifferent, slotStands, slotsStand, exchangeFits, finishingExchange, exchangeDraft};
+ghost use Rattle.exchange_drafts.specs.PendingExchange.{both_in_range, both_different, slot_stands, slots_stand, exchange_fits, finishing_exchange, exchange_draft};
 ghost use Rattle.rename_drafts.specs.Drafted.{Drafted};
 
 use encode::journal::Journal;
@@ -15,7 +15,7 @@ use recounts::Move;
 use rename_drafts::drafted::Draft;
 
 fn in_range(h: Shape, j: Journal) -> bool
-    ensures { result ≡ bothInRange h j }
+    ensures { result ≡ both_in_range h j }
 {
     if h.entries <= j.old {
         return false;
@@ -33,7 +33,7 @@ fn in_range(h: Shape, j: Journal) -> bool
 }
 
 fn different(j: Journal) -> bool
-    ensures { result ≡ bothDifferent j }
+    ensures { result ≡ both_different j }
 {
     if !rename_drafts::different(j) {
         return false;
@@ -44,7 +44,7 @@ fn different(j: Journal) -> bool
 // Whether a slot is in use, and targets either inode.
 fn slot_stands(image: &[u8], h: Shape, j: Journal, slot: usize) -> bool
     requires { Laid h image.now × (slot < h.entries) }
-    ensures { result ≡ slotStands (view_of h image.now) j slot }
+    ensures { result ≡ slot_stands (view_of h image.now) j slot }
 {
     let e = layout::records::entry(image, h, slot);
     if layout::entry::name_length(e) == 0 {
@@ -60,7 +60,7 @@ fn slot_stands(image: &[u8], h: Shape, j: Journal, slot: usize) -> bool
 // Whether both do, and lie in the old parent and in a directory that is neither inode.
 fn slots_stand(image: &[u8], h: Shape, j: Journal) -> bool
     requires { Laid h image.now × (j.old < h.entries) × (j.new < h.entries) }
-    ensures { result ≡ slotsStand (view_of h image.now) j }
+    ensures { result ≡ slots_stand (view_of h image.now) j }
 {
     if !slot_stands(image, h, j, j.old) {
         return false;
@@ -78,7 +78,7 @@ fn slots_stand(image: &[u8], h: Shape, j: Journal) -> bool
 // Whether the record fits the image.
 fn fits(image: &[u8], h: Shape, j: Journal) -> bool
     requires { Laid h image.now }
-    ensures { result ≡ exchangeFits h image.now j }
+    ensures { result ≡ exchange_fits h image.now j }
 {
     if !in_range(h, j) {
         return false;
@@ -94,8 +94,8 @@ fn fits(image: &[u8], h: Shape, j: Journal) -> bool
 
 // The rows that finish the exchange.
 fn finish(plan: &mut [u8], image: &[u8], h: Shape, m: Move) -> usize
-    requires { (planBytes ≤ length plan.old) × Laid h image.now × BothInImage h m }
-    ensures { Filled h plan.old 0 (finishingExchange h image.now m) plan.new result }
+    requires { (plan_bytes ≤ length plan.old) × Laid h image.now × BothInImage h m }
+    ensures { Filled h plan.old 0 (finishing_exchange h image.now m) plan.new result }
 {
     let at = exchanges::rows::put(plan, 0, image, h, m);
     results::rows::put_clear(plan, at, image, h);
@@ -104,8 +104,8 @@ fn finish(plan: &mut [u8], image: &[u8], h: Shape, m: Move) -> usize
 
 // Puts the rows of a pending exchange into a plan of none.
 pub fn draft(plan: &mut [u8], image: &[u8], h: Shape, j: Journal) -> Draft
-    requires { (planBytes ≤ length plan.old) × Laid h image.now }
-    ensures { Drafted h plan.old (exchangeDraft h image.now j) result plan.new }
+    requires { (plan_bytes ≤ length plan.old) × Laid h image.now }
+    ensures { Drafted h plan.old (exchange_draft h image.now j) result plan.new }
 {
     if !fits(image, h, j) {
         return Draft::Unfit;

@@ -4,16 +4,16 @@ use Rattle.std.specs.Prelude.{List, ℕ}
 use Rattle.layout.specs.declared.Shape.{Shape}
 use Rattle.layout.specs.View.{view_of}
 use Rattle.edits.specs.ConsistentView.{ConsistentView}
-use Rattle.edits.specs.ExchangedLaws.{mirrored, slots_apart, side-directory, side-used}
-use Rattle.edits.specs.Bodies.{bodies-consistent}
+use Rattle.edits.specs.ExchangedLaws.{mirrored, slots_apart, side_directory, side_used}
+use Rattle.edits.specs.Bodies.{bodies_consistent}
 use Rattle.recounts.specs.declared.Move.{Move}
 use Rattle.exchanges.specs.Exchange.{back}
 use Rattle.exchanges.specs.InImage.{BothInImage}
 use Rattle.exchange_outcome.specs.Paired.{Paired}
 
 module _ {h : Shape} {s : List ℕ} {m : Move} (c : Paired h s m) where
-  pub before-good : ConsistentView (view_of h s)
-  before-good = bodies-consistent c.bodies
+  pub before_good : ConsistentView (view_of h s)
+  before_good = bodies_consistent c.bodies
 
   pub in_image : BothInImage h m
   unfolding view_of
@@ -22,10 +22,10 @@ module _ {h : Shape} {s : List ℕ} {m : Move} (c : Paired h s m) where
       let second = c.allowed.second in
       record {
         slots = record { old = first.used.0; new = second.used.0; apart = slots_apart c.allowed };
-        moved = (side-used before-good first).0;
-        from = (side-directory before-good first).0;
-        into = (side-directory before-good second).0;
-        replaced = (side-used before-good second).0;
+        moved = (side_used before_good first).0;
+        from = (side_directory before_good first).0;
+        into = (side_directory before_good second).0;
+        replaced = (side_used before_good second).0;
       }
 
   -- the exchange, as the replaced inode sees it

@@ -5,66 +5,66 @@ use Rattle.std.specs.Prelude.{◌≢◌, not, List, [], ◌∷◌, ◌++◌, ℕ
 use Rattle.layout.specs.declared.Shape.{Shape}
 use Rattle.layout.specs.Place.{Key}
 use Rattle.layout.specs.View.{View, view_of}
-use Rattle.encode.specs.Journal.{exchangeKind}
-use Rattle.edits.specs.ExchangedLaws.{slots_apart, side-not-own, side-not-there}
-use Rattle.plan.specs.Form.{journalGroup, clearGroup}
-use Rattle.plan.specs.Write.{Write, inodeKey, entryKey}
-use Rattle.plan.specs.WriteLaws.{other-section}
+use Rattle.encode.specs.Journal.{exchange_kind}
+use Rattle.edits.specs.ExchangedLaws.{slots_apart, side_not_own, side_not_there}
+use Rattle.plan.specs.Form.{journal_group, clear_group}
+use Rattle.plan.specs.Write.{Write, inode_key, entry_key}
+use Rattle.plan.specs.WriteLaws.{other_section}
 use Rattle.recounts.specs.declared.Move.{Move}
 use Rattle.results.specs.Results.{when, moved_row}
-use Rattle.results.specs.Owed.{clear-writes}
-use Rattle.exchanges.specs.Exchange.{back, slotRow, parentRow, inodeRows, exchangeResults}
-use Rattle.exchanges.specs.ExchangeRows.{exchange-writes}
+use Rattle.results.specs.Owed.{clear_writes}
+use Rattle.exchanges.specs.Exchange.{back, slot_row, parent_row, inode_rows, exchange_results}
+use Rattle.exchanges.specs.ExchangeRows.{exchange_writes}
 use Rattle.crash_theorem.specs.Pick.{All}
 use Rattle.crash_theorem.specs.PickLaws.{all_join}
 use Rattle.crash_theorem.specs.Store.{Distinct, Spares}
 use Rattle.crash_theorem.specs.Plan.{WellFormed}
 use Rattle.image_store.specs.Image.{Fits}
-use Rattle.image_store.specs.ImageLaws.{first-ok, images}
-use Rattle.outcome.specs.Rows.{writes-fit, start_fits, all_apart, distinct-when, section, index}
-use Rattle.outcome.specs.Whole.{clear-zeros}
-use Rattle.exchange_outcome.specs.ExchangePlan.{exchangePlan}
+use Rattle.image_store.specs.ImageLaws.{first_ok, images}
+use Rattle.outcome.specs.Rows.{writes_fit, start_fits, all_apart, distinct_when, section, index}
+use Rattle.outcome.specs.Whole.{clear_zeros}
+use Rattle.exchange_outcome.specs.ExchangePlan.{exchange_plan}
 use Rattle.exchange_outcome.specs.Paired.{Paired}
-use Rattle.exchange_outcome.specs.PairedLaws.{before-good, in_image}
+use Rattle.exchange_outcome.specs.PairedLaws.{before_good, in_image}
 
 -- ---- what holds of each row
 
 -- the rows behind the old parent's
-abbrev lastRows : Shape → List ℕ → Move → List Write
-lastRows h s m = when (not (eqb m.into m.from)) (parentRow h s m m.into) ++ moved_row h s (back m) ∷ []
+abbrev last_rows : Shape → List ℕ → Move → List Write
+last_rows h s m = when (not (eqb m.into m.from)) (parent_row h s m m.into) ++ moved_row h s (back m) ∷ []
 
 module _ (h : Shape) (s : List ℕ) (m : Move) (P : Write → Type 0) where
-  last-all : (m.into ≢ m.from → P (parentRow h s m m.into)) → P (moved_row h s (back m)) → All P (lastRows h s m)
-  last-all into replaced =
-      all_join P (when (not (eqb m.into m.from)) (parentRow h s m m.into)) (moved_row h s (back m) ∷ [])
+  last_all : (m.into ≢ m.from → P (parent_row h s m m.into)) → P (moved_row h s (back m)) → All P (last_rows h s m)
+  last_all into replaced =
+      all_join P (when (not (eqb m.into m.from)) (parent_row h s m m.into)) (moved_row h s (back m) ∷ [])
       (all_apart P m.into m.from _ into) (replaced, tt)
 
-  pub inodes-all : P (moved_row h s m) → P (parentRow h s m m.from) → (m.into ≢ m.from → P (parentRow h s m m.into)) → P (moved_row h s (back m))
-      → All P (inodeRows h s m)
-  inodes-all moved from into replaced = (moved, (from, last-all into replaced))
+  pub inodes_all : P (moved_row h s m) → P (parent_row h s m m.from) → (m.into ≢ m.from → P (parent_row h s m m.into)) → P (moved_row h s (back m))
+      → All P (inode_rows h s m)
+  inodes_all moved from into replaced = (moved, (from, last_all into replaced))
 
-  pub rows_all : P (slotRow h s (back m)) → P (slotRow h s m) → P (moved_row h s m) → P (parentRow h s m m.from)
-      → (m.into ≢ m.from → P (parentRow h s m m.into)) → P (moved_row h s (back m)) → All P (exchangeResults h s m)
-  unfolding exchangeResults
-  rows_all old new moved from into replaced = (old, (new, inodes-all moved from into replaced))
+  pub rows_all : P (slot_row h s (back m)) → P (slot_row h s m) → P (moved_row h s m) → P (parent_row h s m m.from)
+      → (m.into ≢ m.from → P (parent_row h s m m.into)) → P (moved_row h s (back m)) → All P (exchange_results h s m)
+  unfolding exchange_results
+  rows_all old new moved from into replaced = (old, (new, inodes_all moved from into replaced))
 
 -- ---- records that the rows do not replace
 
 module _ (h : Shape) (s : List ℕ) (m : Move) where
   -- of another section: texts, handles and the journal record
-  pub section-spared : (k i : ℕ) → 2 ≤ k → Spares (images h s) (exchangeResults h s m) (record { section = k; index = i })
-  section-spared k i l = rows_all h s m (λ w. w.key ≢ record { section = k; index = i })
+  pub section_spared : (k i : ℕ) → 2 ≤ k → Spares (images h s) (exchange_results h s m) (record { section = k; index = i })
+  section_spared k i l = rows_all h s m (λ w. w.key ≢ record { section = k; index = i })
       (before (lit< tt)) (before (lit< tt)) (before (lit< tt)) (before (lit< tt)) (λ _. before (lit< tt)) (before (lit< tt))
     where
       before : {j a : ℕ} → j < 2 → ◌≢◌ {A = Key} (record { section = j; index = a }) (record { section = k; index = i })
-      before b = other-section _ _ (λ e. omega arith)
+      before b = other_section _ _ (λ e. omega arith)
 
-  pub entry-spared : (j : ℕ) → j ≢ m.old → j ≢ m.new → Spares (images h s) (exchangeResults h s m) (entryKey j)
-  entry-spared j old new = rows_all h s m (λ w. w.key ≢ entryKey j)
+  pub entry_spared : (j : ℕ) → j ≢ m.old → j ≢ m.new → Spares (images h s) (exchange_results h s m) (entry_key j)
+  entry_spared j old new = rows_all h s m (λ w. w.key ≢ entry_key j)
       (index (λ e. old (sym e))) (index (λ e. new (sym e))) (section refl) (section refl) (λ _. section refl) (section refl)
 
-  pub inode-spared : (i : ℕ) → i ≢ m.moved → i ≢ m.from → i ≢ m.into → i ≢ m.replaced → Spares (images h s) (exchangeResults h s m) (inodeKey i)
-  inode-spared i moved from into replaced = rows_all h s m (λ w. w.key ≢ inodeKey i) (section refl) (section refl)
+  pub inode_spared : (i : ℕ) → i ≢ m.moved → i ≢ m.from → i ≢ m.into → i ≢ m.replaced → Spares (images h s) (exchange_results h s m) (inode_key i)
+  inode_spared i moved from into replaced = rows_all h s m (λ w. w.key ≢ inode_key i) (section refl) (section refl)
       (index (λ e. moved (sym e))) (index (λ e. from (sym e))) (λ _. index (λ e. into (sym e))) (index (λ e. replaced (sym e)))
 
 module _ {h : Shape} {s : List ℕ} {m : Move} (c : Paired h s m) where
@@ -73,53 +73,53 @@ module _ {h : Shape} {s : List ℕ} {m : Move} (c : Paired h s m) where
 
   -- ---- each row replaces a record whole
 
-  pub results_fit : All (Fits h) (exchangeResults h s m)
-  results_fit = writes-fit h (exchangeResults h s m) (exchange-writes h s c.read.laid m (in_image c))
+  pub results_fit : All (Fits h) (exchange_results h s m)
+  results_fit = writes_fit h (exchange_results h s m) (exchange_writes h s c.read.laid m (in_image c))
 
   -- ---- no two replace one record
 
-  results-distinct : Distinct (images h s) (exchangeResults h s m)
-  unfolding exchangeResults
-  results-distinct =
-      let good = before-good c in
+  results_distinct : Distinct (images h s) (exchange_results h s m)
+  unfolding exchange_results
+  results_distinct =
+      let good = before_good c in
       let first = c.allowed.first in
       let second = c.allowed.second in
       let apart = slots_apart c.allowed in (
-        (index (λ e. apart (sym e)), (section refl, (section refl, spares (entryKey m.old) (λ _. section refl) (section refl)))),
+        (index (λ e. apart (sym e)), (section refl, (section refl, spares (entry_key m.old) (λ _. section refl) (section refl)))),
         (
-          (section refl, (section refl, spares (entryKey m.new) (λ _. section refl) (section refl))),
+          (section refl, (section refl, spares (entry_key m.new) (λ _. section refl) (section refl))),
           (
             (
-              index (λ e. side-not-own good first (sym e)),
-              spares (inodeKey m.moved) (λ _. index (λ e. side-not-there good first (sym e))) (index (λ e. c.allowed.other (sym e))),
+              index (λ e. side_not_own good first (sym e)),
+              spares (inode_key m.moved) (λ _. index (λ e. side_not_there good first (sym e))) (index (λ e. c.allowed.other (sym e))),
             ),
             (
-              spares (inodeKey m.from) (λ n. index n) (index (side-not-there good second)),
-              distinct-when h s (not (eqb m.into m.from)) (parentRow h s m m.into) (moved_row h s (back m) ∷ [])
-                  (λ _. (index (side-not-own good second), tt)) (tt, tt),
+              spares (inode_key m.from) (λ n. index n) (index (side_not_there good second)),
+              distinct_when h s (not (eqb m.into m.from)) (parent_row h s m m.into) (moved_row h s (back m) ∷ [])
+                  (λ _. (index (side_not_own good second), tt)) (tt, tt),
             ),
           ),
         ),
       )
     where
-      spares : (k : Key) → (m.into ≢ m.from → inodeKey m.into ≢ k) → inodeKey m.replaced ≢ k → Spares (images h s) (lastRows h s m) k
-      spares k = last-all h s m (λ w. w.key ≢ k)
+      spares : (k : Key) → (m.into ≢ m.from → inode_key m.into ≢ k) → inode_key m.replaced ≢ k → Spares (images h s) (last_rows h s m) k
+      spares k = last_all h s m (λ w. w.key ≢ k)
 
   -- ---- the whole plan
 
-  pub well-formed : WellFormed (images h s) (exchangePlan h s m)
-  well-formed = record {
-    ok = first-ok h s c.read;
-    set-fits = start_fits h exchangeKind m;
-    clear-fits = record { writes = clear-writes h };
+  pub well_formed : WellFormed (images h s) (exchange_plan h s m)
+  well_formed = record {
+    ok = first_ok h s c.read;
+    set_fits = start_fits h exchange_kind m;
+    clear_fits = record { writes = clear_writes h };
     fits = results_fit;
-    distinct = results-distinct;
-    apart = section-spared h s m 4 0 (omega arith);
+    distinct = results_distinct;
+    apart = section_spared h s m 4 0 (omega arith);
     clears = refl;
-    restores = sym (clear-zeros c.read c.clear);
-    created-groups = tt;
-    decide-group = λ b. absurd b;
-    rest-groups = rows_all h s m (λ w. (journalGroup < w.group) × (w.group < clearGroup))
+    restores = sym (clear_zeros c.read c.clear);
+    created_groups = tt;
+    decide_group = λ b. absurd b;
+    rest_groups = rows_all h s m (λ w. (journal_group < w.group) × (w.group < clear_group))
         (lit< tt, lit< tt) (lit< tt, lit< tt) (lit< tt, lit< tt) (lit< tt, lit< tt) (λ _. (lit< tt, lit< tt)) (lit< tt, lit< tt);
-    clear-group = lit< tt;
+    clear_group_lem = lit< tt;
   }

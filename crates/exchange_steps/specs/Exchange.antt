@@ -2,45 +2,45 @@
 -- this file. Assumes nothing.
 use Rattle.std.specs.Prelude.{Bool, true, ◌&&◌, not, List, [], ◌∷◌, ◌++◌, eqb}
 use Rattle.layout.specs.Errno.{EACCES, EINVAL, EMLINK}
-use Rattle.layout.specs.Limits.{linkLimit}
-use Rattle.layout.specs.View.{View, isDirectory}
+use Rattle.layout.specs.Limits.{link_limit}
+use Rattle.layout.specs.View.{View, is_directory}
 use Rattle.tree.specs.Tree.{reaches}
 use Rattle.refusals.specs.declared.case.Answer.TheVariants.{Same, Exchanged}
 use Rattle.refusals.specs.declared.case.Case.{Case}
-use Rattle.refusals.specs.Case.{sameFile, may_write}
-use Rattle.rename_steps.specs.Tests.{reparents, movedDenied}
-use Rattle.refusals.specs.Rules.{Rule, refuse, parentRules}
+use Rattle.refusals.specs.Case.{same_file, may_write}
+use Rattle.rename_steps.specs.Tests.{reparents, moved_denied}
+use Rattle.refusals.specs.Rules.{Rule, refuse, parent_rules}
 
 module _ (v : View) (c : Case) where
   -- rule 71a, step 7: the replaced inode is the old parent, or above it
-  abbrev pub replacedAbove : Bool
-  replacedAbove = reaches v c.replaced v.inodes c.from
+  abbrev pub replaced_above : Bool
+  replaced_above = reaches v c.replaced v.inodes c.from
 
   -- rule 73a, step 9: write permission is denied on a replaced directory, which gets another parent too
-  abbrev pub replacedReparents : Bool
-  replacedReparents = isDirectory v c.replaced && not (eqb c.from c.into)
+  abbrev pub replaced_reparents : Bool
+  replaced_reparents = is_directory v c.replaced && not (eqb c.from c.into)
 
-  abbrev pub replacedDenied : Bool
-  replacedDenied = replacedReparents && not (may_write v c.who c.replaced)
+  abbrev pub replaced_denied : Bool
+  replaced_denied = replaced_reparents && not (may_write v c.who c.replaced)
 
   -- rule 76a, step 12: a parent that gains a directory for something else has as many links as there may be
-  abbrev pub intoFull : Bool
-  intoFull = reparents v c && not (isDirectory v c.replaced) && eqb (v.links c.into) linkLimit
+  abbrev pub into_full : Bool
+  into_full = reparents v c && not (is_directory v c.replaced) && eqb (v.links c.into) link_limit
 
-  abbrev pub fromFull : Bool
-  fromFull = replacedReparents && not (isDirectory v c.moved) && eqb (v.links c.from) linkLimit
+  abbrev pub from_full : Bool
+  from_full = replaced_reparents && not (is_directory v c.moved) && eqb (v.links c.from) link_limit
 
   -- what is asked behind the parents; steps 8, 10, 11 and 13 ask nothing
-  abbrev pub otherRules : List Rule
-  otherRules =
-      refuse replacedAbove EINVAL
-      ∷ refuse (movedDenied v c) EACCES
-      ∷ refuse replacedDenied EACCES
-      ∷ refuse intoFull EMLINK
-      ∷ refuse fromFull EMLINK
+  abbrev pub other_rules : List Rule
+  other_rules =
+      refuse replaced_above EINVAL
+      ∷ refuse (moved_denied v c) EACCES
+      ∷ refuse replaced_denied EACCES
+      ∷ refuse into_full EMLINK
+      ∷ refuse from_full EMLINK
       ∷ []
 
   -- rule 64c: the steps of an exchange
-  abbrev pub exchangeSteps : List Rule
-  exchangeSteps =
-      record { test = sameFile c; answer = Same } ∷ (parentRules v c ++ (otherRules ++ record { test = true; answer = Exchanged } ∷ []))
+  abbrev pub exchange_steps : List Rule
+  exchange_steps =
+      record { test = same_file c; answer = Same } ∷ (parent_rules v c ++ (other_rules ++ record { test = true; answer = Exchanged } ∷ []))

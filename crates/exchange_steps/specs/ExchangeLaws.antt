@@ -4,9 +4,9 @@ use Rattle.std.proofs.Common.{◌∙◌}
 use Rattle.layout.specs.View.{View}
 use Rattle.refusals.specs.declared.case.Answer.TheVariants.{Refused, Same, Exchanged}
 use Rattle.refusals.specs.declared.case.Case.{Case}
-use Rattle.refusals.specs.Rules.{Rule, number_of, decide, parentRules}
-use Rattle.exchange_steps.specs.Exchange.{otherRules, exchangeSteps}
-use Rattle.refusals.specs.DecideLaws.{decide-refused, decide-passed, first-same, first-parents, past-parents}
+use Rattle.refusals.specs.Rules.{Rule, number_of, decide, parent_rules}
+use Rattle.exchange_steps.specs.Exchange.{other_rules, exchange_steps}
+use Rattle.refusals.specs.DecideLaws.{decide_refused, decide_passed, first_same, first_parents, past_parents}
 
 -- the rule that always holds
 abbrev last : List Rule
@@ -14,18 +14,18 @@ last = record { test = true; answer = Exchanged } ∷ []
 
 module _ (v : View) (c : Case) where
   abbrev rest : List Rule
-  rest = otherRules v c ++ last
+  rest = other_rules v c ++ last
 
-  pub exchange-same : c.moved ≡ c.replaced → decide (exchangeSteps v c) ≡ Same
-  exchange-same e = first-same v c rest e
+  pub exchange_same : c.moved ≡ c.replaced → decide (exchange_steps v c) ≡ Same
+  exchange_same e = first_same v c rest e
 
   module _ (other : c.moved ≡ c.replaced → ⊥) where
-    pub exchange-parents : (number_of (decide (parentRules v c)) ≡ 0 → ⊥) → decide (exchangeSteps v c) ≡ Refused (number_of (decide (parentRules v c)))
-    exchange-parents some = first-parents v c rest other some
+    pub exchange_parents : (number_of (decide (parent_rules v c)) ≡ 0 → ⊥) → decide (exchange_steps v c) ≡ Refused (number_of (decide (parent_rules v c)))
+    exchange_parents some = first_parents v c rest other some
 
-    module _ (parents : number_of (decide (parentRules v c)) ≡ 0) where
-      pub exchange-others : (number_of (decide (otherRules v c)) ≡ 0 → ⊥) → decide (exchangeSteps v c) ≡ Refused (number_of (decide (otherRules v c)))
-      exchange-others some = past-parents v c rest other parents ∙ decide-refused last (otherRules v c) some
+    module _ (parents : number_of (decide (parent_rules v c)) ≡ 0) where
+      pub exchange_others : (number_of (decide (other_rules v c)) ≡ 0 → ⊥) → decide (exchange_steps v c) ≡ Refused (number_of (decide (other_rules v c)))
+      exchange_others some = past_parents v c rest other parents ∙ decide_refused last (other_rules v c) some
 
-      pub exchange-planned : number_of (decide (otherRules v c)) ≡ 0 → decide (exchangeSteps v c) ≡ Exchanged
-      exchange-planned none = past-parents v c rest other parents ∙ decide-passed last (otherRules v c) refl none
+      pub exchange_planned_lem : number_of (decide (other_rules v c)) ≡ 0 → decide (exchange_steps v c) ≡ Exchanged
+      exchange_planned_lem none = past_parents v c rest other parents ∙ decide_passed last (other_rules v c) refl none

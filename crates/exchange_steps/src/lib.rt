@@ -1,12 +1,12 @@
 // The order of refusal of an exchange once both walks are whole: steps 1 to 7, 9 and 12.
 ghost use Rattle.std.specs.Prelude.{◌≡◌, true, ◌&&◌, not, ◌<◌, eqb};
 ghost use Rattle.layout.specs.Facts.{Laid, Readable};
-ghost use Rattle.layout.specs.Limits.{linkLimit};
-ghost use Rattle.layout.specs.View.{view_of, isDirectory, isUsed};
+ghost use Rattle.layout.specs.Limits.{link_limit};
+ghost use Rattle.layout.specs.View.{view_of, is_directory, is_used};
 ghost use Rattle.refusals.specs.Case.{may_write};
 ghost use Rattle.refusals.specs.CaseIn.{CaseIn};
 ghost use Rattle.refusals.specs.Within.{Within};
-ghost use Rattle.exchange_steps.specs.Exchange.{replacedAbove, otherRules, exchangeSteps};
+ghost use Rattle.exchange_steps.specs.Exchange.{replaced_above, other_rules, exchange_steps};
 ghost use Rattle.refusals.specs.Rules.{number_of, decide};
 
 use layout::{Shape, errno, limits};
@@ -17,7 +17,7 @@ use refusals::parents;
 // Step 7 on the other side: the replaced inode is the old parent, or above it.
 fn replaced_above(image: &[u8], h: Shape, c: Case) -> bool
     requires { Laid h image.now × Within h c × (c.replaced < h.inodes) }
-    ensures { result ≡ replacedAbove (view_of h image.now) c }
+    ensures { result ≡ replaced_above (view_of h image.now) c }
 {
     tree::is_above(image, h, c.replaced, c.from)
 }
@@ -25,7 +25,7 @@ fn replaced_above(image: &[u8], h: Shape, c: Case) -> bool
 // Whether write permission is denied on a directory that gets another parent. Inode i is one of the two.
 fn denied(image: &[u8], h: Shape, c: Case, i: usize) -> bool
     requires { Laid h image.now × (i < h.inodes) }
-    ensures { result ≡ (isDirectory (view_of h image.now) i && not (eqb c.from c.into) && not (may_write (view_of h image.now) c.who i)) }
+    ensures { result ≡ (is_directory (view_of h image.now) i && not (eqb c.from c.into) && not (may_write (view_of h image.now) c.who i)) }
 {
     if !layout::lookup::is_directory(image, h, i) {
         return false;
@@ -39,7 +39,7 @@ fn denied(image: &[u8], h: Shape, c: Case, i: usize) -> bool
 // Whether directory d has as many links as there may be, and would gain directory i for inode other.
 fn full(image: &[u8], h: Shape, c: Case, i: usize, other: usize, d: usize) -> bool
     requires { Laid h image.now × (d < h.inodes) }
-    ensures { result ≡ (isDirectory (view_of h image.now) i && not (eqb c.from c.into) && not (isDirectory (view_of h image.now) other) && eqb ((view_of h image.now).links d) linkLimit) }
+    ensures { result ≡ (is_directory (view_of h image.now) i && not (eqb c.from c.into) && not (is_directory (view_of h image.now) other) && eqb ((view_of h image.now).links d) link_limit) }
 {
     if !layout::lookup::is_directory(image, h, i) {
         return false;
@@ -57,7 +57,7 @@ fn full(image: &[u8], h: Shape, c: Case, i: usize, other: usize, d: usize) -> bo
 // The number of the first that refuses behind the parents, or 0.
 fn number(image: &[u8], h: Shape, c: Case) -> u8
     requires { Laid h image.now × Within h c × (c.replaced < h.inodes) }
-    ensures { result ≡ number_of (decide (otherRules (view_of h image.now) c)) }
+    ensures { result ≡ number_of (decide (other_rules (view_of h image.now) c)) }
 {
     if replaced_above(image, h, c) {
         return errno::EINVAL;
@@ -79,8 +79,8 @@ fn number(image: &[u8], h: Shape, c: Case) -> u8
 
 // How an exchange is answered, whose walks have found this case: new's name exists.
 pub fn judge(image: &[u8], h: Shape, c: Case) -> Answer
-    requires { Readable h image.now × CaseIn (view_of h image.now) c × (isUsed (view_of h image.now) c.replaced ≡ true) }
-    ensures { result ≡ decide (exchangeSteps (view_of h image.now) c) }
+    requires { Readable h image.now × CaseIn (view_of h image.now) c × (is_used (view_of h image.now) c.replaced ≡ true) }
+    ensures { result ≡ decide (exchange_steps (view_of h image.now) c) }
 {
     if c.moved == c.replaced {
         return Answer::Same;

@@ -5,45 +5,45 @@ use Rattle.std.proofs.Math.Bool.{or-true}
 use Rattle.std.proofs.Math.Option.{some}
 use borrow.Author.Tests.{eq-eqb, ne_eqb, lt-ltb}
 use Rattle.layout.specs.declared.Shape.{Shape}
-use Rattle.layout.specs.View.{View, view_of, entryUsed, isDirectory}
+use Rattle.layout.specs.View.{View, view_of, entry_used, is_directory}
 use Rattle.encode.specs.declared.journal.Journal.{Journal}
 use Rattle.encode.specs.Facts.{InRange}
-use Rattle.encode.specs.Journal.{exchangeKind, journalBytes}
+use Rattle.encode.specs.Journal.{exchange_kind, journal_bytes}
 use Rattle.edits.specs.Kinds.{IsDirectory, EntryUsed}
-use Rattle.edits.specs.Tests.{kind-test}
-use Rattle.edits.specs.ExchangedLaws.{slots_apart, side-directory, side-below-root, side-not-own, side-not-there}
-use Rattle.plan.specs.Write.{Write, journalKey, storeAll}
+use Rattle.edits.specs.Tests.{kind_test}
+use Rattle.edits.specs.ExchangedLaws.{slots_apart, side_directory, side_below_root, side_not_own, side_not_there}
+use Rattle.plan.specs.Write.{Write, journal_key, store_all}
 use Rattle.recounts.specs.declared.Move.{Move}
-use Rattle.results.specs.Results.{clearRow}
-use Rattle.results.specs.Start.{journalFor}
+use Rattle.results.specs.Results.{clear_row}
+use Rattle.results.specs.Start.{journal_for}
 use Rattle.results.specs.InImage.{InImage}
-use Rattle.exchanges.specs.Exchange.{exchangeResults}
+use Rattle.exchanges.specs.Exchange.{exchange_results}
 use Rattle.crash_theorem.specs.Obligations.{OnTheWay}
-use Rattle.crash_theorem.specs.Plan.{Plan, behindOf, Recovers}
-use Rattle.crash_theorem.specs.Planned.{behind-all}
-use Rattle.rename_drafts.specs.PendingRename.{moveFrom, intoGood}
-use Rattle.exchange_drafts.specs.PendingExchange.{slotStands, slotsStand, exchangeFits, finishingExchange}
-use Rattle.exchange_drafts.specs.ExchangeFit.{exchange-finished}
-use Rattle.recover.specs.Recover.{ifConsistent, recover}
-use Rattle.image_store.specs.Image.{recordOf}
+use Rattle.crash_theorem.specs.Plan.{Plan, behind_of, Recovers}
+use Rattle.crash_theorem.specs.Planned.{behind_all}
+use Rattle.rename_drafts.specs.PendingRename.{move_from, into_good}
+use Rattle.exchange_drafts.specs.PendingExchange.{slot_stands, slots_stand, exchange_fits, finishing_exchange}
+use Rattle.exchange_drafts.specs.ExchangeFit.{exchange_finished}
+use Rattle.recover.specs.Recover.{if_consistent, recover}
+use Rattle.image_store.specs.Image.{record_of}
 use Rattle.image_store.specs.ImageLaws.{images}
 use Rattle.image_store.specs.Mixed.{Mixed}
-use Rattle.image_store.specs.MixedLaws.{way-mixed}
+use Rattle.image_store.specs.MixedLaws.{way_mixed}
 use Rattle.exchange_outcome.specs.Outcome.{exchanged}
-use Rattle.exchange_outcome.specs.ExchangePlan.{exchangePlan}
+use Rattle.exchange_outcome.specs.ExchangePlan.{exchange_plan}
 use Rattle.exchange_outcome.specs.Paired.{Paired}
-use Rattle.exchange_outcome.specs.PairedLaws.{before-good, in_image}
-use Rattle.exchange_outcome.specs.PlanRows.{well-formed}
-use Rattle.exchange_outcome.specs.Finished.{exchanged-after}
-use Rattle.exchange_outcome.specs.Consistent.{exchanged-clear, before-consistent, exchange-consistent}
-use Rattle.exchange_outcome.specs.Way.{kind-mixed, mixed-results}
-use Rattle.rename_survives.specs.Pending.{in-range, by-record, nothing-pending}
-use Rattle.rename_survives.specs.Behind.{behind-stored, behind-answered}
-use Rattle.exchange_survives.specs.Run.{exchangeChange}
-use Rattle.exchange_survives.specs.Slots.{swap, new-kept, old-kept}
+use Rattle.exchange_outcome.specs.PairedLaws.{before_good, in_image}
+use Rattle.exchange_outcome.specs.PlanRows.{well_formed}
+use Rattle.exchange_outcome.specs.Finished.{exchanged_after}
+use Rattle.exchange_outcome.specs.Consistent.{exchanged_clear, before_consistent, exchange_consistent}
+use Rattle.exchange_outcome.specs.Way.{kind_mixed, mixed_results}
+use Rattle.rename_survives.specs.Pending.{in_range_lem, by_record, nothing_pending}
+use Rattle.rename_survives.specs.Behind.{behind_stored, behind_answered}
+use Rattle.exchange_survives.specs.Run.{exchange_change}
+use Rattle.exchange_survives.specs.Slots.{swap, new_kept, old_kept}
 
 -- a slot in use that targets either inode
-stands : (w : View) (k a b : ℕ) → EntryUsed w k → (w.target k ≡ a) ⊎ (w.target k ≡ b) → (entryUsed w k && (eqb (w.target k) a || eqb (w.target k) b)) ≡ true
+stands : (w : View) (k a b : ℕ) → EntryUsed w k → (w.target k ≡ a) ⊎ (w.target k ≡ b) → (entry_used w k && (eqb (w.target k) a || eqb (w.target k) b)) ≡ true
 stands w k a b u e =
     rw (ne_eqb _ _ u.1) (⊎_elim (λ (z : w.target k ≡ a). rw (eq-eqb _ _ z)) (λ (z : w.target k ≡ b). rw (eq-eqb _ _ z) (or-true (eqb (w.target k) a))) e)
 
@@ -52,15 +52,15 @@ module _ {h : Shape} {s : List ℕ} {m : Move} (c : Paired h s m) where
   t = exchanged h s m
 
   abbrev plan : Plan (images h s)
-  plan = exchangePlan h s m
+  plan = exchange_plan h s m
 
   abbrev j : Journal
-  j = journalFor exchangeKind m
+  j = journal_for exchange_kind m
 
   -- ---- the journal record fits, whichever targets stand in the slots
 
   range : InRange j
-  range = in-range h s c.read.laid exchangeKind (lit< tt) m image c.time
+  range = in_range_lem h s c.read.laid exchange_kind (lit< tt) m image c.time
     where
       image : InImage h m
       image = record {
@@ -77,41 +77,41 @@ module _ {h : Shape} {s : List ℕ} {m : Move} (c : Paired h s m) where
     abbrev w : View
     w = view_of h x
 
-    directory : (i : ℕ) → IsDirectory (view_of h s) i → isDirectory w i ≡ true
+    directory : (i : ℕ) → IsDirectory (view_of h s) i → is_directory w i ≡ true
     unfolding view_of
-    directory i d = kind-test w i 2 (d.0, kind-mixed c mixed i d.0 ∙ d.1)
+    directory i d = kind_test w i 2 (d.0, kind_mixed c mixed i d.0 ∙ d.1)
 
-    into-is : w.parent m.new ≡ m.into
-    into-is = (new-kept c mixed).parent ∙ c.allowed.second.parent
+    into_is : w.parent m.new ≡ m.into
+    into_is = (new_kept c mixed).parent ∙ c.allowed.second.parent
 
     from_is : w.parent m.old ≡ m.from
-    from_is = (old-kept c mixed).parent ∙ c.allowed.first.parent
+    from_is = (old_kept c mixed).parent ∙ c.allowed.first.parent
 
-    into-good : intoGood w (moveFrom w j) ≡ true
-    unfolding intoGood
-    into-good =
-        let good = before-good c in
+    into_good_lem : into_good w (move_from w j) ≡ true
+    unfolding into_good
+    into_good_lem =
+        let good = before_good c in
         rw (
-          into-is,
-          directory m.into (side-directory good c.allowed.second),
-          ne_eqb m.into m.moved (λ e. side-not-there good c.allowed.first (sym e)),
-          ne_eqb m.into m.replaced (λ e. side-not-own good c.allowed.second (sym e)),
+          into_is,
+          directory m.into (side_directory good c.allowed.second),
+          ne_eqb m.into m.moved (λ e. side_not_there good c.allowed.first (sym e)),
+          ne_eqb m.into m.replaced (λ e. side_not_own good c.allowed.second (sym e)),
         )
 
-    slots-stand : slotsStand w j ≡ true
-    unfolding slotsStand slotStands
-    slots-stand =
+    slots_stand_lem : slots_stand w j ≡ true
+    unfolding slots_stand slot_stands
+    slots_stand_lem =
         rw (
-          stands w m.old m.moved m.replaced (old-kept c mixed).used (swap (old-kept c mixed).target),
-          stands w m.new m.moved m.replaced (new-kept c mixed).used (new-kept c mixed).target,
+          stands w m.old m.moved m.replaced (old_kept c mixed).used (swap (old_kept c mixed).target),
+          stands w m.new m.moved m.replaced (new_kept c mixed).used (new_kept c mixed).target,
           eq-eqb _ _ from_is,
-          into-good,
+          into_good_lem,
         )
 
-    fits : exchangeFits h x j ≡ true
-    unfolding exchangeFits
+    fits : exchange_fits h x j ≡ true
+    unfolding exchange_fits
     fits =
-        let good = before-good c in
+        let good = before_good c in
         let first = c.allowed.first in
         let second = c.allowed.second in
         rw (
@@ -121,64 +121,64 @@ module _ {h : Shape} {s : List ℕ} {m : Move} (c : Paired h s m) where
           lt-ltb _ _ (in_image c).replaced,
           eq-eqb _ _ c.text,
           ne_eqb _ _ (slots_apart c.allowed),
-          ne_eqb _ _ (side-below-root good first),
-          ne_eqb _ _ (side-not-own good first),
+          ne_eqb _ _ (side_below_root good first),
+          ne_eqb _ _ (side_not_own good first),
           ne_eqb _ _ (λ e. c.allowed.other (sym e)),
-          ne_eqb _ _ (side-not-there good second),
-          ne_eqb _ _ (side-below-root good second),
-          directory m.from (side-directory good first),
-          slots-stand,
+          ne_eqb _ _ (side_not_there good second),
+          ne_eqb _ _ (side_below_root good second),
+          directory m.from (side_directory good first),
+          slots_stand_lem,
         )
 
     -- the move that the record names, with the new parent that the new slot has
-    abbrev moveTo : ℕ → Move
-    moveTo into = record { old = m.old; new = m.new; moved = m.moved; from = m.from; into = into; replaced = m.replaced; text = m.text; now = m.now }
+    abbrev move_to : ℕ → Move
+    move_to into = record { old = m.old; new = m.new; moved = m.moved; from = m.from; into = into; replaced = m.replaced; text = m.text; now = m.now }
 
-    same_move : m ≡ moveFrom w j
-    same_move = ap moveTo (sym into-is)
+    same_move : m ≡ move_from w j
+    same_move = ap move_to (sym into_is)
 
     -- recovery's rows are the exchange's own, behind the journal record
-    finishing-is : finishingExchange h x m ≡ behindOf (images h s) plan
-    finishing-is = ap (λ (ws : List Write). ws ++ clearRow h ∷ []) (mixed-results c mixed)
+    finishing_is : finishing_exchange h x m ≡ behind_of (images h s) plan
+    finishing_is = ap (λ (ws : List Write). ws ++ clear_row h ∷ []) (mixed_results c mixed)
 
-    finished-off : recordOf h x journalKey ≡ journalBytes j → recover h x ≡ ifConsistent h x (some (behindOf (images h s) plan))
-    finished-off journal =
-        by-record h x exchangeKind m range journal ∙ ap (ifConsistent h x) (exchange-finished h x j fits m same_move ∙ ap some finishing-is)
+    finished_off : record_of h x journal_key ≡ journal_bytes j → recover h x ≡ if_consistent h x (some (behind_of (images h s) plan))
+    finished_off journal =
+        by_record h x exchange_kind m range journal ∙ ap (if_consistent h x) (exchange_finished h x j fits m same_move ∙ ap some finishing_is)
 
   -- ---- on the way
 
-  module _ {x : List ℕ} (i : OnTheWay (exchangeChange h s m) true x) where
-    mixed-at : Mixed h s t x
-    mixed-at = way-mixed refl (exchanged-after c) true i
+  module _ {x : List ℕ} (i : OnTheWay (exchange_change h s m) true x) where
+    mixed_at : Mixed h s t x
+    mixed_at = way_mixed refl (exchanged_after c) true i
 
     -- On every image on the way recovery's rows are the exchange's own, byte for byte,
-    pub recover-rows : finishingExchange h x m ≡ exchangeResults h s m ++ clearRow h ∷ []
-    recover-rows = finishing-is mixed-at
+    pub recover_rows : finishing_exchange h x m ≡ exchange_results h s m ++ clear_row h ∷ []
+    recover_rows = finishing_is mixed_at
 
     -- and stored they give the finished image.
-    pub recover-stored : storeAll h x (finishingExchange h x m) ≡ t
-    recover-stored = ap (storeAll h x) recover-rows ∙ behind-stored plan (well-formed c) (exchanged-after c) i
+    pub recover_stored : store_all h x (finishing_exchange h x m) ≡ t
+    recover_stored = ap (store_all h x) recover_rows ∙ behind_stored plan (well_formed c) (exchanged_after c) i
 
-    on : recordOf h x journalKey ≡ journalBytes j → recover h x ≡ some (behindOf (images h s) plan)
-    on journal = behind-answered plan (well-formed c) (exchanged-after c) i (exchange-consistent c) (finished-off mixed-at journal)
+    on : record_of h x journal_key ≡ journal_bytes j → recover h x ≡ some (behind_of (images h s) plan)
+    on journal = behind_answered plan (well_formed c) (exchanged_after c) i (exchange_consistent c) (finished_off mixed_at journal)
 
   pub at_before : recover h s ≡ some []
-  at_before = nothing-pending h s c.clear (before-consistent c)
+  at_before = nothing_pending h s c.clear (before_consistent c)
 
-  pub at-exchanged : recover h t ≡ some []
-  at-exchanged = nothing-pending h t (exchanged-clear c) (exchange-consistent c)
+  pub at_exchanged : recover h t ≡ some []
+  at_exchanged = nothing_pending h t (exchanged_clear c) (exchange_consistent c)
 
   -- What the crash theorem asks of recovery. Nothing comes ahead of the deciding row, so nothing is ever taken back.
   pub recovers : Recovers (images h s) plan (recover h)
   recovers = record {
     undo = [];
     undoes = tt;
-    undo-all = λ k a. a;
-    redo = behindOf (images h s) plan;
-    redoes = behind-all plan (recover h) (well-formed c);
-    redo-all = λ k a. a;
+    undo_all = λ k a. a;
+    redo = behind_of (images h s) plan;
+    redoes = behind_all plan (recover h) (well_formed c);
+    redo_all = λ k a. a;
     at_before = at_before;
-    at_after = ap (recover h) (exchanged-after c) ∙ at-exchanged;
+    at_after = ap (recover h) (exchanged_after c) ∙ at_exchanged;
     back = λ x b. absurd b;
     on = λ x i journal. on i journal;
   }

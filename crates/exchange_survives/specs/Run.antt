@@ -12,20 +12,20 @@ use Rattle.crash_theorem.specs.Plan.{change}
 use Rattle.recover.specs.Recover.{recover}
 use Rattle.image_store.specs.ImageLaws.{images}
 use Rattle.image_store.specs.JobLaws.{jobs}
-use Rattle.exchange_outcome.specs.ExchangePlan.{exchangePlan}
-use Rattle.rename_survives.specs.PlanSurvives.{planJobs, planState}
+use Rattle.exchange_outcome.specs.ExchangePlan.{exchange_plan}
+use Rattle.rename_survives.specs.PlanSurvives.{plan_jobs, plan_state}
 
 -- an exchange as the crash theorem sees it
-abbrev pub exchangeChange : (h : Shape) (s : List ℕ) → Move → Change (images h s)
-exchangeChange h s m = change (images h s) (exchangePlan h s m) (recover h)
+abbrev pub exchange_change : (h : Shape) (s : List ℕ) → Move → Change (images h s)
+exchange_change h s m = change (images h s) (exchange_plan h s m) (recover h)
 
 -- an exchange whose plan fills `buffer`, and where it stands after events
 module _ (h : Shape) (s : List ℕ) (m : Move) (buffer : List ℕ) where
-  abbrev pub exchangeJobs : Change (jobs h s)
-  exchangeJobs = planJobs h s (exchangePlan h s m) buffer
+  abbrev pub exchange_jobs : Change (jobs h s)
+  exchange_jobs = plan_jobs h s (exchange_plan h s m) buffer
 
-  abbrev pub exchangeState : List (EventOf (jobs h s)) → State (List ℕ) Job
-  exchangeState es = planState h s (exchangePlan h s m) buffer es
+  abbrev pub exchange_state : List (EventOf (jobs h s)) → State (List ℕ) Job
+  exchange_state es = plan_state h s (exchange_plan h s m) buffer es
 
 -- What no crash takes away of a slot, the one that `moved` goes to: it is in use, keeps parent and name, and targets either inode.
 pub record SlotKept (h : Shape) (s x : List ℕ) (m : Move) : Type 0 where

@@ -10,15 +10,15 @@ use Rattle.exchange_outcome.specs.Outcome.{exchanged}
 use Rattle.exchange_outcome.specs.Paired.{Paired}
 use Rattle.exchange_outcome.specs.PairedLaws.{turned}
 use Rattle.exchange_outcome.specs.Slot.{SlotNames}
-use Rattle.exchange_outcome.specs.SlotLaws.{slot-before, slot-after}
-use Rattle.exchange_outcome.specs.Way.{mixed-way}
+use Rattle.exchange_outcome.specs.SlotLaws.{slot_before, slot_after}
+use Rattle.exchange_outcome.specs.Way.{mixed_way}
 use Rattle.exchange_survives.specs.Run.{SlotKept, ExchangeKept}
 
 -- ---- one slot
 
 module _ {h : Shape} {s : List ℕ} {m : Move} (c : Paired h s m) (x : List ℕ) where
-  names-kept : {i : ℕ} → SlotNames h s x m i → (i ≡ m.moved) ⊎ (i ≡ m.replaced) → SlotKept h s x m
-  names-kept n e = record {
+  names_kept : {i : ℕ} → SlotNames h s x m i → (i ≡ m.moved) ⊎ (i ≡ m.replaced) → SlotKept h s x m
+  names_kept n e = record {
     used = n.used;
     parent = n.parent ∙ sym c.allowed.second.parent;
     name = n.name;
@@ -26,30 +26,30 @@ module _ {h : Shape} {s : List ℕ} {m : Move} (c : Paired h s m) (x : List ℕ)
   }
 
   pub slot_kept : SidePartWay h s x m → SlotKept h s x m
-  slot_kept way = ⊎_elim (λ e. names-kept (slot-before c x e) (inr refl)) (λ e. names-kept (slot-after c x e) (inl refl)) way.slot
+  slot_kept way = ⊎_elim (λ e. names_kept (slot_before c x e) (inr refl)) (λ e. names_kept (slot_after c x e) (inl refl)) way.slot
 
 -- ---- both
 
 -- where each of two is either of two numbers, and not both are the one, one is the other
-one-other : {a b i k : ℕ} → (a ≡ i) ⊎ (a ≡ k) → (b ≡ i) ⊎ (b ≡ k) → ((a ≡ k) × (b ≡ k) → ⊥) → (a ≡ i) ⊎ (b ≡ i)
-one-other (inl e) q n = inl e
-one-other (inr e) (inl f) n = inr f
-one-other (inr e) (inr f) n = absurd (n (e, f))
+one_other : {a b i k : ℕ} → (a ≡ i) ⊎ (a ≡ k) → (b ≡ i) ⊎ (b ≡ k) → ((a ≡ k) × (b ≡ k) → ⊥) → (a ≡ i) ⊎ (b ≡ i)
+one_other (inl e) q n = inl e
+one_other (inr e) (inl f) n = inr f
+one_other (inr e) (inr f) n = absurd (n (e, f))
 
 pub swap : {A B : Type 0} → A ⊎ B → B ⊎ A
 swap = ⊎_elim inr inl
 
 module _ {h : Shape} {s : List ℕ} {m : Move} (c : Paired h s m) {x : List ℕ} (mixed : Mixed h s (exchanged h s m) x) where
-  pub new-kept : SlotKept h s x m
-  new-kept = slot_kept c x (mixed-way c mixed).first
+  pub new_kept : SlotKept h s x m
+  new_kept = slot_kept c x (mixed_way c mixed).first
 
-  pub old-kept : SlotKept h s x (back m)
-  old-kept = slot_kept (turned c) x (mixed-way c mixed).second
+  pub old_kept : SlotKept h s x (back m)
+  old_kept = slot_kept (turned c) x (mixed_way c mixed).second
 
-  pub exchange-kept : ExchangeKept h s x m
-  exchange-kept = record {
-    new = new-kept;
-    old = old-kept;
-    moved = one-other (swap old-kept.target) new-kept.target;
-    replaced = one-other old-kept.target (swap new-kept.target);
+  pub exchange_kept : ExchangeKept h s x m
+  exchange_kept = record {
+    new = new_kept;
+    old = old_kept;
+    moved = one_other (swap old_kept.target) new_kept.target;
+    replaced = one_other old_kept.target (swap new_kept.target);
   }

@@ -2,115 +2,115 @@
 use Rattle.std.specs.Prelude.{◌≡◌, refl, ◌≢◌, not, List, [], ◌∷◌, ℕ, ◌+◌, ◌≤◌, ◌<◌, eqb, length}
 use Rattle.std.proofs.Common.{ap, ◌∙◌, arith, lit<, lit≤, eq-eqb, ne_eqb}
 use Rattle.std.proofs.Math.ListN.{length-append}
-use Rattle.seq.specs.BytesLaws.{put-length}
+use Rattle.seq.specs.BytesLaws.{put_length}
 use Rattle.layout.specs.declared.Shape.{Shape}
 use Rattle.layout.specs.Facts.{Laid}
-use Rattle.layout.specs.RecordLaws.{record-length}
-use Rattle.layout.specs.View.{inodeAt}
-use Rattle.encode.specs.Journal.{exchangeKind}
-use Rattle.plan.specs.Form.{planRows, rowPut, cleared, entryGroup, resultGroup}
+use Rattle.layout.specs.RecordLaws.{record_length}
+use Rattle.layout.specs.View.{inode_at}
+use Rattle.encode.specs.Journal.{exchange_kind}
+use Rattle.plan.specs.Form.{plan_rows, row_stored, cleared, entry_group, result_group}
 use Rattle.plan.specs.FitFacts.{Writes}
-use Rattle.plan.specs.Write.{inodeKey, rowFrom}
+use Rattle.plan.specs.Write.{inode_key, row_from}
 use Rattle.plan.specs.Filled.{AllWrites, Filled}
-use Rattle.plan.specs.WriteLaws.{filled-one, filled-join, plan-filled, writes-join}
+use Rattle.plan.specs.WriteLaws.{filled_one, filled_join, plan_filled, writes_join}
 use Rattle.recounts.specs.declared.Move.{Move}
-use Rattle.results.specs.Results.{movedAfter, moved_row, clearRow}
-use Rattle.results.specs.Start.{startRow}
-use Rattle.results.specs.Again.{moved_length, holder-length}
-use Rattle.results.specs.Owed.{inode-writes, when-writes}
-use Rattle.results.specs.ResultRows.{when-one, when-none, when-le}
-use Rattle.exchanges.specs.Exchange.{back, slotRow, parentAfter, parentRow, slotRows, parentRows, inodeRows, exchangeResults, exchangeRows, exchangePlanned}
+use Rattle.results.specs.Results.{moved_after, moved_row, clear_row}
+use Rattle.results.specs.Start.{start_row}
+use Rattle.results.specs.Again.{moved_length, holder_length}
+use Rattle.results.specs.Owed.{inode_writes, when_writes}
+use Rattle.results.specs.ResultRows.{when_one, when_none, when_le}
+use Rattle.exchanges.specs.Exchange.{back, slot_row, parent_after, parent_row, slot_rows, parent_rows, inode_rows, exchange_results, exchange_rows, exchange_planned}
 use Rattle.exchanges.specs.InImage.{BothInImage}
 
 module _ (h : Shape) (s : List ℕ) (m : Move) where
   -- ---- how many there are
 
-  pub parents-le : length (parentRows h s m) ≤ 2
-  parents-le = omega (arith, when-le (not (eqb m.into m.from)) (parentRow h s m m.into))
+  pub parents_le : length (parent_rows h s m) ≤ 2
+  parents_le = omega (arith, when_le (not (eqb m.into m.from)) (parent_row h s m m.into))
 
-  pub exchange-le : length (exchangeResults h s m) ≤ 6
-  unfolding exchangeResults
-  exchange-le = omega (arith, parents-le, length-append (parentRows h s m) (moved_row h s (back m) ∷ []))
+  pub exchange_le : length (exchange_results h s m) ≤ 6
+  unfolding exchange_results
+  exchange_le = omega (arith, parents_le, length-append (parent_rows h s m) (moved_row h s (back m) ∷ []))
 
   -- ---- put into a plan
 
-  pub parents-one : {p q : List ℕ} {i : ℕ} → m.into ≡ m.from → q ≡ rowPut p i (rowFrom h (parentRow h s m m.from))
-      → Filled h p i (parentRows h s m) q (i + 1)
-  parents-one e a =
-      filled-join h (filled-one h (parentRow h s m m.from) a)
-      (when-none h (parentRow h s m m.into) (not (eqb m.into m.from)) (rw (eq-eqb _ _ e)))
+  pub parents_one : {p q : List ℕ} {i : ℕ} → m.into ≡ m.from → q ≡ row_stored p i (row_from h (parent_row h s m m.from))
+      → Filled h p i (parent_rows h s m) q (i + 1)
+  parents_one e a =
+      filled_join h (filled_one h (parent_row h s m m.from) a)
+      (when_none h (parent_row h s m m.into) (not (eqb m.into m.from)) (rw (eq-eqb _ _ e)))
 
-  pub parents-two : {p q r : List ℕ} {i : ℕ} → m.into ≢ m.from → q ≡ rowPut p i (rowFrom h (parentRow h s m m.from))
-      → r ≡ rowPut q (i + 1) (rowFrom h (parentRow h s m m.into)) → Filled h p i (parentRows h s m) r (i + 2)
-  parents-two {p} {q} {r} {i} n a b =
+  pub parents_two : {p q r : List ℕ} {i : ℕ} → m.into ≢ m.from → q ≡ row_stored p i (row_from h (parent_row h s m m.from))
+      → r ≡ row_stored q (i + 1) (row_from h (parent_row h s m m.into)) → Filled h p i (parent_rows h s m) r (i + 2)
+  parents_two {p} {q} {r} {i} n a b =
       let two : i + 1 + 1 ≡ i + 2 = omega arith in
-      rw (← two) (filled-join h (filled-one h (parentRow h s m m.from) a)
-      (when-one h (parentRow h s m m.into) (not (eqb m.into m.from)) (rw (ne_eqb _ _ n)) b))
+      rw (← two) (filled_join h (filled_one h (parent_row h s m m.from) a)
+      (when_one h (parent_row h s m m.into) (not (eqb m.into m.from)) (rw (ne_eqb _ _ n)) b))
 
   -- the other side as the code has it
   module _ (o : Move) (is : o ≡ back m) where
-    pub slots_filled : {p a b : List ℕ} {i : ℕ} → a ≡ rowPut p i (rowFrom h (slotRow h s o)) → b ≡ rowPut a (i + 1) (rowFrom h (slotRow h s m))
-        → Filled h p i (slotRows h s m) b (i + 2)
+    pub slots_filled : {p a b : List ℕ} {i : ℕ} → a ≡ row_stored p i (row_from h (slot_row h s o)) → b ≡ row_stored a (i + 1) (row_from h (slot_row h s m))
+        → Filled h p i (slot_rows h s m) b (i + 2)
     slots_filled {p} {a} {b} {i} first second =
         let two : i + 1 + 1 ≡ i + 2 = omega arith in
-        rw (← two) (filled-join h (filled-one h (slotRow h s (back m)) (first ∙ ap (λ (x : Move). rowPut p i (rowFrom h (slotRow h s x))) is))
-        (filled-one h (slotRow h s m) second))
+        rw (← two) (filled_join h (filled_one h (slot_row h s (back m)) (first ∙ ap (λ (x : Move). row_stored p i (row_from h (slot_row h s x))) is))
+        (filled_one h (slot_row h s m) second))
 
-    pub inodes-filled : {p a b c : List ℕ} {i n : ℕ} → a ≡ rowPut p i (rowFrom h (moved_row h s m)) → Filled h a (i + 1) (parentRows h s m) b n
-        → c ≡ rowPut b n (rowFrom h (moved_row h s o)) → Filled h p i (inodeRows h s m) c (n + 1)
-    inodes-filled {p} {a} {b} {c} {i} {n} first rest last =
-        filled-join h (filled-one h (moved_row h s m) first)
-        (filled-join h rest (filled-one h (moved_row h s (back m)) (last ∙ ap (λ (x : Move). rowPut b n (rowFrom h (moved_row h s x))) is)))
+    pub inodes_filled : {p a b c : List ℕ} {i n : ℕ} → a ≡ row_stored p i (row_from h (moved_row h s m)) → Filled h a (i + 1) (parent_rows h s m) b n
+        → c ≡ row_stored b n (row_from h (moved_row h s o)) → Filled h p i (inode_rows h s m) c (n + 1)
+    inodes_filled {p} {a} {b} {c} {i} {n} first rest last =
+        filled_join h (filled_one h (moved_row h s m) first)
+        (filled_join h rest (filled_one h (moved_row h s (back m)) (last ∙ ap (λ (x : Move). row_stored b n (row_from h (moved_row h s x))) is)))
 
-  pub exchange-filled : {p q r : List ℕ} {i n : ℕ} → Filled h p i (slotRows h s m) q (i + 2) → Filled h q (i + 2) (inodeRows h s m) r n
-      → Filled h p i (exchangeResults h s m) r n
-  unfolding exchangeResults
-  exchange-filled slots inodes = filled-join h slots inodes
+  pub exchange_filled : {p q r : List ℕ} {i n : ℕ} → Filled h p i (slot_rows h s m) q (i + 2) → Filled h q (i + 2) (inode_rows h s m) r n
+      → Filled h p i (exchange_results h s m) r n
+  unfolding exchange_results
+  exchange_filled slots inodes = filled_join h slots inodes
 
   -- there is a place behind them
-  pub exchange-below : {p q : List ℕ} {n : ℕ} → Filled h p 1 (exchangeResults h s m) q n → n < planRows
-  exchange-below f = omega (arith, f.next, exchange-le)
+  pub exchange_below : {p q : List ℕ} {n : ℕ} → Filled h p 1 (exchange_results h s m) q n → n < plan_rows
+  exchange_below f = omega (arith, f.next, exchange_le)
 
   -- all rows, from a cleared plan on
-  pub exchange-planned : (p : List ℕ) {z a b d : List ℕ} {n : ℕ} → z ≡ cleared p → a ≡ rowPut z 0 (rowFrom h (startRow exchangeKind m))
-      → Filled h a 1 (exchangeResults h s m) b n → d ≡ rowPut b n (rowFrom h (clearRow h))
-      → (d ≡ exchangePlanned h s m p) × (n + 1 ≡ length (exchangeRows h s m))
-  unfolding exchangePlanned exchangeRows
-  exchange-planned p e first rest last =
-      plan-filled h p e (filled-join h (filled-one h (startRow exchangeKind m) first) (filled-join h rest (filled-one h (clearRow h) last)))
+  pub exchange_planned_lem : (p : List ℕ) {z a b d : List ℕ} {n : ℕ} → z ≡ cleared p → a ≡ row_stored z 0 (row_from h (start_row exchange_kind m))
+      → Filled h a 1 (exchange_results h s m) b n → d ≡ row_stored b n (row_from h (clear_row h))
+      → (d ≡ exchange_planned h s m p) × (n + 1 ≡ length (exchange_rows h s m))
+  unfolding exchange_planned exchange_rows
+  exchange_planned_lem p e first rest last =
+      plan_filled h p e (filled_join h (filled_one h (start_row exchange_kind m) first) (filled_join h rest (filled_one h (clear_row h) last)))
 
 -- ---- what an operation owes
 
 module _ (h : Shape) (s : List ℕ) (laid : Laid h s) where
-  long : (i : ℕ) → i < h.inodes → length (inodeAt h s i) ≡ 32
-  long i l = record-length h s 0 i laid.long (lit< tt) l
+  long : (i : ℕ) → i < h.inodes → length (inode_at h s i) ≡ 32
+  long i l = record_length h s 0 i laid.long (lit< tt) l
 
   -- for one side
-  slot-writes : (m : Move) → m.new < h.entries → Writes h entryGroup (slotRow h s m).key (slotRow h s m).body
-  slot-writes m l = record {
+  slot_writes : (m : Move) → m.new < h.entries → Writes h entry_group (slot_row h s m).key (slot_row h s m).body
+  slot_writes m l = record {
     first = lit≤ tt;
     last = lit≤ tt;
-    valid = record { in_image = lit< tt; in-section = l };
+    valid = record { in_image = lit< tt; in_section = l };
     allowed = refl;
-    whole = put-length _ 2 _ ∙ record-length h s 1 m.new laid.long (lit< tt) l;
+    whole = put_length _ 2 _ ∙ record_length h s 1 m.new laid.long (lit< tt) l;
   }
 
-  inode-moves : (m : Move) → m.moved < h.inodes → Writes h resultGroup (inodeKey m.moved) (movedAfter h s m)
-  inode-moves m l = inode-writes h m.moved _ l (moved_length m.into m.now _ ∙ long m.moved l)
+  inode_moves : (m : Move) → m.moved < h.inodes → Writes h result_group (inode_key m.moved) (moved_after h s m)
+  inode_moves m l = inode_writes h m.moved _ l (moved_length m.into m.now _ ∙ long m.moved l)
 
-  parent-writes : (m : Move) (i : ℕ) → i < h.inodes → Writes h resultGroup (inodeKey i) (parentAfter h s m i)
-  parent-writes m i l = inode-writes h i _ l (holder-length _ m.now _ ∙ long i l)
+  parent_writes : (m : Move) (i : ℕ) → i < h.inodes → Writes h result_group (inode_key i) (parent_after h s m i)
+  parent_writes m i l = inode_writes h i _ l (holder_length _ m.now _ ∙ long i l)
 
-  pub exchange-writes : (m : Move) → BothInImage h m → AllWrites h (exchangeResults h s m)
-  unfolding exchangeResults
-  exchange-writes m range =
-      let into = when-writes h (not (eqb m.into m.from)) (parentRow h s m m.into) (λ _. parent-writes m m.into range.into) in (
-        slot-writes (back m) range.slots.old,
+  pub exchange_writes : (m : Move) → BothInImage h m → AllWrites h (exchange_results h s m)
+  unfolding exchange_results
+  exchange_writes m range =
+      let into = when_writes h (not (eqb m.into m.from)) (parent_row h s m m.into) (λ _. parent_writes m m.into range.into) in (
+        slot_writes (back m) range.slots.old,
         (
-          slot-writes m range.slots.new,
+          slot_writes m range.slots.new,
           (
-            inode-moves m range.moved,
-            writes-join h (parentRows h s m) (moved_row h s (back m) ∷ []) (parent-writes m m.from range.from, into) (inode-moves (back m) range.replaced, tt),
+            inode_moves m range.moved,
+            writes_join h (parent_rows h s m) (moved_row h s (back m) ∷ []) (parent_writes m m.from range.from, into) (inode_moves (back m) range.replaced, tt),
           ),
         ),
       )

@@ -1,10 +1,10 @@
 // What an exchange leaves in the parents, by recount of the entries as it edits them, and its rows.
 ghost use Rattle.std.specs.Prelude.{◌≡◌, ◌+◌, ◌≤◌, ◌<◌};
-ghost use Rattle.layout.specs.Limits.{entryLimit};
+ghost use Rattle.layout.specs.Limits.{entry_limit};
 ghost use Rattle.layout.specs.Facts.{Laid};
 ghost use Rattle.layout.specs.View.{view_of};
 ghost use Rattle.recounts.specs.RecountLaws.{Two};
-ghost use Rattle.exchanges.specs.Exchange.{back, childrenExchanged, parentAfter};
+ghost use Rattle.exchanges.specs.Exchange.{back, children_exchanged, parent_after};
 
 use layout::Shape;
 use recounts::Move;
@@ -30,7 +30,7 @@ fn back(m: Move) -> Move
 // How many child directories directory d has, by the entries as exchanged: the count as it stands tells it but for the two slots.
 fn children(image: &[u8], h: Shape, m: Move, d: usize) -> usize
     requires { Laid h image.now × Two m h.entries }
-    ensures { (result ≡ childrenExchanged (view_of h image.now) m d) × (result ≤ entryLimit) }
+    ensures { (result ≡ children_exchanged (view_of h image.now) m d) × (result ≤ entry_limit) }
 {
     let stand = tree::child_directories(image, h, d);
     let second = recounts::one_if(recounts::makes_child(image, h, back(m), d));
@@ -43,7 +43,7 @@ fn children(image: &[u8], h: Shape, m: Move, d: usize) -> usize
 // The old or the new parent, inode i.
 fn parent(image: &[u8], h: Shape, m: Move, i: usize) -> [u8; 32]
     requires { Laid h image.now × Two m h.entries × (i < h.inodes) }
-    ensures { result ≡ parentAfter h image.now m i }
+    ensures { result ≡ parent_after h image.now m i }
 {
     let links = children(image, h, m, i) + 2;
     results::records::counted(image, h, i, links, m.now)

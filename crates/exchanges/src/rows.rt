@@ -1,11 +1,11 @@
 // The rows of an exchange, put into a plan.
 ghost use Rattle.std.specs.Prelude.{◌≡◌, ◌+◌, ◌<◌, ◌≤◌, length};
 ghost use Rattle.layout.specs.Facts.{Laid};
-ghost use Rattle.plan.specs.Form.{planRows, planBytes, rowPut};
-ghost use Rattle.plan.specs.Write.{rowFrom};
+ghost use Rattle.plan.specs.Form.{plan_rows, plan_bytes, row_stored};
+ghost use Rattle.plan.specs.Write.{row_from};
 ghost use Rattle.plan.specs.Filled.{Filled};
 ghost use Rattle.recounts.specs.RecountLaws.{Two};
-ghost use Rattle.exchanges.specs.Exchange.{slotRow, parentRow, slotRows, parentRows, inodeRows, exchangeResults, exchangeRows, exchangePlanned};
+ghost use Rattle.exchanges.specs.Exchange.{slot_row, parent_row, slot_rows, parent_rows, inode_rows, exchange_results, exchange_rows, exchange_planned};
 ghost use Rattle.exchanges.specs.InImage.{BothInImage};
 
 use encode::journal;
@@ -14,16 +14,16 @@ use recounts::Move;
 
 // Puts the entry that the moved inode takes over, with room for its record lent.
 fn put_taken(plan: &mut [u8], at: usize, r: &mut [u8], image: &[u8], h: Shape, m: Move)
-    requires { (planBytes ≤ length plan.old) × (at < planRows) × Laid h image.now × (m.new < h.entries) × (length r.old ≡ h.width) }
-    ensures { plan.new ≡ rowPut plan.old at (rowFrom h (slotRow h image.now m)) }
+    requires { (plan_bytes ≤ length plan.old) × (at < plan_rows) × Laid h image.now × (m.new < h.entries) × (length r.old ≡ h.width) }
+    ensures { plan.new ≡ row_stored plan.old at (row_from h (slot_row h image.now m)) }
 {
     results::records::retarget(r, image, h, m.new, m.moved);
     plan::put_row(plan, at, plan::ENTRY_GROUP, place::entry(h, m.new), r);
 }
 
 fn put_slot(plan: &mut [u8], at: usize, image: &[u8], h: Shape, m: Move)
-    requires { (planBytes ≤ length plan.old) × (at < planRows) × Laid h image.now × (m.new < h.entries) }
-    ensures { plan.new ≡ rowPut plan.old at (rowFrom h (slotRow h image.now m)) }
+    requires { (plan_bytes ≤ length plan.old) × (at < plan_rows) × Laid h image.now × (m.new < h.entries) }
+    ensures { plan.new ≡ row_stored plan.old at (row_from h (slot_row h image.now m)) }
 {
     let mut bytes = [0u8; plan::BODY_BYTES];
     let width = h.width;
@@ -32,8 +32,8 @@ fn put_slot(plan: &mut [u8], at: usize, image: &[u8], h: Shape, m: Move)
 
 // The old or the new parent, inode i.
 fn put_parent(plan: &mut [u8], at: usize, image: &[u8], h: Shape, m: Move, i: usize)
-    requires { (planBytes ≤ length plan.old) × (at < planRows) × Laid h image.now × Two m h.entries × (i < h.inodes) }
-    ensures { plan.new ≡ rowPut plan.old at (rowFrom h (parentRow h image.now m i)) }
+    requires { (plan_bytes ≤ length plan.old) × (at < plan_rows) × Laid h image.now × Two m h.entries × (i < h.inodes) }
+    ensures { plan.new ≡ row_stored plan.old at (row_from h (parent_row h image.now m i)) }
 {
     let r = crate::parent(image, h, m, i);
     plan::put_row(plan, at, plan::RESULT_GROUP, place::inode(h, i), &r);
@@ -41,8 +41,8 @@ fn put_parent(plan: &mut [u8], at: usize, image: &[u8], h: Shape, m: Move, i: us
 
 // The old parent, and the new one where it is another directory. Answers the next place.
 fn put_parents(plan: &mut [u8], at: usize, image: &[u8], h: Shape, m: Move) -> usize
-    requires { (planBytes ≤ length plan.old) × (at + 2 ≤ planRows) × Laid h image.now × BothInImage h m }
-    ensures { Filled h plan.old at (parentRows h image.now m) plan.new result }
+    requires { (plan_bytes ≤ length plan.old) × (at + 2 ≤ plan_rows) × Laid h image.now × BothInImage h m }
+    ensures { Filled h plan.old at (parent_rows h image.now m) plan.new result }
 {
     put_parent(plan, at, image, h, m, m.from);
     if m.into == m.from {
@@ -54,8 +54,8 @@ fn put_parents(plan: &mut [u8], at: usize, image: &[u8], h: Shape, m: Move) -> u
 
 // Both entries.
 fn put_slots(plan: &mut [u8], at: usize, image: &[u8], h: Shape, m: Move)
-    requires { (planBytes ≤ length plan.old) × (at + 2 ≤ planRows) × Laid h image.now × BothInImage h m }
-    ensures { Filled h plan.old at (slotRows h image.now m) plan.new (at + 2) }
+    requires { (plan_bytes ≤ length plan.old) × (at + 2 ≤ plan_rows) × Laid h image.now × BothInImage h m }
+    ensures { Filled h plan.old at (slot_rows h image.now m) plan.new (at + 2) }
 {
     put_slot(plan, at, image, h, crate::back(m));
     put_slot(plan, at + 1, image, h, m);
@@ -63,8 +63,8 @@ fn put_slots(plan: &mut [u8], at: usize, image: &[u8], h: Shape, m: Move)
 
 // The moved inode, the parents and the replaced inode. Answers the next place.
 fn put_inodes(plan: &mut [u8], at: usize, image: &[u8], h: Shape, m: Move) -> usize
-    requires { (planBytes ≤ length plan.old) × (at + 4 ≤ planRows) × Laid h image.now × BothInImage h m }
-    ensures { Filled h plan.old at (inodeRows h image.now m) plan.new result }
+    requires { (plan_bytes ≤ length plan.old) × (at + 4 ≤ plan_rows) × Laid h image.now × BothInImage h m }
+    ensures { Filled h plan.old at (inode_rows h image.now m) plan.new result }
 {
     results::rows::put_moved(plan, at, image, h, m);
     let next = put_parents(plan, at + 1, image, h, m);
@@ -74,8 +74,8 @@ fn put_inodes(plan: &mut [u8], at: usize, image: &[u8], h: Shape, m: Move) -> us
 
 // Puts the rows of the exchange behind the journal record into the plan from place first on, and answers the place behind them.
 pub fn put(plan: &mut [u8], first: usize, image: &[u8], h: Shape, m: Move) -> usize
-    requires { (planBytes ≤ length plan.old) × (first + 6 ≤ planRows) × Laid h image.now × BothInImage h m }
-    ensures { Filled h plan.old first (exchangeResults h image.now m) plan.new result }
+    requires { (plan_bytes ≤ length plan.old) × (first + 6 ≤ plan_rows) × Laid h image.now × BothInImage h m }
+    ensures { Filled h plan.old first (exchange_results h image.now m) plan.new result }
 {
     put_slots(plan, first, image, h, m);
     put_inodes(plan, first + 2, image, h, m)
@@ -83,8 +83,8 @@ pub fn put(plan: &mut [u8], first: usize, image: &[u8], h: Shape, m: Move) -> us
 
 // Fills the plan with all rows of the exchange, and answers how many they are.
 pub fn fill(plan: &mut [u8], image: &[u8], h: Shape, m: Move) -> usize
-    requires { (planBytes ≤ length plan.old) × Laid h image.now × BothInImage h m }
-    ensures { (plan.new ≡ exchangePlanned h image.now m plan.old) × (result ≡ length (exchangeRows h image.now m)) }
+    requires { (plan_bytes ≤ length plan.old) × Laid h image.now × BothInImage h m }
+    ensures { (plan.new ≡ exchange_planned h image.now m plan.old) × (result ≡ length (exchange_rows h image.now m)) }
 {
     plan::clear(plan);
     results::rows::put_start(plan, journal::EXCHANGE, image, h, m);

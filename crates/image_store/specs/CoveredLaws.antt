@@ -8,9 +8,9 @@ use Rattle.layout.specs.declared.Shape.{Shape}
 use Rattle.layout.specs.Place.{Key, records, place}
 use Rattle.layout.specs.Facts.{Valid}
 use Rattle.layout.specs.PlaceLaws.{apart}
-use Rattle.plan.specs.Fit.{coverable, coversRecord, coversSection, covers}
+use Rattle.plan.specs.Fit.{coverable, covers_record, covers_section, covers}
 use Rattle.plan.specs.FitFacts.{Covered}
-use Rattle.plan.specs.FitLaws.{one_covers, record-some}
+use Rattle.plan.specs.FitLaws.{one_covers, record_some}
 use Rattle.image_store.specs.ImageLaws.{same_key}
 use Rattle.image_store.specs.Covered.{key_at}
 
@@ -33,21 +33,21 @@ one_place h some j k u v e = go (same_key j k)
     go : Dec (j ≡ k) → j ≡ k
     go (yes s) = s
     go (no n) =
-        let a = record-some h some j.section in
-        let b = record-some h some k.section in
+        let a = record_some h some j.section in
+        let b = record_some h some k.section in
         absurd (⊎_elim (λ l. omega arith) (λ l. omega arith) (apart h j k u v n))
 
 -- it is found where there is one
-pub key-covered : (h : Shape) (at n : ℕ) → Covered h at n → Valid h (key_at h at n) × (coverable (key_at h at n).section ≡ true) × (at ≡ place h (key_at h at n).section (key_at h at n).index)
-unfolding key_at coversSection covers
-key-covered h at n c =
-    let k = first (coversSection h at n) 5 in
-    let (l, f) = first_found (coversSection h at n) 5 (one_covers h at n c) in
-    let (m, g) = first_found (coversRecord h at n k) (records h k) (and_right (coverable k) _ f) in
-    (record { in_image = l; in-section = m }, and_left (coverable k) _ f, eqb-true _ _ (and_left (eqb at _) _ g))
+pub key_covered : (h : Shape) (at n : ℕ) → Covered h at n → Valid h (key_at h at n) × (coverable (key_at h at n).section ≡ true) × (at ≡ place h (key_at h at n).section (key_at h at n).index)
+unfolding key_at covers_section covers
+key_covered h at n c =
+    let k = first (covers_section h at n) 5 in
+    let (l, f) = first_found (covers_section h at n) 5 (one_covers h at n c) in
+    let (m, g) = first_found (covers_record h at n k) (records h k) (and_right (coverable k) _ f) in
+    (record { in_image = l; in_section = m }, and_left (coverable k) _ f, eqb-true _ _ (and_left (eqb at _) _ g))
 
 -- and is the one
-pub key-is : (h : Shape) → 1 ≤ h.width → (at n : ℕ) (c : Covered h at n) → key_at h at n ≡ c.key
-key-is h some at n c =
-    let (v, a, e) = key-covered h at n c in
+pub key_is : (h : Shape) → 1 ≤ h.width → (at n : ℕ) (c : Covered h at n) → key_at h at n ≡ c.key
+key_is h some at n c =
+    let (v, a, e) = key_covered h at n c in
     one_place h some (key_at h at n) c.key v c.valid (sym e ∙ c.begins)

@@ -3,20 +3,20 @@ use Rattle.std.specs.Prelude.{◌≡◌, refl, ◌≢◌, Bool, true, false, not
 use Rattle.std.proofs.Common.{sym, ap, ◌∙◌, subst, lt-ltb, ltb-true}
 use Rattle.std.proofs.Math.Decide.{ℕ_discrete}
 use Rattle.std.proofs.lemmas.Bool.{not-true}
-use Rattle.seq.specs.Truth.{to-T, of_T, and_left, and_right, and_both}
+use Rattle.seq.specs.Truth.{to_t, of_t, and_left, and_right, and_both}
 use Rattle.layout.specs.declared.Shape.{Shape}
 use Rattle.layout.specs.Place.{Key}
 use Rattle.layout.specs.Facts.{Valid, Laid, Read}
-use Rattle.layout.specs.Contents.{layoutGood, shape_of}
-use Rattle.layout.specs.ContentsLaws.{good-laid}
-use Rattle.layout.specs.Record.{recordAt, store}
-use Rattle.layout.specs.RecordLaws.{store_same, store_other, store-contents, same-image}
-use Rattle.layout.specs.Commute.{store-shape, store-layout}
-use Rattle.plan.specs.FitLaws.{written-fits}
-use Rattle.plan.specs.Write.{Write, storeAll}
+use Rattle.layout.specs.Contents.{layout_good, shape_of}
+use Rattle.layout.specs.ContentsLaws.{good_laid}
+use Rattle.layout.specs.Record.{record_at, store}
+use Rattle.layout.specs.RecordLaws.{store_same, store_other, store_contents, same_image}
+use Rattle.layout.specs.Commute.{store_shape, store_layout}
+use Rattle.plan.specs.FitLaws.{written_fits}
+use Rattle.plan.specs.Write.{Write, store_all}
 use Rattle.crash_theorem.specs.Pick.{All}
 use Rattle.crash_theorem.specs.Store.{Store, put_all}
-use Rattle.image_store.specs.Image.{isValid, recordOf, Ok, Fits, accepted, putWrite}
+use Rattle.image_store.specs.Image.{is_valid, record_of, Ok, Fits, accepted, put_write}
 
 -- ---- keys
 
@@ -28,84 +28,84 @@ same_key j k = go (ℕ_discrete j.section k.section) (ℕ_discrete j.index k.ind
     go (yes e) (no n) = no (λ h. n (ap (λ (x : Key). x.index) h))
     go (no n) q = no (λ h. n (ap (λ (x : Key). x.section) h))
 
-pub valid-true : (h : Shape) (k : Key) → Valid h k → isValid h k ≡ true
-unfolding isValid
-valid-true h k v = and_both (ltb k.section 5) _ (lt-ltb _ _ v.in_image) (lt-ltb _ _ v.in-section)
+pub valid_true : (h : Shape) (k : Key) → Valid h k → is_valid h k ≡ true
+unfolding is_valid
+valid_true h k v = and_both (ltb k.section 5) _ (lt-ltb _ _ v.in_image) (lt-ltb _ _ v.in_section)
 
-pub true-valid : (h : Shape) (k : Key) → isValid h k ≡ true → Valid h k
-unfolding isValid
-true-valid h k e = record {
+pub true_valid : (h : Shape) (k : Key) → is_valid h k ≡ true → Valid h k
+unfolding is_valid
+true_valid h k e = record {
   in_image = ltb-true _ _ (and_left (ltb k.section 5) _ e);
-  in-section = ltb-true _ _ (and_right (ltb k.section 5) _ e);
+  in_section = ltb-true _ _ (and_right (ltb k.section 5) _ e);
 }
 
 -- ---- records
 
-pub record_is : (h : Shape) (s : List ℕ) (k : Key) → Valid h k → recordOf h s k ≡ recordAt h s k.section k.index
-unfolding recordOf
-record_is h s k v = rw (valid-true h k v)
+pub record_is : (h : Shape) (s : List ℕ) (k : Key) → Valid h k → record_of h s k ≡ record_at h s k.section k.index
+unfolding record_of
+record_is h s k v = rw (valid_true h k v)
 
 -- images that agree on a record where it exists agree on it
-pub record_same : (h : Shape) (s t : List ℕ) (k : Key) → (Valid h k → recordAt h s k.section k.index ≡ recordAt h t k.section k.index)
-    → recordOf h s k ≡ recordOf h t k
-unfolding recordOf
-record_same h s t k f = go (isValid h k) (λ e. f (true-valid h k e))
+pub record_same : (h : Shape) (s t : List ℕ) (k : Key) → (Valid h k → record_at h s k.section k.index ≡ record_at h t k.section k.index)
+    → record_of h s k ≡ record_of h t k
+unfolding record_of
+record_same h s t k f = go (is_valid h k) (λ e. f (true_valid h k e))
   where
-    go : (b : Bool) → (b ≡ true → recordAt h s k.section k.index ≡ recordAt h t k.section k.index)
-        → cond b (recordAt h s k.section k.index) [] ≡ cond b (recordAt h t k.section k.index) []
+    go : (b : Bool) → (b ≡ true → record_at h s k.section k.index ≡ record_at h t k.section k.index)
+        → cond b (record_at h s k.section k.index) [] ≡ cond b (record_at h t k.section k.index) []
     go true f = f refl
     go false f = refl
 
 -- ---- images of one layout
 
-pub read_of : (h : Shape) (s : List ℕ) → layoutGood s ≡ true → h ≡ shape_of s → Read s h
-read_of h s good shape = record { good = good; shape = shape; laid = subst (λ (x : Shape). Laid x s) (sym shape) (good-laid s good) }
+pub read_of : (h : Shape) (s : List ℕ) → layout_good s ≡ true → h ≡ shape_of s → Read s h
+read_of h s good shape = record { good = good; shape = shape; laid = subst (λ (x : Shape). Laid x s) (sym shape) (good_laid s good) }
 
 -- s₀ itself has it
-pub first-ok : (h : Shape) (s₀ : List ℕ) → Read s₀ h → Ok h s₀ s₀
-first-ok h s₀ r = record { read = r; contents = refl }
+pub first_ok : (h : Shape) (s₀ : List ℕ) → Read s₀ h → Ok h s₀ s₀
+first_ok h s₀ r = record { read = r; contents = refl }
 
 -- ---- rows
 
-pub fits-accepted : (h : Shape) (w : Write) → Fits h w → accepted h w ≡ true
+pub fits_accepted : (h : Shape) (w : Write) → Fits h w → accepted h w ≡ true
 unfolding accepted
-fits-accepted h w f = written-fits h w.group w.key w.body f.writes
+fits_accepted h w f = written_fits h w.group w.key w.body f.writes
 
-pub put_refused : (h : Shape) (s : List ℕ) (w : Write) → accepted h w ≡ false → putWrite h s w ≡ s
-unfolding putWrite
+pub put_refused : (h : Shape) (s : List ℕ) (w : Write) → accepted h w ≡ false → put_write h s w ≡ s
+unfolding put_write
 put_refused h s w e = rw e
 
-pub put_is : (h : Shape) (s : List ℕ) (w : Write) → Fits h w → putWrite h s w ≡ store h s w.key w.body
-unfolding putWrite
-put_is h s w f = rw (fits-accepted h w f)
+pub put_is : (h : Shape) (s : List ℕ) (w : Write) → Fits h w → put_write h s w ≡ store h s w.key w.body
+unfolding put_write
+put_is h s w f = rw (fits_accepted h w f)
 
 -- ---- the laws
 
 module _ (h : Shape) (s₀ s : List ℕ) (w : Write) (o : Ok h s₀ s) (f : Fits h w) where
-  pub put-ok : Ok h s₀ (putWrite h s w)
-  put-ok =
+  pub put_ok : Ok h s₀ (put_write h s w)
+  put_ok =
       subst (λ (x : List ℕ). Ok h s₀ x) (sym (put_is h s w f)) (record {
-        read = read_of h _ (store-layout h s w.key w.body ∙ o.read.good) (o.read.shape ∙ sym (store-shape h s w.key w.body));
-        contents = store-contents h s w.body w.key o.read.laid.long f.writes.valid f.writes.whole ∙ o.contents;
+        read = read_of h _ (store_layout h s w.key w.body ∙ o.read.good) (o.read.shape ∙ sym (store_shape h s w.key w.body));
+        contents = store_contents h s w.body w.key o.read.laid.long f.writes.valid f.writes.whole ∙ o.contents;
       })
 
-  pub get-same : recordOf h (putWrite h s w) w.key ≡ w.body
-  get-same =
-      record_is h (putWrite h s w) w.key f.writes.valid
-      ∙ ap (λ (x : List ℕ). recordAt h x w.key.section w.key.index) (put_is h s w f)
+  pub get_same : record_of h (put_write h s w) w.key ≡ w.body
+  get_same =
+      record_is h (put_write h s w) w.key f.writes.valid
+      ∙ ap (λ (x : List ℕ). record_at h x w.key.section w.key.index) (put_is h s w f)
       ∙ store_same h s w.body w.key o.read.laid.long f.writes.valid f.writes.whole
 
-  pub get_other : (j : Key) → j ≢ w.key → recordOf h (putWrite h s w) j ≡ recordOf h s j
+  pub get_other : (j : Key) → j ≢ w.key → record_of h (put_write h s w) j ≡ record_of h s j
   get_other j n =
-      record_same h (putWrite h s w) s j (λ v.
-      ap (λ (x : List ℕ). recordAt h x j.section j.index) (put_is h s w f)
+      record_same h (put_write h s w) s j (λ v.
+      ap (λ (x : List ℕ). record_at h x j.section j.index) (put_is h s w f)
       ∙ store_other h s w.body w.key o.read.laid.long f.writes.valid f.writes.whole j v n)
 
-pub image-ext : (h : Shape) (s₀ s t : List ℕ) → Ok h s₀ s → Ok h s₀ t → ((k : Key) → recordOf h s k ≡ recordOf h t k) → s ≡ t
-image-ext h s₀ s t o p e =
-    same-image h s t o.read.laid.long p.read.laid.long (o.contents ∙ sym p.contents) (λ k i l b.
+pub image_ext : (h : Shape) (s₀ s t : List ℕ) → Ok h s₀ s → Ok h s₀ t → ((k : Key) → record_of h s k ≡ record_of h t k) → s ≡ t
+image_ext h s₀ s t o p e =
+    same_image h s t o.read.laid.long p.read.laid.long (o.contents ∙ sym p.contents) (λ k i l b.
     let key : Key = record { section = k; index = i } in
-    let v : Valid h key = record { in_image = l; in-section = b } in
+    let v : Valid h key = record { in_image = l; in_section = b } in
     sym (record_is h s key v) ∙ e key ∙ record_is h t key v)
 
 -- The images with the layout of s₀, as a store. Rows by record need no buffers.
@@ -120,22 +120,22 @@ images h s₀ = record {
   group = λ w. w.group;
   key = λ w. w.key;
   body = λ w. w.body;
-  get = λ s k. recordOf h s k;
-  put = λ s w. putWrite h s w;
+  get = λ s k. record_of h s k;
+  put = λ s w. put_write h s w;
   accepts = λ s w. accepted h w;
   Ok = Ok h s₀;
   Fits = Fits h;
   same = same_key;
-  takes = λ {X} {r} o f. to-T (accepted h r) (fits-accepted h r f);
-  refuses = λ X r t. put_refused h X r (not-true (accepted h r) (of_T (not (accepted h r)) t));
-  put-ok = λ {X} {r} o f. put-ok h s₀ X r o f;
-  get-same = λ {X} {r} o f. get-same h s₀ X r o f;
+  takes = λ {X} {r} o f. to_t (accepted h r) (fits_accepted h r f);
+  refuses = λ X r t. put_refused h X r (not-true (accepted h r) (of_t (not (accepted h r)) t));
+  put_ok = λ {X} {r} o f. put_ok h s₀ X r o f;
+  get_same = λ {X} {r} o f. get_same h s₀ X r o f;
   get_other = λ {X} {r} o f j n. get_other h s₀ X r o f j n;
-  ext = λ {X} {Y} o p e. image-ext h s₀ X Y o p e;
+  ext = λ {X} {Y} o p e. image_ext h s₀ X Y o p e;
 }
 
 -- rows that fit, applied one after another, are so many stores of records
-pub puts-store : (h : Shape) (s₀ s : List ℕ) (ws : List Write) → All (Fits h) ws → put_all (images h s₀) s ws ≡ storeAll h s ws
-puts-store h s₀ s [] f = refl
-puts-store h s₀ s (w ∷ ws) f =
-    ap (λ (x : List ℕ). put_all (images h s₀) x ws) (put_is h s w f.0) ∙ puts-store h s₀ (store h s w.key w.body) ws f.1
+pub puts_store : (h : Shape) (s₀ s : List ℕ) (ws : List Write) → All (Fits h) ws → put_all (images h s₀) s ws ≡ store_all h s ws
+puts_store h s₀ s [] f = refl
+puts_store h s₀ s (w ∷ ws) f =
+    ap (λ (x : List ℕ). put_all (images h s₀) x ws) (put_is h s w f.0) ∙ puts_store h s₀ (store h s w.key w.body) ws f.1

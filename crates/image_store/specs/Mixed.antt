@@ -2,9 +2,9 @@
 use Rattle.std.specs.Prelude.{◌≡◌, ◌≢◌, ◌⊎◌, List, ℕ}
 use Rattle.layout.specs.declared.Shape.{Shape}
 use Rattle.layout.specs.Place.{Key}
-use Rattle.plan.specs.Write.{journalKey}
-use Rattle.image_store.specs.Image.{recordOf}
+use Rattle.plan.specs.Write.{journal_key}
+use Rattle.image_store.specs.Image.{record_of}
 
 -- x, of s and t
 pub record Mixed (h : Shape) (s t x : List ℕ) : Type 0 where
-  pub either : (k : Key) → k ≢ journalKey → (recordOf h x k ≡ recordOf h s k) ⊎ (recordOf h x k ≡ recordOf h t k)
+  pub either : (k : Key) → k ≢ journal_key → (record_of h x k ≡ record_of h s k) ⊎ (record_of h x k ≡ record_of h t k)

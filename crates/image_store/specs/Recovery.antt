@@ -2,8 +2,8 @@
 use Rattle.std.specs.Prelude.{◌≡◌, ◌≢◌, not, List, ℕ, zero, suc, ◌≤◌, T, length}
 use Rattle.std.proofs.Math.Option.{Option, none, some}
 use Rattle.layout.specs.declared.Shape.{Shape}
-use Rattle.plan.specs.Form.{planRows}
-use Rattle.plan.specs.Jobs.{Job, jobsIn}
+use Rattle.plan.specs.Form.{plan_rows}
+use Rattle.plan.specs.Jobs.{Job, jobs_in}
 use Rattle.plan.specs.Write.{Write}
 use Rattle.image_store.specs.Image.{Ok}
 use Rattle.image_store.specs.Buffers.{Buffers, enough}
@@ -15,18 +15,18 @@ pub record RecoveryJob : Type 0 where
   pub plan : Buffers → List ℕ → List ℕ
 
 -- what then waits: at 0 the rows of the plan, and else nothing
-abbrev pub waitingAt : ℕ → List ℕ → Option (List Job)
-waitingAt zero plan = some (jobsIn plan)
-waitingAt (suc n) plan = none
+abbrev pub waiting_at : ℕ → List ℕ → Option (List Job)
+waiting_at zero plan = some (jobs_in plan)
+waiting_at (suc n) plan = none
 
-abbrev pub waitingAfter : RecoveryJob → Buffers → List ℕ → Option (List Job)
-waitingAfter 𝓡 b s = waitingAt (𝓡.number b s) (𝓡.plan b s)
+abbrev pub waiting_after : RecoveryJob → Buffers → List ℕ → Option (List Job)
+waiting_after 𝓡 b s = waiting_at (𝓡.number b s) (𝓡.plan b s)
 
 -- The job answers 0, and its plan buffer holds these rows.
 pub record Fills (h : Shape) (𝓡 : RecoveryJob) (b : Buffers) (s : List ℕ) (ws : List Write) : Type 0 where
   pub success : 𝓡.number b s ≡ 0
   pub filled : 𝓡.plan b s ≡ plan_of h b.plan ws
-  pub room : length ws ≤ planRows
+  pub room : length ws ≤ plan_rows
 
 -- What the job owes on an image with the layout of s₀, where `recover` says by record what is to be written.
 pub record AnswersRows (h : Shape) (s₀ : List ℕ) (recover : List ℕ → Option (List Write)) (𝓡 : RecoveryJob) : Type 0 where

@@ -2,8 +2,8 @@
 ghost use Rattle.std.specs.Prelude.{◌≡◌, true, ◌<◌};
 ghost use Rattle.seq.specs.Search.{all};
 ghost use Rattle.layout.specs.Facts.{Laid};
-ghost use Rattle.layout.specs.View.{view_of, isDirectory, textUsed};
-ghost use Rattle.tree.specs.Inode.{leafGood, fileGood, directoryPlaced, directoryGood, symlinkGood, inodeGood};
+ghost use Rattle.layout.specs.View.{view_of, is_directory, text_used};
+ghost use Rattle.tree.specs.Inode.{leaf_good, file_good, directory_placed, directory_good, symlink_good, inode_good};
 ghost use Rattle.tallies.specs.Tallies.{EntryCounts, ChildCounts, Tops, TextOwners};
 
 use layout::{Shape, limits};
@@ -11,7 +11,7 @@ use layout::{Shape, limits};
 // What a file and a symlink share: mode and link count.
 fn leaf_good(image: &[u8], h: Shape, entries: &[u16; 513], i: usize) -> bool
     requires { Laid h image.now × (i < h.inodes) × EntryCounts h image.now entries.now }
-    ensures { result ≡ leafGood (view_of h image.now) i }
+    ensures { result ≡ leaf_good (view_of h image.now) i }
 {
     let r = layout::records::inode(image, h, i);
     if limits::MODE_LIMIT <= layout::inode::mode(r) {
@@ -29,7 +29,7 @@ fn leaf_good(image: &[u8], h: Shape, entries: &[u16; 513], i: usize) -> bool
 
 fn file_good(image: &[u8], h: Shape, entries: &[u16; 513], i: usize) -> bool
     requires { Laid h image.now × (i < h.inodes) × EntryCounts h image.now entries.now }
-    ensures { result ≡ fileGood (view_of h image.now) i }
+    ensures { result ≡ file_good (view_of h image.now) i }
 {
     if !leaf_good(image, h, entries, i) {
         return false;
@@ -46,8 +46,8 @@ fn directory_placed(
     tops: &[u16; 512],
     i: usize,
 ) -> bool
-    requires { Laid h image.now × (i < h.inodes) × EntryCounts h image.now entries.now × Tops h image.now tops.now × (isDirectory (view_of h image.now) i ≡ true) }
-    ensures { result ≡ directoryPlaced (view_of h image.now) i }
+    requires { Laid h image.now × (i < h.inodes) × EntryCounts h image.now entries.now × Tops h image.now tops.now × (is_directory (view_of h image.now) i ≡ true) }
+    ensures { result ≡ directory_placed (view_of h image.now) i }
 {
     if i == 0 {
         let r = layout::records::inode(image, h, i);
@@ -67,8 +67,8 @@ fn directory_good(
     tops: &[u16; 512],
     i: usize,
 ) -> bool
-    requires { Laid h image.now × (i < h.inodes) × EntryCounts h image.now entries.now × ChildCounts h image.now children.now × Tops h image.now tops.now × (isDirectory (view_of h image.now) i ≡ true) }
-    ensures { result ≡ directoryGood (view_of h image.now) i }
+    requires { Laid h image.now × (i < h.inodes) × EntryCounts h image.now entries.now × ChildCounts h image.now children.now × Tops h image.now tops.now × (is_directory (view_of h image.now) i ≡ true) }
+    ensures { result ≡ directory_good (view_of h image.now) i }
 {
     let r = layout::records::inode(image, h, i);
     if limits::MODE_LIMIT <= layout::inode::mode(r) {
@@ -87,7 +87,7 @@ fn directory_good(
 // Whether t is a text in use.
 fn text_used(image: &[u8], h: Shape, t: usize) -> bool
     requires { Laid h image.now × (t < h.texts) }
-    ensures { result ≡ textUsed (view_of h image.now) t }
+    ensures { result ≡ text_used (view_of h image.now) t }
 {
     let r = layout::records::text(image, h, t);
     layout::text::length(r) != 0
@@ -95,7 +95,7 @@ fn text_used(image: &[u8], h: Shape, t: usize) -> bool
 
 fn symlink_good(image: &[u8], h: Shape, entries: &[u16; 513], owners: &[u16; 65], i: usize) -> bool
     requires { Laid h image.now × (i < h.inodes) × EntryCounts h image.now entries.now × TextOwners h image.now owners.now }
-    ensures { result ≡ symlinkGood (view_of h image.now) i }
+    ensures { result ≡ symlink_good (view_of h image.now) i }
 {
     if !leaf_good(image, h, entries, i) {
         return false;
@@ -124,7 +124,7 @@ fn good(
     i: usize,
 ) -> bool
     requires { Laid h image.now × (i < h.inodes) × EntryCounts h image.now entries.now × ChildCounts h image.now children.now × Tops h image.now tops.now × TextOwners h image.now owners.now }
-    ensures { result ≡ inodeGood h image.now i }
+    ensures { result ≡ inode_good h image.now i }
 {
     let r = layout::records::inode(image, h, i);
     let kind = layout::inode::kind(r);
@@ -140,7 +140,7 @@ fn good(
 // Whether every inode is consistent.
 pub fn all_good(image: &[u8], h: Shape, owners: &[u16; 65]) -> bool
     requires { Laid h image.now × TextOwners h image.now owners.now }
-    ensures { result ≡ all (inodeGood h image.now) h.inodes }
+    ensures { result ≡ all (inode_good h image.now) h.inodes }
 {
     let mut entries = [0u16; 513];
     let mut children = [0u16; 513];

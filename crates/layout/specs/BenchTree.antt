@@ -1,15 +1,15 @@
 -- The bench tree: a small image, written record by record, that the tables of cases are computed on. A reader has to believe this file. Assumes nothing.
 use Rattle.std.specs.Prelude.{List, [], ◌∷◌, ◌++◌, ℕ, ◌-◌, length, replicate}
 use Rattle.seq.specs.Number.{bytes_of}
-use Rattle.layout.specs.Limits.{entrySize}
-use Rattle.layout.specs.Contents.{sectionName}
+use Rattle.layout.specs.Limits.{entry_size}
+use Rattle.layout.specs.Contents.{section_name}
 
 -- bytes, then zeros up to n bytes
 abbrev filled : ℕ → List ℕ → List ℕ
 filled n xs = xs ++ replicate (n - length xs) 0
 
-abbrev contentsRow : ℕ → ℕ → ℕ → List ℕ
-contentsRow k offset records = sectionName entrySize k ++ bytes_of 2 offset ++ bytes_of 2 records
+abbrev contents_row : ℕ → ℕ → ℕ → List ℕ
+contents_row k offset records = section_name entry_size k ++ bytes_of 2 offset ++ bytes_of 2 records
 
 -- an inode of the bench: file system 0, mode 0755, owner and group 100, both times 100
 abbrev inode : ℕ → ℕ → ℕ → List ℕ
@@ -21,7 +21,7 @@ entry parent target letter = filled 32 (bytes_of 2 parent ++ bytes_of 2 target +
 
 unfoldable pub bench : List ℕ
 bench =
-    contentsRow 0 40 7 ++ contentsRow 1 264 8 ++ contentsRow 2 520 1 ++ contentsRow 3 584 1 ++ contentsRow 4 592 1
+    contents_row 0 40 7 ++ contents_row 1 264 8 ++ contents_row 2 520 1 ++ contents_row 3 584 1 ++ contents_row 4 592 1
     -- inodes: the root, /a, /b, two files, a directory, a symlink
     ++ inode 2 4 0 ++ inode 2 3 0 ++ inode 2 2 0 ++ inode 1 2 0 ++ inode 1 1 0 ++ inode 2 2 1 ++ inode 3 1 0
     -- entries: /a, /b, /s, /a/f, /a/d, /b/g, /b/h, and a free slot

@@ -59,21 +59,21 @@ abbrev pub inconsistent : ℕ
 inconsistent = 201
 
 -- a request whose current directory is none, or with a zero byte in a path
-abbrev pub wrongRequest : ℕ
-wrongRequest = 202
+abbrev pub wrong_request : ℕ
+wrong_request = 202
 
 -- a journal record that is not zero: the image has to be recovered first
-abbrev pub journalPending : ℕ
-journalPending = 203
+abbrev pub journal_pending : ℕ
+journal_pending = 203
 
 -- a journal record that fits no operation, or an outcome that is not consistent
-abbrev pub notRecoverable : ℕ
-notRecoverable = 204
+abbrev pub not_recoverable : ℕ
+not_recoverable = 204
 
 -- a buffer that is too short
-abbrev pub shortBuffer : ℕ
-shortBuffer = 205
+abbrev pub short_buffer : ℕ
+short_buffer = 205
 
 -- a row that cannot be applied
-abbrev pub badRow : ℕ
-badRow = 207
+abbrev pub bad_row : ℕ
+bad_row = 207

@@ -1,8 +1,8 @@
 // Two strings of bytes compared by pieces of eight, the last as short as the strings leave it.
 ghost use Rattle.std.specs.Prelude.{◌≡◌, false, ◌+◌, ◌-◌, ◌*◌, ◌/◌, ◌≤◌, ◌<◌, length};
 ghost use Rattle.seq.specs.Search.{any};
-ghost use Rattle.seq.specs.Bytes.{part, sameBytes};
-ghost use Rattle.seq.specs.Compare.{piece_size, pieceDiffers, Compares};
+ghost use Rattle.seq.specs.Bytes.{part, equal_bytes};
+ghost use Rattle.seq.specs.Compare.{piece_size, piece_differs, Compares};
 
 use crate::{bytes, number};
 
@@ -19,7 +19,7 @@ pub struct Compared {
 // Whether the whole piece from at on is the same in both: each is read as one number.
 fn same_piece(a: &[u8], b: &[u8], at: usize) -> bool
     requires { (at + piece_size ≤ length a.now) × (at + piece_size ≤ length b.now) }
-    ensures { result ≡ sameBytes (part a.now at piece_size) (part b.now at piece_size) }
+    ensures { result ≡ equal_bytes (part a.now at piece_size) (part b.now at piece_size) }
 {
     number::get64(a, at) == number::get64(b, at)
 }
@@ -27,14 +27,14 @@ fn same_piece(a: &[u8], b: &[u8], at: usize) -> bool
 // Whether four bytes from at on are, and two: the ends of a shorter piece.
 fn same_four(a: &[u8], b: &[u8], at: usize) -> bool
     requires { (at + 4 ≤ length a.now) × (at + 4 ≤ length b.now) }
-    ensures { result ≡ sameBytes (part a.now at 4) (part b.now at 4) }
+    ensures { result ≡ equal_bytes (part a.now at 4) (part b.now at 4) }
 {
     number::get32(a, at) == number::get32(b, at)
 }
 
 fn same_two(a: &[u8], b: &[u8], at: usize) -> bool
     requires { (at + 2 ≤ length a.now) × (at + 2 ≤ length b.now) }
-    ensures { result ≡ sameBytes (part a.now at 2) (part b.now at 2) }
+    ensures { result ≡ equal_bytes (part a.now at 2) (part b.now at 2) }
 {
     number::get16(a, at) == number::get16(b, at)
 }
@@ -42,7 +42,7 @@ fn same_two(a: &[u8], b: &[u8], at: usize) -> bool
 // Whether a shorter piece, from at up to n, is the same in both: a number is read at either end, and the two reach over its middle.
 fn same_short(a: &[u8], b: &[u8], at: usize, n: usize) -> bool
     requires { (at < n) × (n < at + piece_size) × (n ≤ length a.now) × (n ≤ length b.now) }
-    ensures { result ≡ sameBytes (part a.now at (n - at)) (part b.now at (n - at)) }
+    ensures { result ≡ equal_bytes (part a.now at (n - at)) (part b.now at (n - at)) }
 {
     if 4 <= n - at {
         if !same_four(a, b, at) {
@@ -61,7 +61,7 @@ fn same_short(a: &[u8], b: &[u8], at: usize, n: usize) -> bool
 
 // All whole pieces are the same: what is behind them decides.
 fn last(a: &[u8], b: &[u8], whole: usize) -> Compared
-    requires { (length a.now ≡ length b.now) × (whole ≡ length a.now / piece_size) × (any (pieceDiffers a.now b.now) whole ≡ false) }
+    requires { (length a.now ≡ length b.now) × (whole ≡ length a.now / piece_size) × (any (piece_differs a.now b.now) whole ≡ false) }
     ensures { Compares a.now b.now result.same result.pieces }
 {
     let at = PIECE_SIZE * whole;

@@ -2,14 +2,14 @@
 -- file. Assumes nothing.
 use Rattle.std.specs.Prelude.{◌≡◌, List, ℕ, ◌+◌, ◌*◌, ◌/◌, ◌%◌, ◌<◌}
 use Rattle.paths.specs.declared.request.Request.{Request}
-use Rattle.paths.specs.Groups.{credentialsOf}
+use Rattle.paths.specs.Groups.{credentials_of}
 use Rattle.rename.specs.declared.Renamed.{Renamed}
 use Rattle.recover.specs.Job.{Recovered}
 
 -- the parts in the order of the function's arguments
-abbrev pub requestOf : ℕ → ℕ → List ℕ → ℕ → ℕ → ℕ → ℕ → ℕ → Request
-requestOf user group groups current old new time flags = record {
-  who = credentialsOf user group groups;
+abbrev pub request_of : ℕ → ℕ → List ℕ → ℕ → ℕ → ℕ → ℕ → ℕ → Request
+request_of user group groups current old new time flags = record {
+  who = credentials_of user group groups;
   current = current;
   starts = record { old = old; new = new };
   now = time;
@@ -21,8 +21,8 @@ unfoldable pub packed : Renamed → ℕ
 packed r = r.number + 256 * r.rows + 65536 * r.old + 4294967296 * r.new
 
 -- an answer of recovery has no walks
-abbrev pub withoutWalks : Recovered → Renamed
-withoutWalks r = record { number = r.number; rows = r.rows; old = 0; new = 0 }
+abbrev pub without_walks : Recovered → Renamed
+without_walks r = record { number = r.number; rows = r.rows; old = 0; new = 0 }
 
 -- The parts as the header's accessors take them out; nothing stands above them.
 pub record Parts (n : ℕ) (r : Renamed) : Type 0 where

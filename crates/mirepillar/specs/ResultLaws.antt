@@ -5,9 +5,9 @@ use Rattle.rename.specs.declared.Renamed.{Renamed}
 use Rattle.rename.specs.Answers.{Small}
 use Rattle.mirepillar.specs.Result.{packed, Parts}
 
-pub packed-parts : (r : Renamed) → r.number < 256 → Small r → Parts (packed r) r
+pub packed_parts : (r : Renamed) → r.number < 256 → Small r → Parts (packed r) r
 unfolding packed
-packed-parts r byte small =
+packed_parts r byte small =
     let rows = small.rows in
     let old = small.old in
     let new = small.new in

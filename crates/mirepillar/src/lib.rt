@@ -1,11 +1,11 @@
 // The C interface: include/mirepillar.h declares these functions.
 ghost use Rattle.std.specs.Prelude.{◌≡◌};
-ghost use Rattle.consistency.specs.Consistent.{checkNumber};
-ghost use Rattle.apply.specs.Apply.{applyNumber, appliedImage};
-ghost use Rattle.rename.specs.Job.{renamed, planAfter};
+ghost use Rattle.consistency.specs.Consistent.{check_number};
+ghost use Rattle.apply.specs.Apply.{apply_number, applied_image};
+ghost use Rattle.rename.specs.Job.{renamed, plan_after};
 ghost use Rattle.rename.specs.Answers.{Small};
 ghost use Rattle.recover.specs.Job.{recovered};
-ghost use Rattle.mirepillar.specs.Result.{requestOf, packed, withoutWalks};
+ghost use Rattle.mirepillar.specs.Result.{request_of, packed, without_walks};
 
 use paths::request::{Request, Starts};
 use rename::Renamed;
@@ -13,7 +13,7 @@ use rename::Renamed;
 // The job check. The number is the whole result.
 #[unsafe(no_mangle)]
 pub extern "C" fn mp_check(image: &[u8]) -> u64
-    ensures { result ≡ checkNumber image.now }
+    ensures { result ≡ check_number image.now }
 {
     let number = consistency::check(image);
     number as u64
@@ -43,7 +43,7 @@ pub extern "C" fn mp_rename(
     new: &[u8],
     plan: &mut [u8],
 ) -> u64
-    ensures { (result ≡ packed (renamed image.now plan.old (requestOf user group groups.now current from into time flags) old.now new.now)) × (plan.new ≡ planAfter image.now plan.old (requestOf user group groups.now current from into time flags) old.now new.now) }
+    ensures { (result ≡ packed (renamed image.now plan.old (request_of user group groups.now current from into time flags) old.now new.now)) × (plan.new ≡ plan_after image.now plan.old (request_of user group groups.now current from into time flags) old.now new.now) }
 {
     let who = paths::groups::credentials(user, group, groups);
     let starts = Starts {
@@ -63,7 +63,7 @@ pub extern "C" fn mp_rename(
 // The job land, with its row taken as all 64 bits. The number is the whole result.
 #[unsafe(no_mangle)]
 pub extern "C" fn mp_land(image: &mut [u8], plan: &[u8], row: u64) -> u64
-    ensures { (result ≡ applyNumber image.old plan.now row) × (image.new ≡ appliedImage image.old plan.now row) }
+    ensures { (result ≡ apply_number image.old plan.now row) × (image.new ≡ applied_image image.old plan.now row) }
 {
     apply::land(image, plan, row) as u64
 }
@@ -71,7 +71,7 @@ pub extern "C" fn mp_land(image: &mut [u8], plan: &[u8], row: u64) -> u64
 // The job repair. Its result has no counts.
 #[unsafe(no_mangle)]
 pub extern "C" fn mp_repair(image: &[u8], plan: &mut [u8], scratch: &mut [u8]) -> u64
-    ensures { (result ≡ packed (withoutWalks (recovered plan.old scratch.old image.now))) × (plan.new ≡ (recovered plan.old scratch.old image.now).plan) × (scratch.new ≡ (recovered plan.old scratch.old image.now).scratch) }
+    ensures { (result ≡ packed (without_walks (recovered plan.old scratch.old image.now))) × (plan.new ≡ (recovered plan.old scratch.old image.now).plan) × (scratch.new ≡ (recovered plan.old scratch.old image.now).scratch) }
 {
     let a = recover::recover(image, plan, scratch);
     let r = Renamed {

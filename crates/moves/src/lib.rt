@@ -2,7 +2,7 @@
 ghost use Rattle.std.specs.Prelude.{◌≡◌};
 ghost use Rattle.layout.specs.Facts.{Laid};
 ghost use Rattle.layout.specs.View.{view_of};
-ghost use Rattle.moves.specs.Plan.{moveWith, freedText, move_of, exchangeOf};
+ghost use Rattle.moves.specs.Plan.{move_with, freed_text, move_of, exchange_of};
 
 use layout::{Shape, limits};
 use recounts::Move;
@@ -11,7 +11,7 @@ use refusals::case::Case;
 pub mod rows;
 
 fn move_with(c: Case, time: u64, text: usize) -> Move
-    ensures { result ≡ moveWith c time text }
+    ensures { result ≡ move_with c time text }
 {
     Move {
         old: c.old,
@@ -28,7 +28,7 @@ fn move_with(c: Case, time: u64, text: usize) -> Move
 // The text of a replaced symlink that has no entry left, or limits::ABSENT.
 fn freed_text(image: &[u8], h: Shape, c: Case, time: u64) -> usize
     requires { Laid h image.now }
-    ensures { result ≡ freedText (view_of h image.now) c time }
+    ensures { result ≡ freed_text (view_of h image.now) c time }
 {
     let replaced = c.replaced;
     if !layout::lookup::is_symlink(image, h, replaced) {
@@ -52,7 +52,7 @@ pub fn move_of(image: &[u8], h: Shape, c: Case, time: u64) -> Move
 
 // The exchange of a case, which frees no text.
 pub fn exchange_of(c: Case, time: u64) -> Move
-    ensures { result ≡ exchangeOf c time }
+    ensures { result ≡ exchange_of c time }
 {
     move_with(c, time, limits::ABSENT)
 }

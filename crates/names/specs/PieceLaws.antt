@@ -8,14 +8,14 @@ use Rattle.std.proofs.Math.Dec.{eqb}
 use Rattle.std.proofs.Math.ListN.{length, get_or, get_or-eq_default}
 use borrow.Author.Tests.{eqb-true}
 use Rattle.seq.specs.Bytes.{part, zeros}
-use Rattle.seq.specs.BytesLaws.{part-byte, part_length}
+use Rattle.seq.specs.BytesLaws.{part_byte, part_length}
 use Rattle.seq.specs.Number.{number_at}
 use Rattle.seq.specs.NumberLaws.{number_same}
-use Rattle.seq.specs.SearchLaws.{all-at}
+use Rattle.seq.specs.SearchLaws.{all_at}
 use Rattle.layout.specs.declared.Shape.{Shape}
 use Rattle.layout.specs.Facts.{Laid}
-use Rattle.layout.specs.RecordLaws.{record-length}
-use Rattle.layout.specs.View.{view_of, entry_at, entryUsed}
+use Rattle.layout.specs.RecordLaws.{record_length}
+use Rattle.layout.specs.View.{view_of, entry_at, entry_used}
 use Rattle.names.specs.NameTests.{Named}
 
 -- a record r of w bytes with a name of n bytes
@@ -25,10 +25,10 @@ module _ (r : List ℕ) (n w : ℕ) (long : length r ≡ w) (fits : 8 + n ≤ w)
   byte k l = go (dec_lt k n)
     where
       go : Dec (k < n) → get_or r (8 + k) 0 ≡ get_or (part r 8 n) k 0
-      go (yes b) = sym (part-byte r 8 n k b)
+      go (yes b) = sym (part_byte r 8 n k b)
       go (no b) =
           let e : 8 + n + (k - n) ≡ 8 + k = omega arith in
-          let z : get_or r (8 + n + (k - n)) 0 ≡ 0 = eqb-true _ _ (all-at (λ m. eqb (get_or r (8 + n + m) 0) 0) (w - 8 - n) pad (k - n) (omega arith)) in
+          let z : get_or r (8 + n + (k - n)) 0 ≡ 0 = eqb-true _ _ (all_at (λ m. eqb (get_or r (8 + n + m) 0) 0) (w - 8 - n) pad (k - n) (omega arith)) in
           let m : length (part r 8 n) ≡ n = part_length r 8 n (omega arith) in
           (rw e at z) ∙ sym (get_or-eq_default (part r 8 n) 0 (omega arith))
 
@@ -39,10 +39,10 @@ module _ (r : List ℕ) (n w : ℕ) (long : length r ≡ w) (fits : 8 + n ≤ w)
       rw e (byte (k + m) (omega arith)))
 
 -- the q bytes from k on of the name of an entry in use
-pub name-piece : (h : Shape) (s : List ℕ) (j q k : ℕ) → Laid h s → Named h s → j < h.entries → entryUsed (view_of h s) j ≡ true → 8 + k + q ≤ 32
+pub name_piece : (h : Shape) (s : List ℕ) (j q k : ℕ) → Laid h s → Named h s → j < h.entries → entry_used (view_of h s) j ≡ true → 8 + k + q ≤ 32
     → number_at q (entry_at h s j) (8 + k) ≡ number_at q ((view_of h s).name j) k
 unfolding view_of
-name-piece h s j q k laid named below used inside =
-    let l = record-length h s 1 j laid.long (lit< tt) below in
-    let w = laid.width-least in
+name_piece h s j q k laid named below used inside =
+    let l = record_length h s 1 j laid.long (lit< tt) below in
+    let w = laid.width_least in
     piece _ _ _ l (named.fits j below) (named.padded j below used) q k (omega arith)

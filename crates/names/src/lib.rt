@@ -1,7 +1,7 @@
 // Names of directory entries: the bytes of one, and two that share it.
 ghost use Rattle.std.specs.Prelude.{◌≡◌, ◌+◌, ◌≤◌, length};
-ghost use Rattle.names.specs.Name.{plainName, isDots};
-ghost use Rattle.names.specs.NameTests.{frontBytes, frontGood, nameSpelled};
+ghost use Rattle.names.specs.Name.{plain_name, is_dots};
+ghost use Rattle.names.specs.NameTests.{front_bytes, front_good, name_spelled};
 
 use layout::limits;
 
@@ -12,7 +12,7 @@ const FRONT_BYTES: usize = 24;
 
 // Whether no byte is 0 or a slash.
 fn bytes_good(name: &[u8]) -> bool
-    ensures { result ≡ plainName name.now }
+    ensures { result ≡ plain_name name.now }
 {
     let mut k: usize = 0;
     while k < name.len() {
@@ -30,8 +30,8 @@ fn bytes_good(name: &[u8]) -> bool
 // Whether a name of n bytes in an entry's first 24 holds no 0 and no slash, and zeros follow it there. Every byte is looked at and no branch is taken, which is
 // quicker than to leave at the first that is wrong.
 fn front_good(e: &[u8], n: usize) -> bool
-    requires { (32 ≤ length e.now) × (n ≤ frontBytes) }
-    ensures { result ≡ frontGood e.now n }
+    requires { (32 ≤ length e.now) × (n ≤ front_bytes) }
+    ensures { result ≡ front_good e.now n }
 {
     let m = n as u8;
     let mut wrong = false;
@@ -47,7 +47,7 @@ fn front_good(e: &[u8], n: usize) -> bool
 // Whether a name of n bytes in an entry's room is plain, and zeros follow it to the end of the record.
 pub fn spelled(e: &[u8], n: usize) -> bool
     requires { (32 ≤ length e.now) × (8 + n ≤ length e.now) }
-    ensures { result ≡ nameSpelled e.now n }
+    ensures { result ≡ name_spelled e.now n }
 {
     if n <= FRONT_BYTES {
         if !front_good(e, n) {
@@ -67,7 +67,7 @@ pub fn spelled(e: &[u8], n: usize) -> bool
 
 // Whether the name stands for the directory itself or for its parent.
 pub fn is_dots(name: &[u8]) -> bool
-    ensures { result ≡ isDots name.now }
+    ensures { result ≡ is_dots name.now }
 {
     if layout::bytes::same(name, b".") {
         return true;

@@ -3,7 +3,7 @@ ghost use Rattle.std.specs.Prelude.{◌≡◌, ◌<◌};
 ghost use Rattle.layout.specs.Facts.{Laid};
 ghost use Rattle.layout.specs.View.{view_of};
 ghost use Rattle.names.specs.Name.{clash};
-ghost use Rattle.names.specs.NameTests.{hasDuplicate, Named};
+ghost use Rattle.names.specs.NameTests.{has_duplicate, Named};
 
 use layout::Shape;
 
@@ -30,7 +30,7 @@ pub fn entries_clash(image: &[u8], h: Shape, i: usize, j: usize) -> bool
 // Whether two entries share parent and name: a search over all pairs, left at the first.
 pub fn has_duplicate(image: &[u8], h: Shape) -> bool
     requires { Laid h image.now × Named h image.now }
-    ensures { result ≡ hasDuplicate (view_of h image.now) }
+    ensures { result ≡ has_duplicate (view_of h image.now) }
 {
     let n = h.entries;
     let mut found = false;

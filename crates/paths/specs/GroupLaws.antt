@@ -7,42 +7,42 @@ use Rattle.std.proofs.Math.Decide.{dec_lt}
 use Rattle.std.proofs.lemmas.Bool.{lt-leb}
 use Rattle.seq.specs.Search.{any}
 use Rattle.seq.specs.Bytes.{put}
-use Rattle.seq.specs.SearchLaws.{any_none, any-not, any_false, any_same}
-use Rattle.layout.specs.Limits.{groupLimit}
+use Rattle.seq.specs.SearchLaws.{any_none, any_not, any_false, any_same}
+use Rattle.layout.specs.Limits.{group_limit}
 use Rattle.paths.specs.declared.request.Credentials.{Credentials}
-use Rattle.paths.specs.Groups.{isFurther, inFurther, inGroup, credentialsOf}
+use Rattle.paths.specs.Groups.{is_further, in_further, in_group, credentials_of}
 
 module _ (who : Credentials) (g : ℕ) where
   -- what a place says
-  pub further-is : (k : ℕ) → k < who.count → get_or who.groups k 0 ≡ g → isFurther who g k ≡ true
-  further-is k l e = rw (lt-ltb _ _ l, eq-eqb _ _ e)
+  pub further_is : (k : ℕ) → k < who.count → get_or who.groups k 0 ≡ g → is_further who g k ≡ true
+  further_is k l e = rw (lt-ltb _ _ l, eq-eqb _ _ e)
 
-  pub further-other : (k : ℕ) → (get_or who.groups k 0 ≡ g → ⊥) → isFurther who g k ≡ false
-  further-other k n = rw (ne_eqb _ _ n, and-false)
+  pub further_other : (k : ℕ) → (get_or who.groups k 0 ≡ g → ⊥) → is_further who g k ≡ false
+  further_other k n = rw (ne_eqb _ _ n, and-false)
 
-  past : (k : ℕ) → who.count ≤ k → isFurther who g k ≡ false
+  past : (k : ℕ) → who.count ≤ k → is_further who g k ≡ false
   past k l = rw (le-ltb _ _ l)
 
   -- the search may end where the list does
-  pub further-none : (k : ℕ) → any (isFurther who g) k ≡ false → who.count ≤ k → false ≡ inFurther who g
-  unfolding inFurther
-  further-none k none l = rw (any_false (isFurther who g) groupLimit (λ j _. at j (dec_lt j k)))
+  pub further_none : (k : ℕ) → any (is_further who g) k ≡ false → who.count ≤ k → false ≡ in_further who g
+  unfolding in_further
+  further_none k none l = rw (any_false (is_further who g) group_limit (λ j _. at j (dec_lt j k)))
     where
-      at : (j : ℕ) → Dec (j < k) → isFurther who g j ≡ false
-      at j (yes below) = any-not _ k none j below
+      at : (j : ℕ) → Dec (j < k) → is_further who g j ≡ false
+      at j (yes below) = any_not _ k none j below
       at j (no above) = past j (omega arith)
 
   -- without further groups there is the effective one alone
-  pub alone : who.count ≡ 0 → inGroup who g ≡ eqb who.group g
-  unfolding inGroup
-  alone none = let e = further-none 0 (any_none _) (omega arith) in rw (← e, or-false)
+  pub alone : who.count ≡ 0 → in_group who g ≡ eqb who.group g
+  unfolding in_group
+  alone none = let e = further_none 0 (any_none _) (omega arith) in rw (← e, or-false)
 
 -- places past the count are not looked at: lists that agree below it are searched alike
-pub further_same : (a b : Credentials) → a.count ≡ b.count → ((k : ℕ) → k < a.count → get_or a.groups k 0 ≡ get_or b.groups k 0) → (g : ℕ) → inFurther a g ≡ inFurther b g
-unfolding inFurther
-further_same a b count same g = any_same _ _ groupLimit (λ k _. at k (dec_lt k a.count))
+pub further_same : (a b : Credentials) → a.count ≡ b.count → ((k : ℕ) → k < a.count → get_or a.groups k 0 ≡ get_or b.groups k 0) → (g : ℕ) → in_further a g ≡ in_further b g
+unfolding in_further
+further_same a b count same g = any_same _ _ group_limit (λ k _. at k (dec_lt k a.count))
   where
-    at : (k : ℕ) → Dec (k < a.count) → isFurther a g k ≡ isFurther b g k
+    at : (k : ℕ) → Dec (k < a.count) → is_further a g k ≡ is_further b g k
     at k (yes below) = rw (count, same k below)
     at k (no above) = past a g k (omega arith) ∙ sym (past b g k (omega (arith, count)))
 
@@ -51,12 +51,12 @@ abbrev made : ℕ → ℕ → List ℕ → List ℕ → Credentials
 made user group list groups = record { user = user; group = group; groups = groups; count = length list }
 
 module _ (user group : ℕ) (list : List ℕ) where
-  pub credentials-read : {groups : List ℕ} → length list ≤ groupLimit → groups ≡ put (replicate groupLimit 0) 0 list → made user group list groups ≡ credentialsOf user group list
-  unfolding credentialsOf
-  credentials-read short e =
-      ap (made user group list) (e ∙ sym (ap (λ (b : Bool). cond b (put (replicate groupLimit 0) 0 list) (replicate groupLimit 0)) (le-leb _ _ short)))
+  pub credentials_read : {groups : List ℕ} → length list ≤ group_limit → groups ≡ put (replicate group_limit 0) 0 list → made user group list groups ≡ credentials_of user group list
+  unfolding credentials_of
+  credentials_read short e =
+      ap (made user group list) (e ∙ sym (ap (λ (b : Bool). cond b (put (replicate group_limit 0) 0 list) (replicate group_limit 0)) (le-leb _ _ short)))
 
-  pub credentials-unread : groupLimit < length list → made user group list (replicate groupLimit 0) ≡ credentialsOf user group list
-  unfolding credentialsOf
-  credentials-unread long =
-      ap (made user group list) (sym (ap (λ (b : Bool). cond b (put (replicate groupLimit 0) 0 list) (replicate groupLimit 0)) (lt-leb _ _ long)))
+  pub credentials_unread : group_limit < length list → made user group list (replicate group_limit 0) ≡ credentials_of user group list
+  unfolding credentials_of
+  credentials_unread long =
+      ap (made user group list) (sym (ap (λ (b : Bool). cond b (put (replicate group_limit 0) 0 list) (replicate group_limit 0)) (lt-leb _ _ long)))

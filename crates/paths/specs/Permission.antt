@@ -2,18 +2,18 @@
 use Rattle.std.specs.Prelude.{Bool, ◌||◌, cond, ℕ, ◌*◌, ◌/◌, ◌%◌, eqb}
 use Rattle.layout.specs.View.{View}
 use Rattle.paths.specs.declared.request.Credentials.{Credentials}
-use Rattle.paths.specs.Groups.{inGroup}
+use Rattle.paths.specs.Groups.{in_group}
 
 -- the bits that permission speaks of
-abbrev pub searchBit : ℕ
-searchBit = 1
+abbrev pub search_bit : ℕ
+search_bit = 1
 
-abbrev pub writeBit : ℕ
-writeBit = 2
+abbrev pub write_bit : ℕ
+write_bit = 2
 
 -- the weight of a bit in the class that applies: the owner's, else the group's, else the others'
 abbrev pub weight : View → Credentials → ℕ → ℕ → ℕ
-weight v who i bit = cond (eqb who.user (v.owner i)) (64 * bit) (cond (inGroup who (v.group i)) (8 * bit) bit)
+weight v who i bit = cond (eqb who.user (v.owner i)) (64 * bit) (cond (in_group who (v.group i)) (8 * bit) bit)
 
 -- rule 43: user 0 passes; anyone else needs the bit in the class that applies
 unfoldable pub allows : View → Credentials → ℕ → ℕ → Bool

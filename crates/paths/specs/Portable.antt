@@ -4,11 +4,11 @@ use Rattle.seq.specs.Search.{all}
 use Rattle.seq.specs.Letters.{A, Z, a, z, nought, nine, dot, underscore, hyphen}
 
 -- a byte from one letter to another, both included
-abbrev pub fromTo : ℕ → ℕ → ℕ → Bool
-fromTo low high b = leb low b && leb b high
+abbrev pub from_to : ℕ → ℕ → ℕ → Bool
+from_to low high b = leb low b && leb b high
 
-unfoldable pub isPortableByte : ℕ → Bool
-isPortableByte b = fromTo A Z b || fromTo a z b || fromTo nought nine b || eqb b dot || eqb b underscore || eqb b hyphen
+unfoldable pub is_portable_byte : ℕ → Bool
+is_portable_byte b = from_to A Z b || from_to a z b || from_to nought nine b || eqb b dot || eqb b underscore || eqb b hyphen
 
-unfoldable pub isPortable : List ℕ → Bool
-isPortable name = all (λ k. isPortableByte (get_or name k 0)) (length name)
+unfoldable pub is_portable : List ℕ → Bool
+is_portable name = all (λ k. is_portable_byte (get_or name k 0)) (length name)

@@ -3,7 +3,7 @@ ghost use Rattle.std.specs.Prelude.{◌≡◌, false, ◌+◌, ◌≤◌, ◌<�
 ghost use Rattle.seq.specs.Search.{any};
 ghost use Rattle.layout.specs.View.{view_of};
 ghost use Rattle.layout.specs.Facts.{Readable};
-ghost use Rattle.paths.specs.Lookup.{isNamed, lookup};
+ghost use Rattle.paths.specs.Lookup.{is_named, lookup};
 ghost use Rattle.paths.specs.LookupFacts.{Skips};
 
 use layout::Shape;
@@ -11,7 +11,7 @@ use layout::Shape;
 // Whether the entry in slot j is in use, lies in directory d and has this name. Where a run ends the entry mostly lies elsewhere, so that is asked first.
 fn is_named(image: &[u8], h: Shape, d: usize, name: &[u8], j: usize) -> bool
     requires { Readable h image.now × (j < h.entries) }
-    ensures { result ≡ isNamed (view_of h image.now) d name.now j }
+    ensures { result ≡ is_named (view_of h image.now) d name.now j }
 {
     let e = layout::records::entry(image, h, j);
     if layout::entry::parent(e) != d {
@@ -85,8 +85,8 @@ fn held_from(image: &[u8], h: Shape, d: usize, from: usize) -> usize
 // The first slot from a slot on that has the name or whose entry lies elsewhere, or the number of slots: a directory's entries often stand in a row, and
 // there the steps by fours would only cost.
 fn run_from(image: &[u8], h: Shape, d: usize, name: &[u8], from: usize) -> usize
-    requires { Readable h image.now × (from ≤ h.entries) × (any (isNamed (view_of h image.now) d name.now) from ≡ false) }
-    ensures { (from ≤ result) × (result ≤ h.entries) × (any (isNamed (view_of h image.now) d name.now) result ≡ false) }
+    requires { Readable h image.now × (from ≤ h.entries) × (any (is_named (view_of h image.now) d name.now) from ≡ false) }
+    ensures { (from ≤ result) × (result ≤ h.entries) × (any (is_named (view_of h image.now) d name.now) result ≡ false) }
 {
     let n = h.entries;
     let mut j = from;

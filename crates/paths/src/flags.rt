@@ -1,6 +1,6 @@
 // The flags of a request, numbered as on Linux.
 ghost use Rattle.std.specs.Prelude.{◌≡◌};
-ghost use Rattle.paths.specs.Flags.{flagsGood};
+ghost use Rattle.paths.specs.Flags.{flags_good};
 
 use crate::request::Request;
 
@@ -11,7 +11,7 @@ pub const EXCHANGE: u32 = 2;
 
 // Whether the flags ask for a rename, for one that replaces nothing, or for an exchange.
 pub fn good(q: Request) -> bool
-    ensures { result ≡ flagsGood q }
+    ensures { result ≡ flags_good q }
 {
     if q.flags == 0 {
         return true;

@@ -1,14 +1,14 @@
 // The groups of a caller: whether one of them is meant, and the credentials made of a list.
 ghost use Rattle.std.specs.Prelude.{◌≡◌, ◌≤◌, length};
 ghost use Rattle.seq.specs.Bytes.{put};
-ghost use Rattle.paths.specs.Groups.{inFurther, inGroup, credentialsOf};
+ghost use Rattle.paths.specs.Groups.{in_further, in_group, credentials_of};
 
 use crate::request::Credentials;
 use layout::limits;
 
 // Whether one of the further groups that count is g. Those past the count are not looked at.
 fn in_further(who: Credentials, g: u32) -> bool
-    ensures { result ≡ inFurther who g }
+    ensures { result ≡ in_further who g }
 {
     let mut k: usize = 0;
     while k < limits::GROUP_LIMIT {
@@ -25,7 +25,7 @@ fn in_further(who: Credentials, g: u32) -> bool
 
 // Whether the caller is in group g.
 pub fn in_group(who: Credentials, g: u32) -> bool
-    ensures { result ≡ inGroup who g }
+    ensures { result ≡ in_group who g }
 {
     if who.group == g {
         return true;
@@ -47,7 +47,7 @@ fn copy(groups: &mut [u32], list: &[u32])
 
 // The credentials of a caller with these further groups. Of a list that is too long only the length is read, which makes the request wrong.
 pub fn credentials(user: u32, group: u32, list: &[u32]) -> Credentials
-    ensures { result ≡ credentialsOf user group list.now }
+    ensures { result ≡ credentials_of user group list.now }
 {
     let mut groups = [0u32; limits::GROUP_LIMIT];
     if list.len() <= limits::GROUP_LIMIT {

@@ -1,8 +1,8 @@
 // A path and its components: slashes skipped, names delimited, a symlink's text spliced in.
 ghost use Rattle.std.specs.Prelude.{◌≡◌, cond, ◌++◌, ◌+◌, ◌≤◌, length};
-ghost use Rattle.layout.specs.Limits.{pathLimit};
-ghost use Rattle.paths.specs.Path.{slashes, untilSlash, bare, absolute, isDot, isDotDot};
-ghost use Rattle.paths.specs.WorkingPath.{workingPath};
+ghost use Rattle.layout.specs.Limits.{path_limit};
+ghost use Rattle.paths.specs.Path.{slashes, until_slash, bare, absolute, is_dot, is_dot_dot};
+ghost use Rattle.paths.specs.WorkingPath.{working_path};
 
 use layout::limits;
 
@@ -22,7 +22,7 @@ pub fn slashes(p: &[u8]) -> usize
 
 // How many bytes stand ahead of its first slash.
 pub fn name_bytes(p: &[u8]) -> usize
-    ensures { (result ≡ untilSlash p.now) × (result ≤ length p.now) }
+    ensures { (result ≡ until_slash p.now) × (result ≤ length p.now) }
 {
     let mut k: usize = 0;
     while k < p.len() {
@@ -51,21 +51,21 @@ pub fn is_absolute(p: &[u8]) -> bool
 }
 
 pub fn is_dot(name: &[u8]) -> bool
-    ensures { result ≡ isDot name.now }
+    ensures { result ≡ is_dot name.now }
 {
     layout::bytes::same(name, b".")
 }
 
 pub fn is_dot_dot(name: &[u8]) -> bool
-    ensures { result ≡ isDotDot name.now }
+    ensures { result ≡ is_dot_dot name.now }
 {
     layout::bytes::same(name, b"..")
 }
 
 // The working path made anew: a symlink's text, the unread rest, and zeros.
 pub fn splice(text: &[u8], rest: &[u8]) -> [u8; limits::PATH_BYTES]
-    requires { length text.now + length rest.now ≤ pathLimit }
-    ensures { result ≡ workingPath (text.now ++ rest.now) }
+    requires { length text.now + length rest.now ≤ path_limit }
+    ensures { result ≡ working_path (text.now ++ rest.now) }
 {
     let mut path = [0u8; limits::PATH_BYTES];
     layout::bytes::copy(&mut path, 0, text);

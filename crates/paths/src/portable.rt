@@ -1,10 +1,10 @@
 // Portable names: those that every system takes.
 ghost use Rattle.std.specs.Prelude.{◌≡◌};
-ghost use Rattle.paths.specs.Portable.{fromTo, isPortableByte, isPortable};
+ghost use Rattle.paths.specs.Portable.{from_to, is_portable_byte, is_portable};
 
 // Whether a byte lies between two others or is one of them.
 fn lies(low: u8, high: u8, b: u8) -> bool
-    ensures { result ≡ fromTo low high b }
+    ensures { result ≡ from_to low high b }
 {
     if b < low {
         return false;
@@ -13,7 +13,7 @@ fn lies(low: u8, high: u8, b: u8) -> bool
 }
 
 fn is_portable_byte(b: u8) -> bool
-    ensures { result ≡ isPortableByte b }
+    ensures { result ≡ is_portable_byte b }
 {
     if lies(b'A', b'Z', b) {
         return true;
@@ -35,7 +35,7 @@ fn is_portable_byte(b: u8) -> bool
 
 // Whether every byte of a name is portable.
 pub fn is_portable(name: &[u8]) -> bool
-    ensures { result ≡ isPortable name.now }
+    ensures { result ≡ is_portable name.now }
 {
     let mut k: usize = 0;
     while k < name.len() {

@@ -2,7 +2,7 @@
 ghost use Rattle.std.specs.Prelude.{◌≡◌};
 ghost use Rattle.layout.specs.Facts.{Laid};
 ghost use Rattle.layout.specs.View.{view_of};
-ghost use Rattle.paths.specs.Request.{requestGood};
+ghost use Rattle.paths.specs.Request.{request_good};
 
 use layout::{Shape, limits};
 
@@ -35,7 +35,7 @@ pub struct Request {
 // Whether the current directory is one, neither path holds a zero byte, and the further groups are not too many.
 pub fn good(image: &[u8], h: Shape, q: Request, old: &[u8], new: &[u8]) -> bool
     requires { Laid h image.now }
-    ensures { result ≡ requestGood (view_of h image.now) q old.now new.now }
+    ensures { result ≡ request_good (view_of h image.now) q old.now new.now }
 {
     let current = q.current as usize;
     if !layout::lookup::is_directory(image, h, current) {

@@ -2,7 +2,7 @@
 use Rattle.std.specs.Prelude.{◌≡◌, refl, Bool, true, ◌&&◌, not}
 use Rattle.seq.specs.Search.{any}
 use Rattle.layout.specs.declared.Shape.{Shape}
-use Rattle.plan.specs.Fit.{coversSection, covers}
+use Rattle.plan.specs.Fit.{covers_section, covers}
 
 -- sections at 40, 264, 520, 584 and 592, and the end at 624
 abbrev bench : Shape
@@ -20,6 +20,6 @@ refused =
     not (covers bench 584 8) && not (covers bench 56 32) && not (covers bench 520 32) && not (covers bench 264 64) && not (covers bench 8 32)
     && not (covers bench 624 32)
 
-pub bench-covers : (taken && refused) ≡ true
-unfolding covers coversSection any
-bench-covers = refl
+pub bench_covers : (taken && refused) ≡ true
+unfolding covers covers_section any
+bench_covers = refl

@@ -3,7 +3,7 @@ use Rattle.std.specs.Prelude.{◌≡◌, refl, ◌≢◌, Bool, true, false, ◌
 use Rattle.std.proofs.Common.{sym, ap, arith, ltb-true, eq-eqb, ne_eqb}
 use Rattle.std.proofs.lemmas.Bool.{eqb-false, not-true}
 use Rattle.seq.specs.Count.{bit}
-use Rattle.seq.specs.CountLaws.{count-edited}
+use Rattle.seq.specs.CountLaws.{count_edited}
 use Rattle.seq.specs.Search.{count}
 use Rattle.seq.specs.Truth.{and_left, and_right}
 use Rattle.recounts.specs.declared.Move.{Move}
@@ -30,13 +30,13 @@ module _ (m : Move) (n : ℕ) (two : Two m n) (p : ℕ → Bool) (old new : Bool
       let there : edited m m.new old new (p m.new) ≡ new = simp (ne_eqb m.new m.old (λ e. two.apart (sym e)), eq-eqb m.new m.new refl) in
       omega (
         arith,
-        count-edited p (λ j. edited m j old new (p j)) n (m.old ∷ m.new ∷ []) (two.old, (two.apart, tt), (two.new, tt, tt)) (λ j l off.
+        count_edited p (λ j. edited m j old new (p j)) n (m.old ∷ m.new ∷ []) (two.old, (two.apart, tt), (two.new, tt, tt)) (λ j l off.
             simp (ne_eqb j m.old off.0, ne_eqb j m.new off.1.0)),
         ap bit here,
         ap bit there,
       )
 
 -- a slot that is cleared counts for nothing
-pub recounted-cleared : (m : Move) (n : ℕ) → Two m n → (p : ℕ → Bool) (made : Bool)
+pub recounted_cleared : (m : Move) (n : ℕ) → Two m n → (p : ℕ → Bool) (made : Bool)
     → count (λ j. edited m j false made (p j)) n + (bit (p m.old) + bit (p m.new)) ≡ count p n + bit made
-recounted-cleared m n two p made = omega (arith, recounted m n two p false made)
+recounted_cleared m n two p made = omega (arith, recounted m n two p false made)

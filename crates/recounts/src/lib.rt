@@ -1,10 +1,10 @@
 // A move, and entries counted as it edits them, on the image as it stands.
 ghost use Rattle.std.specs.Prelude.{◌≡◌, ◌&&◌, not, ◌+◌, ◌≤◌, ◌<◌, eqb, ltb};
 ghost use Rattle.seq.specs.Count.{bit};
-ghost use Rattle.layout.specs.Limits.{entryLimit};
+ghost use Rattle.layout.specs.Limits.{entry_limit};
 ghost use Rattle.layout.specs.Facts.{Laid};
-ghost use Rattle.layout.specs.View.{view_of, isDirectory};
-ghost use Rattle.recounts.specs.Recount.{targetsAfter, entriesAfter, holdsAfter, childrenAfter, linksAfter};
+ghost use Rattle.layout.specs.View.{view_of, is_directory};
+ghost use Rattle.recounts.specs.Recount.{targets_after, entries_after, holds_after, children_after, links_after};
 
 use layout::Shape;
 
@@ -25,7 +25,7 @@ pub struct Move {
 // Whether the entry in slot j, as edited, targets inode i.
 fn targets_after(image: &[u8], h: Shape, m: Move, i: usize, j: usize) -> bool
     requires { Laid h image.now × (j < h.entries) }
-    ensures { result ≡ targetsAfter (view_of h image.now) m i j }
+    ensures { result ≡ targets_after (view_of h image.now) m i j }
 {
     if j == m.old {
         return false;
@@ -43,7 +43,7 @@ fn targets_after(image: &[u8], h: Shape, m: Move, i: usize, j: usize) -> bool
 // How many entries, as edited, target inode i: slot by slot, wherever the two slots are.
 fn entries_edited(image: &[u8], h: Shape, m: Move, i: usize) -> usize
     requires { Laid h image.now }
-    ensures { (result ≡ entriesAfter (view_of h image.now) m i) × (result ≤ entryLimit) }
+    ensures { (result ≡ entries_after (view_of h image.now) m i) × (result ≤ entry_limit) }
 {
     let n = h.entries;
     let mut found: usize = 0;
@@ -60,7 +60,7 @@ fn entries_edited(image: &[u8], h: Shape, m: Move, i: usize) -> usize
 // Whether the entry in slot j, as edited, lies in directory d and targets a directory.
 fn holds_after(image: &[u8], h: Shape, m: Move, d: usize, j: usize) -> bool
     requires { Laid h image.now × (j < h.entries) }
-    ensures { result ≡ holdsAfter (view_of h image.now) m d j }
+    ensures { result ≡ holds_after (view_of h image.now) m d j }
 {
     if j == m.old {
         return false;
@@ -84,7 +84,7 @@ fn holds_after(image: &[u8], h: Shape, m: Move, d: usize, j: usize) -> bool
 // How many child directories directory d has, by the entries as edited: slot by slot.
 fn children_edited(image: &[u8], h: Shape, m: Move, d: usize) -> usize
     requires { Laid h image.now }
-    ensures { (result ≡ childrenAfter (view_of h image.now) m d) × (result ≤ entryLimit) }
+    ensures { (result ≡ children_after (view_of h image.now) m d) × (result ≤ entry_limit) }
 {
     let n = h.entries;
     let mut found: usize = 0;
@@ -124,7 +124,7 @@ pub fn one_if(counted: bool) -> usize
 // How many entries, as edited, target inode i. A move edits two slots, so that the count as it stands tells it but for these.
 pub fn entries_after(image: &[u8], h: Shape, m: Move, i: usize) -> usize
     requires { Laid h image.now }
-    ensures { (result ≡ entriesAfter (view_of h image.now) m i) × (result ≤ entryLimit) }
+    ensures { (result ≡ entries_after (view_of h image.now) m i) × (result ≤ entry_limit) }
 {
     if !edits_two(h, m) {
         return entries_edited(image, h, m, i);
@@ -139,7 +139,7 @@ pub fn entries_after(image: &[u8], h: Shape, m: Move, i: usize) -> usize
 // Whether the entry that a move makes lies in directory d and targets a directory.
 pub fn makes_child(image: &[u8], h: Shape, m: Move, d: usize) -> bool
     requires { Laid h image.now }
-    ensures { result ≡ (eqb m.into d && isDirectory (view_of h image.now) m.moved) }
+    ensures { result ≡ (eqb m.into d && is_directory (view_of h image.now) m.moved) }
 {
     if m.into != d {
         return false;
@@ -150,7 +150,7 @@ pub fn makes_child(image: &[u8], h: Shape, m: Move, d: usize) -> bool
 // How many child directories directory d has, by the entries as edited, in the same way.
 pub fn children_after(image: &[u8], h: Shape, m: Move, d: usize) -> usize
     requires { Laid h image.now }
-    ensures { (result ≡ childrenAfter (view_of h image.now) m d) × (result ≤ entryLimit) }
+    ensures { (result ≡ children_after (view_of h image.now) m d) × (result ≤ entry_limit) }
 {
     if !edits_two(h, m) {
         return children_edited(image, h, m, d);
@@ -165,7 +165,7 @@ pub fn children_after(image: &[u8], h: Shape, m: Move, d: usize) -> usize
 // The link count of inode i, by the entries as edited.
 pub fn links_after(image: &[u8], h: Shape, m: Move, i: usize) -> usize
     requires { Laid h image.now }
-    ensures { (result ≡ linksAfter (view_of h image.now) m i) × (result ≤ 2 + entryLimit) }
+    ensures { (result ≡ links_after (view_of h image.now) m i) × (result ≤ 2 + entry_limit) }
 {
     if layout::lookup::is_directory(image, h, i) {
         return children_after(image, h, m, i) + 2;

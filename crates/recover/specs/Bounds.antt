@@ -5,99 +5,99 @@ use Rattle.std.proofs.Math.Option.{Option, none, some}
 use Rattle.std.proofs.Common.{arith, lit≤, length-append}
 use Rattle.std.proofs.Math.Dec.{ltb}
 use Rattle.layout.specs.declared.Shape.{Shape}
-use Rattle.layout.specs.Errno.{inconsistent, shortBuffer}
-use Rattle.layout.specs.Contents.{layoutGood, shape_of}
-use Rattle.layout.specs.View.{view_of, journalAt}
+use Rattle.layout.specs.Errno.{inconsistent, short_buffer}
+use Rattle.layout.specs.Contents.{layout_good, shape_of}
+use Rattle.layout.specs.View.{view_of, journal_at}
 use Rattle.encode.specs.declared.journal.Journal.{Journal}
-use Rattle.encode.specs.Journal.{renameKind, exchangeKind, journalOf, journalFormed}
-use Rattle.consistency.specs.Sound.{journalClear}
+use Rattle.encode.specs.Journal.{rename_kind, exchange_kind, journal_of, journal_formed}
+use Rattle.consistency.specs.Sound.{journal_clear}
 use Rattle.consistency.specs.Consistent.{consistent}
-use Rattle.plan.specs.Form.{planRows, planBytes}
-use Rattle.plan.specs.Write.{Write, storeAll}
+use Rattle.plan.specs.Form.{plan_rows, plan_bytes}
+use Rattle.plan.specs.Write.{Write, store_all}
 use Rattle.recounts.specs.declared.Move.{Move}
-use Rattle.results.specs.Results.{results, clearRow}
-use Rattle.results.specs.ResultRows.{results-le}
-use Rattle.exchanges.specs.Exchange.{exchangeResults}
-use Rattle.exchanges.specs.ExchangeRows.{exchange-le}
-use Rattle.rename_drafts.specs.PendingRename.{renameFits, moveFrom, entryStands, intoGood, undoing, finishing, moveDraft, renameDraft}
-use Rattle.exchange_drafts.specs.PendingExchange.{exchangeFits, finishingExchange, exchangeDraft}
-use Rattle.drafts.specs.Draft.{kindDraft, draft}
-use Rattle.recover.specs.Recover.{ifConsistent, pendingRows, recover}
-use Rattle.recover.specs.Job.{Recovered, refused, done, byRows, byJournal, recovered}
+use Rattle.results.specs.Results.{results, clear_row}
+use Rattle.results.specs.ResultRows.{results_le}
+use Rattle.exchanges.specs.Exchange.{exchange_results}
+use Rattle.exchanges.specs.ExchangeRows.{exchange_le}
+use Rattle.rename_drafts.specs.PendingRename.{rename_fits, move_from, entry_stands, into_good, undoing, finishing, move_draft, rename_draft}
+use Rattle.exchange_drafts.specs.PendingExchange.{exchange_fits, finishing_exchange, exchange_draft}
+use Rattle.drafts.specs.Draft.{kind_draft, draft}
+use Rattle.recover.specs.Recover.{if_consistent, pending_rows, recover}
+use Rattle.recover.specs.Job.{Recovered, refused, done, by_rows, by_journal, recovered}
 
 -- at most nine rows
 abbrev Few : Option (List Write) → Type 0
 Few none = Unit {0}
-Few (some ws) = length ws ≤ planRows
+Few (some ws) = length ws ≤ plan_rows
 
-few-cond : (b : Bool) (p q : Option (List Write)) → Few p → Few q → Few (cond b p q)
-few-cond true p q f g = f
-few-cond false p q f g = g
+few_cond : (b : Bool) (p q : Option (List Write)) → Few p → Few q → Few (cond b p q)
+few_cond true p q f g = f
+few_cond false p q f g = g
 
 module _ (h : Shape) (x : List ℕ) where
   -- at most six, and the cleared journal record
-  finishing-few : (ws : List Write) → length ws ≤ 6 → length (ws ++ clearRow h ∷ []) ≤ planRows
-  finishing-few ws few = omega (arith, length-append ws (clearRow h ∷ []))
+  finishing_few : (ws : List Write) → length ws ≤ 6 → length (ws ++ clear_row h ∷ []) ≤ plan_rows
+  finishing_few ws few = omega (arith, length-append ws (clear_row h ∷ []))
 
-  move-few : (m : Move) → Few (moveDraft h x m)
-  unfolding moveDraft
-  move-few m =
-      few-cond (entryStands (view_of h x) m) _ (some (undoing h x))
-      (few-cond (intoGood (view_of h x) m) (some (finishing h x m)) none (finishing-few (results h x m) (results-le h x m)) tt) (lit≤ tt)
+  move_few : (m : Move) → Few (move_draft h x m)
+  unfolding move_draft
+  move_few m =
+      few_cond (entry_stands (view_of h x) m) _ (some (undoing h x))
+      (few_cond (into_good (view_of h x) m) (some (finishing h x m)) none (finishing_few (results h x m) (results_le h x m)) tt) (lit≤ tt)
 
-  rename-few : (j : Journal) → Few (renameDraft h x j)
-  unfolding renameDraft
-  rename-few j = few-cond (renameFits h x j) (moveDraft h x (moveFrom (view_of h x) j)) none (move-few (moveFrom (view_of h x) j)) tt
+  rename_few : (j : Journal) → Few (rename_draft h x j)
+  unfolding rename_draft
+  rename_few j = few_cond (rename_fits h x j) (move_draft h x (move_from (view_of h x) j)) none (move_few (move_from (view_of h x) j)) tt
 
-  exchange-few : (j : Journal) → Few (exchangeDraft h x j)
-  unfolding exchangeDraft
-  exchange-few j =
-      let m = moveFrom (view_of h x) j in
-      few-cond (exchangeFits h x j) (some (finishingExchange h x m)) none (finishing-few (exchangeResults h x m) (exchange-le h x m)) tt
+  exchange_few : (j : Journal) → Few (exchange_draft h x j)
+  unfolding exchange_draft
+  exchange_few j =
+      let m = move_from (view_of h x) j in
+      few_cond (exchange_fits h x j) (some (finishing_exchange h x m)) none (finishing_few (exchange_results h x m) (exchange_le h x m)) tt
 
-  kind-few : (k : ℕ) (j : Journal) → Few (kindDraft h x k j)
-  kind-few k j =
-      few-cond (eqb k renameKind) (renameDraft h x j) _ (rename-few j) (few-cond (eqb k exchangeKind) (exchangeDraft h x j) none (exchange-few j) tt)
+  kind_few : (k : ℕ) (j : Journal) → Few (kind_draft h x k j)
+  kind_few k j =
+      few_cond (eqb k rename_kind) (rename_draft h x j) _ (rename_few j) (few_cond (eqb k exchange_kind) (exchange_draft h x j) none (exchange_few j) tt)
 
-  draft-few : Few (draft h x)
+  draft_few : Few (draft h x)
   unfolding draft
-  draft-few =
-      let j = journalOf (journalAt h x) in
-      few-cond (journalFormed (journalAt h x)) (kindDraft h x j.kind j) none (kind-few j.kind j) tt
+  draft_few =
+      let j = journal_of (journal_at h x) in
+      few_cond (journal_formed (journal_at h x)) (kind_draft h x j.kind j) none (kind_few j.kind j) tt
 
-  pub draft-rows : (ws : List Write) → draft h x ≡ some ws → length ws ≤ planRows
-  draft-rows ws e = subst Few e draft-few
+  pub draft_rows : (ws : List Write) → draft h x ≡ some ws → length ws ≤ plan_rows
+  draft_rows ws e = subst Few e draft_few
 
-  checked-few : (o : Option (List Write)) → Few o → Few (ifConsistent h x o)
-  checked-few none f = tt
-  checked-few (some ws) f = few-cond (consistent (storeAll h x ws)) (some ws) none f tt
+  checked_few : (o : Option (List Write)) → Few o → Few (if_consistent h x o)
+  checked_few none f = tt
+  checked_few (some ws) f = few_cond (consistent (store_all h x ws)) (some ws) none f tt
 
-  pending-few : Few (pendingRows h x)
-  unfolding pendingRows
-  pending-few = checked-few (draft h x) draft-few
+  pending_few : Few (pending_rows h x)
+  unfolding pending_rows
+  pending_few = checked_few (draft h x) draft_few
 
-  pub recover-few : (ws : List Write) → recover h x ≡ some ws → length ws ≤ planRows
+  pub recover_few : (ws : List Write) → recover h x ≡ some ws → length ws ≤ plan_rows
   unfolding recover
-  recover-few ws e =
-      subst Few e (few-cond (journalClear h x) (cond (consistent x) (some []) none) (pendingRows h x)
-      (few-cond (consistent x) (some []) none (omega arith) tt) pending-few)
+  recover_few ws e =
+      subst Few e (few_cond (journal_clear h x) (cond (consistent x) (some []) none) (pending_rows h x)
+      (few_cond (consistent x) (some []) none (omega arith) tt) pending_few)
 
 -- the rows that the job answers
 module _ (plan scratch x : List ℕ) where
-  rows-cond : (b : Bool) (p q : Recovered) → p.rows ≤ planRows → q.rows ≤ planRows → (cond b p q).rows ≤ planRows
-  rows-cond true p q f g = f
-  rows-cond false p q f g = g
+  rows_cond : (b : Bool) (p q : Recovered) → p.rows ≤ plan_rows → q.rows ≤ plan_rows → (cond b p q).rows ≤ plan_rows
+  rows_cond true p q f g = f
+  rows_cond false p q f g = g
 
-  by-few : (h : Shape) (o : Option (List Write)) → Few o → (byRows plan scratch x h o).rows ≤ planRows
-  by-few h none f = lit≤ tt
-  by-few h (some ws) f = f
+  by_few : (h : Shape) (o : Option (List Write)) → Few o → (by_rows plan scratch x h o).rows ≤ plan_rows
+  by_few h none f = lit≤ tt
+  by_few h (some ws) f = f
 
-  pub recovered-few : (recovered plan scratch x).rows ≤ planRows
+  pub recovered_few : (recovered plan scratch x).rows ≤ plan_rows
   unfolding recovered
-  recovered-few =
+  recovered_few =
       let h = shape_of x in
-      rows-cond (ltb (length plan) planBytes || ltb (length scratch) (length x)) (refused plan scratch x shortBuffer) _ (lit≤ tt)
-      (rows-cond (layoutGood x) (byJournal plan scratch x h) (refused plan scratch x inconsistent)
-      (rows-cond (journalClear h x) _ (byRows plan scratch x h (pendingRows h x))
-      (rows-cond (consistent x) (done plan scratch x h []) (refused plan scratch x inconsistent) (lit≤ tt) (lit≤ tt)) (by-few h (pendingRows h x) (pending-few h x)))
+      rows_cond (ltb (length plan) plan_bytes || ltb (length scratch) (length x)) (refused plan scratch x short_buffer) _ (lit≤ tt)
+      (rows_cond (layout_good x) (by_journal plan scratch x h) (refused plan scratch x inconsistent)
+      (rows_cond (journal_clear h x) _ (by_rows plan scratch x h (pending_rows h x))
+      (rows_cond (consistent x) (done plan scratch x h []) (refused plan scratch x inconsistent) (lit≤ tt) (lit≤ tt)) (by_few h (pending_rows h x) (pending_few h x)))
       (lit≤ tt))

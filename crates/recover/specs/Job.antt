@@ -4,14 +4,14 @@ use Rattle.std.specs.Prelude.{◌||◌, cond, List, [], ℕ, ltb, length, replic
 use Rattle.std.proofs.Math.Option.{Option, none, some}
 use Rattle.seq.specs.Bytes.{put}
 use Rattle.layout.specs.declared.Shape.{Shape}
-use Rattle.layout.specs.Errno.{shortBuffer, notRecoverable, inconsistent}
-use Rattle.layout.specs.Contents.{layoutGood, shape_of}
-use Rattle.consistency.specs.Sound.{journalClear}
+use Rattle.layout.specs.Errno.{short_buffer, not_recoverable, inconsistent}
+use Rattle.layout.specs.Contents.{layout_good, shape_of}
+use Rattle.consistency.specs.Sound.{journal_clear}
 use Rattle.consistency.specs.Consistent.{consistent}
-use Rattle.plan.specs.Form.{planBytes, rowsPut, cleared}
-use Rattle.plan.specs.Write.{Write, rows_from, storeAll}
+use Rattle.plan.specs.Form.{plan_bytes, rows_put, cleared}
+use Rattle.plan.specs.Write.{Write, rows_from, store_all}
 use Rattle.recover.specs.declared.Answer.{Answer}
-use Rattle.recover.specs.Recover.{pendingRows}
+use Rattle.recover.specs.Recover.{pending_rows}
 
 -- What the job answers, and its buffers after it.
 pub record Recovered : Type 0 where
@@ -21,13 +21,13 @@ pub record Recovered : Type 0 where
   pub scratch : List ℕ
 
 -- the answer without the buffers, as the code gives it
-abbrev pub withoutBuffers : Recovered → Answer
-withoutBuffers r = record { number = r.number; rows = r.rows }
+abbrev pub without_buffers : Recovered → Answer
+without_buffers r = record { number = r.number; rows = r.rows }
 
 -- rules 109 and 110: what scratch shows over the image's length: the outcome, or zeros where there is none
-abbrev pub outcomeOf : Shape → List ℕ → Option (List Write) → List ℕ
-outcomeOf h x none = replicate (length x) 0
-outcomeOf h x (some ws) = storeAll h x ws
+abbrev pub outcome_of : Shape → List ℕ → Option (List Write) → List ℕ
+outcome_of h x none = replicate (length x) 0
+outcome_of h x (some ws) = store_all h x ws
 
 module _ (plan scratch x : List ℕ) where
   -- a refusal that leaves both as they were
@@ -39,21 +39,21 @@ module _ (plan scratch x : List ℕ) where
   done h ws = record {
     number = 0;
     rows = length ws;
-    plan = rowsPut (cleared plan) 0 (rows_from h ws);
-    scratch = put scratch 0 (outcomeOf h x (some ws));
+    plan = rows_put (cleared plan) 0 (rows_from h ws);
+    scratch = put scratch 0 (outcome_of h x (some ws));
   }
 
   -- rule 110: not recoverable leaves the plan as it was
-  abbrev pub byRows : Shape → Option (List Write) → Recovered
-  byRows h none = record { number = notRecoverable; rows = 0; plan = plan; scratch = put scratch 0 (outcomeOf h x none) }
-  byRows h (some ws) = done h ws
+  abbrev pub by_rows : Shape → Option (List Write) → Recovered
+  by_rows h none = record { number = not_recoverable; rows = 0; plan = plan; scratch = put scratch 0 (outcome_of h x none) }
+  by_rows h (some ws) = done h ws
 
   -- rule 103: by the journal record
-  abbrev pub byJournal : Shape → Recovered
-  byJournal h = cond (journalClear h x) (cond (consistent x) (done h []) (refused inconsistent)) (byRows h (pendingRows h x))
+  abbrev pub by_journal : Shape → Recovered
+  by_journal h = cond (journal_clear h x) (cond (consistent x) (done h []) (refused inconsistent)) (by_rows h (pending_rows h x))
 
   -- rule 102: the buffers, and then the layout
   unfoldable pub recovered : Recovered
   recovered =
-      cond (ltb (length plan) planBytes || ltb (length scratch) (length x)) (refused shortBuffer)
-      (cond (layoutGood x) (byJournal (shape_of x)) (refused inconsistent))
+      cond (ltb (length plan) plan_bytes || ltb (length scratch) (length x)) (refused short_buffer)
+      (cond (layout_good x) (by_journal (shape_of x)) (refused inconsistent))

@@ -3,21 +3,21 @@
 use Rattle.std.specs.Prelude.{cond, List, [], ℕ}
 use Rattle.std.proofs.Math.Option.{Option, none, some}
 use Rattle.layout.specs.declared.Shape.{Shape}
-use Rattle.consistency.specs.Sound.{journalClear}
+use Rattle.consistency.specs.Sound.{journal_clear}
 use Rattle.consistency.specs.Consistent.{consistent}
-use Rattle.plan.specs.Write.{Write, storeAll}
+use Rattle.plan.specs.Write.{Write, store_all}
 use Rattle.drafts.specs.Draft.{draft}
 
 module _ (h : Shape) (x : List ℕ) where
   -- rule 109: rows are answered only if their outcome is consistent
-  abbrev pub ifConsistent : Option (List Write) → Option (List Write)
-  ifConsistent none = none
-  ifConsistent (some ws) = cond (consistent (storeAll h x ws)) (some ws) none
+  abbrev pub if_consistent : Option (List Write) → Option (List Write)
+  if_consistent none = none
+  if_consistent (some ws) = cond (consistent (store_all h x ws)) (some ws) none
 
   -- what a journal record that is set leads to
-  unfoldable pub pendingRows : Option (List Write)
-  pendingRows = ifConsistent (draft h x)
+  unfoldable pub pending_rows : Option (List Write)
+  pending_rows = if_consistent (draft h x)
 
   -- rule 103: a clear one leaves nothing to do on a consistent image
   unfoldable pub recover : Option (List Write)
-  recover = cond (journalClear h x) (cond (consistent x) (some []) none) pendingRows
+  recover = cond (journal_clear h x) (cond (consistent x) (some []) none) pending_rows

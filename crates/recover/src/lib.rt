@@ -1,9 +1,9 @@
 // The job that recovers an image after a crash (the papers' repair): a plan that finishes or takes back what was interrupted.
 ghost use Rattle.std.specs.Prelude.{◌≡◌, ◌≤◌, length};
 ghost use Rattle.layout.specs.Facts.{Read};
-ghost use Rattle.plan.specs.Form.{planBytes};
-ghost use Rattle.recover.specs.Recover.{pendingRows};
-ghost use Rattle.recover.specs.Job.{byRows, byJournal, recovered};
+ghost use Rattle.plan.specs.Form.{plan_bytes};
+ghost use Rattle.recover.specs.Recover.{pending_rows};
+ghost use Rattle.recover.specs.Job.{by_rows, by_journal, recovered};
 ghost use Rattle.recover.specs.Answers.{no_rows, DraftReady, RecoverAnswers};
 
 use layout::contents::Contents;
@@ -34,8 +34,8 @@ fn settle(
     plan: &mut [u8],
     scratch: &mut [u8],
 ) -> Answer
-    requires { DraftReady image.now h rows draft.now × (planBytes ≤ length plan.old) × (length scratch.old ≡ length image.now) }
-    ensures { RecoverAnswers (byRows plan.old scratch.old image.now h (pendingRows h image.now)) result plan.new scratch.new }
+    requires { DraftReady image.now h rows draft.now × (plan_bytes ≤ length plan.old) × (length scratch.old ≡ length image.now) }
+    ensures { RecoverAnswers (by_rows plan.old scratch.old image.now h (pending_rows h image.now)) result plan.new scratch.new }
 {
     layout::bytes::copy(scratch, 0, image);
     outcome::apply(scratch, draft, rows);
@@ -49,8 +49,8 @@ fn settle(
 
 // A journal record that is set. Scratch is as long as the image.
 fn pending(image: &[u8], h: Shape, plan: &mut [u8], scratch: &mut [u8]) -> Answer
-    requires { Read image.now h × (planBytes ≤ length plan.old) × (length scratch.old ≡ length image.now) }
-    ensures { RecoverAnswers (byRows plan.old scratch.old image.now h (pendingRows h image.now)) result plan.new scratch.new }
+    requires { Read image.now h × (plan_bytes ≤ length plan.old) × (length scratch.old ≡ length image.now) }
+    ensures { RecoverAnswers (by_rows plan.old scratch.old image.now h (pending_rows h image.now)) result plan.new scratch.new }
 {
     let mut draft = [0u8; plan::BYTES];
     let found = drafts::make(&mut draft, image, h);
@@ -65,8 +65,8 @@ fn pending(image: &[u8], h: Shape, plan: &mut [u8], scratch: &mut [u8]) -> Answe
 
 // An image of a good layout: its journal record decides.
 fn by_journal(image: &[u8], h: Shape, plan: &mut [u8], scratch: &mut [u8]) -> Answer
-    requires { Read image.now h × (planBytes ≤ length plan.old) × (length image.now ≤ length scratch.old) }
-    ensures { RecoverAnswers (byJournal plan.old scratch.old image.now h) result plan.new scratch.new }
+    requires { Read image.now h × (plan_bytes ≤ length plan.old) × (length image.now ≤ length scratch.old) }
+    ensures { RecoverAnswers (by_journal plan.old scratch.old image.now h) result plan.new scratch.new }
 {
     if !consistency::journal_clear(image, h) {
         let n = image.len();

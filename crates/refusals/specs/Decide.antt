@@ -4,8 +4,8 @@ use Rattle.layout.specs.View.{View}
 use Rattle.refusals.specs.declared.case.Answer.{Answer}
 use Rattle.refusals.specs.declared.case.Answer.TheVariants.{Same}
 use Rattle.refusals.specs.declared.case.Case.{Case}
-use Rattle.refusals.specs.Case.{sameFile}
-use Rattle.refusals.specs.Rules.{Rule, number_of, parentRules}
+use Rattle.refusals.specs.Case.{same_file}
+use Rattle.refusals.specs.Rules.{Rule, number_of, parent_rules}
 
 -- the answer of each rule passes
 abbrev pub answers : (Answer → Bool) → List Rule → Bool
@@ -21,5 +21,5 @@ abbrev pub refusing : List Rule → Bool
 refusing rs = numbers (λ n. not (eqb n 0)) rs
 
 -- step 1 and what is asked of the parents, before other rules
-abbrev pub parentsFirst : View → Case → List Rule → List Rule
-parentsFirst v c rs = record { test = sameFile c; answer = Same } ∷ (parentRules v c ++ rs)
+abbrev pub parents_first : View → Case → List Rule → List Rule
+parents_first v c rs = record { test = same_file c; answer = Same } ∷ (parent_rules v c ++ rs)

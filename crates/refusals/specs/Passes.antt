@@ -10,18 +10,18 @@ abbrev pub Passes : List Rule → Type 0
 Passes [] = Unit
 Passes (r ∷ rs) = (r.test ≡ false) × Passes rs
 
-abbrev pub isPlanned : Answer → Bool
-isPlanned (Refused n) = false
-isPlanned Same = false
-isPlanned Planned = true
-isPlanned Exchanged = false
+abbrev pub is_planned : Answer → Bool
+is_planned (Refused n) = false
+is_planned Same = false
+is_planned Planned = true
+is_planned Exchanged = false
 
-abbrev pub isExchanged : Answer → Bool
-isExchanged (Refused n) = false
-isExchanged Same = false
-isExchanged Planned = false
-isExchanged Exchanged = true
+abbrev pub is_exchanged : Answer → Bool
+is_exchanged (Refused n) = false
+is_exchanged Same = false
+is_exchanged Planned = false
+is_exchanged Exchanged = true
 
 -- no rule of the list plans
-abbrev pub decidingRules : List Rule → Bool
-decidingRules rs = answers (λ a. not (isPlanned a)) rs
+abbrev pub deciding_rules : List Rule → Bool
+deciding_rules rs = answers (λ a. not (is_planned a)) rs

@@ -7,17 +7,17 @@ use Rattle.refusals.specs.declared.case.Answer.{Answer}
 use Rattle.refusals.specs.declared.case.Answer.TheVariants.{Planned}
 use Rattle.refusals.specs.Rules.{Rule, decide}
 use Rattle.refusals.specs.Decide.{answers}
-use Rattle.refusals.specs.Passes.{Passes, isPlanned, decidingRules}
+use Rattle.refusals.specs.Passes.{Passes, is_planned, deciding_rules}
 
 -- an answer that no rule of xs gives comes from behind them, and then none of their tests holds
 module _ (p : Answer → Bool) (ys : List Rule) where
-  pub passes-before : (xs : List Rule) → answers (λ a. not (p a)) xs ≡ true → p (decide (xs ++ ys)) ≡ true → Passes xs
-  passes-before [] each e = tt
-  passes-before (r ∷ rs) each e = go (passes-before rs (and_right (not (p r.answer)) _ each)) r.test e
+  pub passes_before : (xs : List Rule) → answers (λ a. not (p a)) xs ≡ true → p (decide (xs ++ ys)) ≡ true → Passes xs
+  passes_before [] each e = tt
+  passes_before (r ∷ rs) each e = go (passes_before rs (and_right (not (p r.answer)) _ each)) r.test e
     where
       go : (p (decide (rs ++ ys)) ≡ true → Passes rs) → (b : Bool) → p (cond b r.answer (decide (rs ++ ys))) ≡ true → (b ≡ false) × Passes rs
       go rest true e = absurd (false≢true (sym (not-true (p r.answer) (and_left _ (answers (λ a. not (p a)) rs) each)) ∙ e))
       go rest false e = (refl, rest e)
 
-pub passes : (rs : List Rule) → decidingRules rs ≡ true → decide rs ≡ Planned → Passes rs
-passes rs each e = passes-before isPlanned [] rs each (rw (append-nil rs) (ap isPlanned e))
+pub passes : (rs : List Rule) → deciding_rules rs ≡ true → decide rs ≡ Planned → Passes rs
+passes rs each e = passes_before is_planned [] rs each (rw (append-nil rs) (ap is_planned e))

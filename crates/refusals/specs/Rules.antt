@@ -6,7 +6,7 @@ use Rattle.layout.specs.View.{View}
 use Rattle.refusals.specs.declared.case.Answer.{Answer}
 use Rattle.refusals.specs.declared.case.Answer.TheVariants.{Refused, Same, Planned, Exchanged}
 use Rattle.refusals.specs.declared.case.Case.{Case}
-use Rattle.refusals.specs.Case.{readOnlyParent, otherSystem, mounted, parentDenied, movedStuck, replacedStuck, insideItself}
+use Rattle.refusals.specs.Case.{read_only_parent, other_system, mounted, parent_denied, moved_stuck, replaced_stuck, inside_itself}
 
 -- the number of each answer
 abbrev pub number_of : Answer → ℕ
@@ -30,13 +30,13 @@ decide (r ∷ rs) = cond r.test r.answer (decide rs)
 
 module _ (v : View) (c : Case) where
   -- steps 2 to 7: what is asked of the parents
-  abbrev pub parentRules : List Rule
-  parentRules =
-      refuse (readOnlyParent v c) EROFS
-      ∷ refuse (otherSystem v c) EXDEV
+  abbrev pub parent_rules : List Rule
+  parent_rules =
+      refuse (read_only_parent v c) EROFS
+      ∷ refuse (other_system v c) EXDEV
       ∷ refuse (mounted v c) EBUSY
-      ∷ refuse (parentDenied v c) EACCES
-      ∷ refuse (movedStuck v c) EPERM
-      ∷ refuse (replacedStuck v c) EPERM
-      ∷ refuse (insideItself v c) EINVAL
+      ∷ refuse (parent_denied v c) EACCES
+      ∷ refuse (moved_stuck v c) EPERM
+      ∷ refuse (replaced_stuck v c) EPERM
+      ∷ refuse (inside_itself v c) EINVAL
       ∷ []

@@ -2,9 +2,9 @@
 ghost use Rattle.std.specs.Prelude.{◌≡◌, ◌<◌};
 ghost use Rattle.layout.specs.Facts.{Laid};
 ghost use Rattle.layout.specs.View.{view_of};
-ghost use Rattle.refusals.specs.Case.{readOnlyParent, otherSystem, mountedIn, mounted, parentDenied, sticky, owns, stickyDenied, replacedStuck, insideItself};
+ghost use Rattle.refusals.specs.Case.{read_only_parent, other_system, mounted_in, mounted, parent_denied, sticky, owns, sticky_denied, replaced_stuck, inside_itself};
 ghost use Rattle.refusals.specs.Within.{Within};
-ghost use Rattle.refusals.specs.Rules.{number_of, decide, parentRules};
+ghost use Rattle.refusals.specs.Rules.{number_of, decide, parent_rules};
 
 use crate::case::Case;
 use layout::{Shape, errno, limits};
@@ -23,7 +23,7 @@ fn system(image: &[u8], h: Shape, i: usize) -> u8
 // Step 2: a parent is on a read-only file system.
 fn read_only(image: &[u8], h: Shape, c: Case) -> bool
     requires { Laid h image.now × Within h c }
-    ensures { result ≡ readOnlyParent (view_of h image.now) c }
+    ensures { result ≡ read_only_parent (view_of h image.now) c }
 {
     if limits::FIRST_READ_ONLY <= system(image, h, c.from) {
         return true;
@@ -34,7 +34,7 @@ fn read_only(image: &[u8], h: Shape, c: Case) -> bool
 // Step 3: the parents are on different file systems.
 fn other_system(image: &[u8], h: Shape, c: Case) -> bool
     requires { Laid h image.now × Within h c }
-    ensures { result ≡ otherSystem (view_of h image.now) c }
+    ensures { result ≡ other_system (view_of h image.now) c }
 {
     system(image, h, c.from) != system(image, h, c.into)
 }
@@ -42,7 +42,7 @@ fn other_system(image: &[u8], h: Shape, c: Case) -> bool
 // Whether i is a directory on another file system than directory d, which holds it.
 fn mounted_in(image: &[u8], h: Shape, d: usize, i: usize) -> bool
     requires { Laid h image.now × (d < h.inodes) }
-    ensures { result ≡ mountedIn (view_of h image.now) d i }
+    ensures { result ≡ mounted_in (view_of h image.now) d i }
 {
     if !layout::lookup::is_directory(image, h, i) {
         return false;
@@ -64,7 +64,7 @@ fn mounted(image: &[u8], h: Shape, c: Case) -> bool
 // Step 5: write permission is denied on a parent.
 fn denied(image: &[u8], h: Shape, c: Case) -> bool
     requires { Laid h image.now × Within h c }
-    ensures { result ≡ parentDenied (view_of h image.now) c }
+    ensures { result ≡ parent_denied (view_of h image.now) c }
 {
     if !permission::allows(image, h, c.who, c.from, permission::WRITE_BIT) {
         return true;
@@ -93,7 +93,7 @@ fn owns(image: &[u8], h: Shape, who: Credentials, i: usize) -> bool
 // Step 6: whether the sticky bit of directory d keeps the caller from inode i in it.
 fn sticky_denied(image: &[u8], h: Shape, who: Credentials, d: usize, i: usize) -> bool
     requires { Laid h image.now × (d < h.inodes) × (i < h.inodes) }
-    ensures { result ≡ stickyDenied (view_of h image.now) who d i }
+    ensures { result ≡ sticky_denied (view_of h image.now) who d i }
 {
     if !is_sticky(image, h, d) {
         return false;
@@ -110,7 +110,7 @@ fn sticky_denied(image: &[u8], h: Shape, who: Credentials, d: usize, i: usize) -
 // Step 6 on the new side: whether the sticky bit of the new parent keeps the caller from what is replaced.
 fn replaced_stuck(image: &[u8], h: Shape, c: Case) -> bool
     requires { Laid h image.now × Within h c }
-    ensures { result ≡ replacedStuck (view_of h image.now) c }
+    ensures { result ≡ replaced_stuck (view_of h image.now) c }
 {
     if c.replaced == limits::ABSENT {
         return false;
@@ -121,7 +121,7 @@ fn replaced_stuck(image: &[u8], h: Shape, c: Case) -> bool
 // Step 7: the moved inode is the new parent, or above it.
 fn inside_itself(image: &[u8], h: Shape, c: Case) -> bool
     requires { Laid h image.now × Within h c }
-    ensures { result ≡ insideItself (view_of h image.now) c }
+    ensures { result ≡ inside_itself (view_of h image.now) c }
 {
     tree::is_above(image, h, c.moved, c.into)
 }
@@ -129,7 +129,7 @@ fn inside_itself(image: &[u8], h: Shape, c: Case) -> bool
 // The number of the first of steps 2 to 7 that refuses, or 0.
 pub fn number(image: &[u8], h: Shape, c: Case) -> u8
     requires { Laid h image.now × Within h c }
-    ensures { result ≡ number_of (decide (parentRules (view_of h image.now) c)) }
+    ensures { result ≡ number_of (decide (parent_rules (view_of h image.now) c)) }
 {
     if read_only(image, h, c) {
         return errno::EROFS;

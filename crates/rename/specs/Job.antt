@@ -9,8 +9,8 @@ use Rattle.refusals.specs.declared.case.Case.{Case}
 use Rattle.refusals.specs.Rules.{number_of, decide}
 use Rattle.plan.specs.Form.{cleared}
 use Rattle.recounts.specs.declared.Move.{Move}
-use Rattle.exchanges.specs.Exchange.{exchangeRows, exchangePlanned}
-use Rattle.moves.specs.Plan.{move_of, exchangeOf, renameRows, planned}
+use Rattle.exchanges.specs.Exchange.{exchange_rows, exchange_planned}
+use Rattle.moves.specs.Plan.{move_of, exchange_of, rename_rows, planned}
 use Rattle.rename.specs.declared.Renamed.{Renamed}
 use Rattle.rename.specs.Order.{view, walks, case_of, name_of, early, order}
 
@@ -27,7 +27,7 @@ module _ (s plan : List ℕ) (q : Request) (old new : List ℕ) where
   move = move_of (view s plan q old new) case q.now
 
   abbrev pub exchange : Move
-  exchange = exchangeOf case q.now
+  exchange = exchange_of case q.now
 
   abbrev pub called : List ℕ
   called = name_of (walks s plan q old new).new.found
@@ -36,29 +36,29 @@ module _ (s plan : List ℕ) (q : Request) (old new : List ℕ) where
   abbrev pub rows_by : Answer → ℕ
   rows_by (Refused n) = 0
   rows_by Same = 0
-  rows_by Planned = length (renameRows (shape_of s) s move called)
-  rows_by Exchanged = length (exchangeRows (shape_of s) s exchange)
+  rows_by Planned = length (rename_rows (shape_of s) s move called)
+  rows_by Exchanged = length (exchange_rows (shape_of s) s exchange)
 
-  abbrev pub planBy : Answer → List ℕ
-  planBy (Refused n) = plan
-  planBy Same = cleared plan
-  planBy Planned = planned (shape_of s) s move called plan
-  planBy Exchanged = exchangePlanned (shape_of s) s exchange plan
+  abbrev pub plan_by : Answer → List ℕ
+  plan_by (Refused n) = plan
+  plan_by Same = cleared plan
+  plan_by Planned = planned (shape_of s) s move called plan
+  plan_by Exchanged = exchange_planned (shape_of s) s exchange plan
 
   -- a count, 0 where no walk began
-  abbrev pub countBy : Answer → ℕ → ℕ
-  countBy (Refused n) steps = 0
-  countBy Same steps = 0
-  countBy Planned steps = steps
-  countBy Exchanged steps = steps
+  abbrev pub count_by : Answer → ℕ → ℕ
+  count_by (Refused n) steps = 0
+  count_by Same steps = 0
+  count_by Planned steps = steps
+  count_by Exchanged steps = steps
 
   unfoldable pub renamed : Renamed
   renamed = record {
     number = number_of answer;
     rows = rows_by answer;
-    old = countBy (decide (early s plan q old new)) (walks s plan q old new).old.steps;
-    new = countBy (decide (early s plan q old new)) (walks s plan q old new).new.steps;
+    old = count_by (decide (early s plan q old new)) (walks s plan q old new).old.steps;
+    new = count_by (decide (early s plan q old new)) (walks s plan q old new).new.steps;
   }
 
-  unfoldable pub planAfter : List ℕ
-  planAfter = planBy answer
+  unfoldable pub plan_after : List ℕ
+  plan_after = plan_by answer

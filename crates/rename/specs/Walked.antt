@@ -7,11 +7,11 @@ use Rattle.layout.specs.Limits.{absent}
 use Rattle.layout.specs.Facts.{Readable}
 use Rattle.layout.specs.Contents.{shape_of}
 use Rattle.layout.specs.View.{View, view_of}
-use Rattle.consistency.specs.ConsistentLaws.{check-read}
-use Rattle.consistency.specs.FactLaws.{checked-readable}
+use Rattle.consistency.specs.ConsistentLaws.{check_read}
+use Rattle.consistency.specs.FactLaws.{checked_readable}
 use Rattle.paths.specs.declared.request.Request.{Request}
 use Rattle.walk.specs.declared.both.Walks.{Walks}
-use Rattle.walk.specs.Both.{Ends, walksOf}
+use Rattle.walk.specs.Both.{Ends, walks_of}
 use Rattle.walk.specs.Answer.{end_of, BothAnswered}
 use Rattle.refusals.specs.declared.case.Answer.{Answer}
 use Rattle.refusals.specs.declared.case.Answer.TheVariants.{Refused, Same, Planned, Exchanged}
@@ -19,125 +19,125 @@ use Rattle.refusals.specs.declared.case.Case.{Case}
 use Rattle.rename_steps.specs.Tests.{no_slot}
 use Rattle.refusals.specs.CaseIn.{CaseIn}
 use Rattle.refusals.specs.Rules.{decide}
-use Rattle.rename_steps.specs.PassedLaws.{planned-passed}
-use Rattle.exchange_steps.specs.ExchangePassedLaws.{exchange-passed}
+use Rattle.rename_steps.specs.PassedLaws.{planned_passed}
+use Rattle.exchange_steps.specs.ExchangePassedLaws.{exchange_passed}
 use Rattle.plan.specs.Form.{cleared}
 use Rattle.plan.specs.Write.{Write}
 use Rattle.results.specs.InImage.{InImage}
-use Rattle.exchanges.specs.Exchange.{exchangeRows, exchangePlanned}
+use Rattle.exchanges.specs.Exchange.{exchange_rows, exchange_planned}
 use Rattle.exchanges.specs.InImage.{BothInImage}
-use Rattle.moves.specs.Plan.{move_of, exchangeOf, renameRows, planned}
+use Rattle.moves.specs.Plan.{move_of, exchange_of, rename_rows, planned}
 use Rattle.rename.specs.declared.Renamed.{Renamed}
-use Rattle.rename.specs.Order.{name_of, case_of, caseRules}
-use Rattle.rename.specs.FlagLaws.{planned-steps, exchanged-steps}
-use Rattle.rename.specs.Answers.{RenameAnswers, endsOf, WalksBegin}
-use Rattle.rename.specs.Outs.{answers-as, walked-old, answers-walk, answers-case}
-use Rattle.rename.specs.Known.{case-in, called-fits, move_in, exchange-in}
+use Rattle.rename.specs.Order.{name_of, case_of, case_rules}
+use Rattle.rename.specs.FlagLaws.{planned_steps, exchanged_steps}
+use Rattle.rename.specs.Answers.{RenameAnswers, both_ends_of, WalksBegin}
+use Rattle.rename.specs.Outs.{answers_as, walked_old, answers_walk, answers_case}
+use Rattle.rename.specs.Known.{case_in, called_fits, move_in, exchange_in}
 
 module _ {s plan : List ℕ} {q : Request} {old new : List ℕ} {h : Shape} (given : WalksBegin s plan q old new h) where
   abbrev v : View
   v = view_of h s
 
-  pub image-readable : Readable h s
-  image-readable = checked-readable s h given.read (check-read s h given.read ∙ given.fine)
+  pub image_readable : Readable h s
+  image_readable = checked_readable s h given.read (check_read s h given.read ∙ given.fine)
 
-  module _ {w : Walks} (both : BothAnswered v w (walksOf v q old new)) where
-    same_ends : endsOf w ≡ walksOf v q old new
+  module _ {w : Walks} (both : BothAnswered v w (walks_of v q old new)) where
+    same_ends : both_ends_of w ≡ walks_of v q old new
     same_ends = λ t. record { old = both.old.is t; new = both.new.is t }
 
     -- the job's answer with the counts of these walks
     abbrev answer : ℕ → ℕ → Renamed
     answer number rows = record { number = number; rows = rows; old = w.old.steps; new = w.new.steps }
 
-    pub refused-walk : w.new.number ≢ 0 → RenameAnswers s plan q old new (answer w.new.number 0) plan
-    refused-walk some =
+    pub refused_walk : w.new.number ≢ 0 → RenameAnswers s plan q old new (answer w.new.number 0) plan
+    refused_walk some =
         let e = ap (λ (x : Ends). x.new.number) same_ends in
-        answers-as (answers-walk s plan q old new given.long h given.read given.fine given.good given.flags (λ z. some (e ∙ z)))
+        answers_as (answers_walk s plan q old new given.long h given.read given.fine given.good given.flags (λ z. some (e ∙ z)))
         (λ t. record { number = (same_ends t).new.number; rows = 0; old = (same_ends t).old.steps; new = (same_ends t).new.steps })
 
-    module _ (none : w.new.number ≡ 0) {c : Case} (is : c ≡ case_of v q (endsOf w)) where
-      new-whole : (walksOf v q old new).new.number ≡ 0
-      new-whole = sym (ap (λ (x : Ends). x.new.number) same_ends) ∙ none
+    module _ (none : w.new.number ≡ 0) {c : Case} (is : c ≡ case_of v q (both_ends_of w)) where
+      new_whole : (walks_of v q old new).new.number ≡ 0
+      new_whole = sym (ap (λ (x : Ends). x.new.number) same_ends) ∙ none
 
-      old-whole : w.old.number ≡ 0
-      old-whole = ap (λ (x : Ends). x.old.number) same_ends ∙ walked-old v q old new new-whole
+      old_whole : w.old.number ≡ 0
+      old_whole = ap (λ (x : Ends). x.old.number) same_ends ∙ walked_old v q old new new_whole
 
-      pub walked-case : CaseIn v c
-      walked-case = subst (CaseIn v) (sym is) (case-in h s image-readable q (endsOf w) both.old.facts both.new.facts old-whole none)
+      pub walked_case : CaseIn v c
+      walked_case = subst (CaseIn v) (sym is) (case_in h s image_readable q (both_ends_of w) both.old.facts both.new.facts old_whole none)
 
       -- what the steps make of it
-      module _ {a : Answer} (judged : a ≡ decide (caseRules v q c)) where
-        decided : a ≡ decide (caseRules v q (case_of v q (walksOf v q old new)))
-        decided = judged ∙ ap (λ (x : Case). decide (caseRules v q x)) (is ∙ ap (λ (x : Ends). case_of v q x) same_ends)
+      module _ {a : Answer} (judged : a ≡ decide (case_rules v q c)) where
+        decided : a ≡ decide (case_rules v q (case_of v q (walks_of v q old new)))
+        decided = judged ∙ ap (λ (x : Case). decide (case_rules v q x)) (is ∙ ap (λ (x : Ends). case_of v q x) same_ends)
 
-        pub steps-refuse : (n : ℕ) → a ≡ Refused n → RenameAnswers s plan q old new (answer n 0) plan
-        steps-refuse n e =
-            answers-as (answers-case s plan q old new given.long h given.read given.fine given.good given.flags new-whole (Refused n) (sym e ∙ decided))
+        pub steps_refuse : (n : ℕ) → a ≡ Refused n → RenameAnswers s plan q old new (answer n 0) plan
+        steps_refuse n e =
+            answers_as (answers_case s plan q old new given.long h given.read given.fine given.good given.flags new_whole (Refused n) (sym e ∙ decided))
             (λ t. record { number = n; rows = 0; old = (same_ends t).old.steps; new = (same_ends t).new.steps })
 
         pub case_same : a ≡ Same → (after : List ℕ) → after ≡ cleared plan → RenameAnswers s plan q old new (answer w.new.number 0) after
         case_same e after f =
             subst (λ (x : List ℕ). RenameAnswers s plan q old new (answer w.new.number 0) x) (sym f)
-            (answers-as (answers-case s plan q old new given.long h given.read given.fine given.good given.flags new-whole Same (sym e ∙ decided))
+            (answers_as (answers_case s plan q old new given.long h given.read given.fine given.good given.flags new_whole Same (sym e ∙ decided))
             (λ t. record { number = none t; rows = 0; old = (same_ends t).old.steps; new = (same_ends t).new.steps }))
 
         module _ (e : a ≡ Planned) where
-          pub walked-move : InImage h (move_of v c q.now)
-          walked-move =
-              let slot = (planned-passed v c (planned-steps v q c (sym judged ∙ e))).slot in
+          pub walked_move : InImage h (move_of v c q.now)
+          walked_move =
+              let slot = (planned_passed v c (planned_steps v q c (sym judged ∙ e))).slot in
               subst (λ (x : Case). InImage h (move_of v x q.now)) (sym is)
-              (move_in h s image-readable q (endsOf w) both.old.facts both.new.facts old-whole none q.now
+              (move_in h s image_readable q (both_ends_of w) both.old.facts both.new.facts old_whole none q.now
               (subst (λ (x : Case). no_slot v x ≡ false) is slot))
 
-          pub planned-name : 8 + length (name_of (end_of w.new).found) ≤ h.width
-          planned-name = called-fits h s image-readable q (endsOf w) both.old.facts both.new.facts old-whole none
+          pub planned_name : 8 + length (name_of (end_of w.new).found) ≤ h.width
+          planned_name = called_fits h s image_readable q (both_ends_of w) both.old.facts both.new.facts old_whole none
 
           -- the rows, of the ends that the walks have
-          abbrev rowsIn : Shape → Ends → List Write
-          rowsIn x y = renameRows x s (move_of (view_of x s) (case_of (view_of x s) q y) q.now) (name_of y.new.found)
+          abbrev rows_in : Shape → Ends → List Write
+          rows_in x y = rename_rows x s (move_of (view_of x s) (case_of (view_of x s) q y) q.now) (name_of y.new.found)
 
-          abbrev planIn : Shape → Ends → List ℕ
-          planIn x y = planned x s (move_of (view_of x s) (case_of (view_of x s) q y) q.now) (name_of y.new.found) plan
+          abbrev plan_in : Shape → Ends → List ℕ
+          plan_in x y = planned x s (move_of (view_of x s) (case_of (view_of x s) q y) q.now) (name_of y.new.found) plan
 
-          pub steps-plan : (after : List ℕ) (n : ℕ)
+          pub steps_plan : (after : List ℕ) (n : ℕ)
               → (after ≡ planned h s (move_of v c q.now) (name_of (end_of w.new).found) plan)
-              × (n ≡ length (renameRows h s (move_of v c q.now) (name_of (end_of w.new).found)))
+              × (n ≡ length (rename_rows h s (move_of v c q.now) (name_of (end_of w.new).found)))
               → RenameAnswers s plan q old new (answer w.new.number n) after
-          steps-plan after n (filled, counted) =
-              let f : after ≡ planIn (shape_of s) (walksOf (view_of (shape_of s) s) q old new) =
-              filled ∙ ap (λ (x : Case). planned h s (move_of v x q.now) (name_of (end_of w.new).found) plan) is ∙ ap (λ (y : Ends). planIn h y) same_ends
-              ∙ ap (λ (x : Shape). planIn x (walksOf (view_of x s) q old new)) given.read.shape in
-              let k : n ≡ length (rowsIn (shape_of s) (walksOf (view_of (shape_of s) s) q old new)) =
-              counted ∙ ap (λ (x : Case). length (renameRows h s (move_of v x q.now) (name_of (end_of w.new).found))) is ∙ ap (λ (y : Ends). length (rowsIn h y)) same_ends
-              ∙ ap (λ (x : Shape). length (rowsIn x (walksOf (view_of x s) q old new))) given.read.shape in
+          steps_plan after n (filled, counted) =
+              let f : after ≡ plan_in (shape_of s) (walks_of (view_of (shape_of s) s) q old new) =
+              filled ∙ ap (λ (x : Case). planned h s (move_of v x q.now) (name_of (end_of w.new).found) plan) is ∙ ap (λ (y : Ends). plan_in h y) same_ends
+              ∙ ap (λ (x : Shape). plan_in x (walks_of (view_of x s) q old new)) given.read.shape in
+              let k : n ≡ length (rows_in (shape_of s) (walks_of (view_of (shape_of s) s) q old new)) =
+              counted ∙ ap (λ (x : Case). length (rename_rows h s (move_of v x q.now) (name_of (end_of w.new).found))) is ∙ ap (λ (y : Ends). length (rows_in h y)) same_ends
+              ∙ ap (λ (x : Shape). length (rows_in x (walks_of (view_of x s) q old new))) given.read.shape in
               subst (λ (x : List ℕ). RenameAnswers s plan q old new (answer w.new.number n) x) (sym f)
-              (answers-as (answers-case s plan q old new given.long h given.read given.fine given.good given.flags new-whole Planned (sym e ∙ decided))
+              (answers_as (answers_case s plan q old new given.long h given.read given.fine given.good given.flags new_whole Planned (sym e ∙ decided))
               (λ t. record { number = none t; rows = k t; old = (same_ends t).old.steps; new = (same_ends t).new.steps }))
 
         module _ (e : a ≡ Exchanged) where
-          pub walked-exchange : BothInImage h (exchangeOf c q.now)
-          walked-exchange =
-              let (passed, some, _) = exchanged-steps v q c (sym judged ∙ e) in
-              let other = eqb-false _ _ (exchange-passed v c passed).other in
-              subst (λ (x : Case). x.replaced ≢ absent → x.moved ≢ x.replaced → BothInImage h (exchangeOf x q.now)) (sym is)
-              (exchange-in h s image-readable q (endsOf w) both.old.facts both.new.facts old-whole none q.now) some other
+          pub walked_exchange : BothInImage h (exchange_of c q.now)
+          walked_exchange =
+              let (passed, some, _) = exchanged_steps v q c (sym judged ∙ e) in
+              let other = eqb-false _ _ (exchange_passed v c passed).other in
+              subst (λ (x : Case). x.replaced ≢ absent → x.moved ≢ x.replaced → BothInImage h (exchange_of x q.now)) (sym is)
+              (exchange_in h s image_readable q (both_ends_of w) both.old.facts both.new.facts old_whole none q.now) some other
 
-          abbrev exchangeRowsIn : Shape → Ends → List Write
-          exchangeRowsIn x y = exchangeRows x s (exchangeOf (case_of (view_of x s) q y) q.now)
+          abbrev exchange_rows_in : Shape → Ends → List Write
+          exchange_rows_in x y = exchange_rows x s (exchange_of (case_of (view_of x s) q y) q.now)
 
-          abbrev exchangePlanIn : Shape → Ends → List ℕ
-          exchangePlanIn x y = exchangePlanned x s (exchangeOf (case_of (view_of x s) q y) q.now) plan
+          abbrev exchange_plan_in : Shape → Ends → List ℕ
+          exchange_plan_in x y = exchange_planned x s (exchange_of (case_of (view_of x s) q y) q.now) plan
 
-          pub steps-exchange : (after : List ℕ) (n : ℕ)
-              → (after ≡ exchangePlanned h s (exchangeOf c q.now) plan) × (n ≡ length (exchangeRows h s (exchangeOf c q.now)))
+          pub steps_exchange : (after : List ℕ) (n : ℕ)
+              → (after ≡ exchange_planned h s (exchange_of c q.now) plan) × (n ≡ length (exchange_rows h s (exchange_of c q.now)))
               → RenameAnswers s plan q old new (answer w.new.number n) after
-          steps-exchange after n (filled, counted) =
-              let f : after ≡ exchangePlanIn (shape_of s) (walksOf (view_of (shape_of s) s) q old new) =
-              filled ∙ ap (λ (x : Case). exchangePlanned h s (exchangeOf x q.now) plan) is ∙ ap (λ (y : Ends). exchangePlanIn h y) same_ends
-              ∙ ap (λ (x : Shape). exchangePlanIn x (walksOf (view_of x s) q old new)) given.read.shape in
-              let k : n ≡ length (exchangeRowsIn (shape_of s) (walksOf (view_of (shape_of s) s) q old new)) =
-              counted ∙ ap (λ (x : Case). length (exchangeRows h s (exchangeOf x q.now))) is ∙ ap (λ (y : Ends). length (exchangeRowsIn h y)) same_ends
-              ∙ ap (λ (x : Shape). length (exchangeRowsIn x (walksOf (view_of x s) q old new))) given.read.shape in
+          steps_exchange after n (filled, counted) =
+              let f : after ≡ exchange_plan_in (shape_of s) (walks_of (view_of (shape_of s) s) q old new) =
+              filled ∙ ap (λ (x : Case). exchange_planned h s (exchange_of x q.now) plan) is ∙ ap (λ (y : Ends). exchange_plan_in h y) same_ends
+              ∙ ap (λ (x : Shape). exchange_plan_in x (walks_of (view_of x s) q old new)) given.read.shape in
+              let k : n ≡ length (exchange_rows_in (shape_of s) (walks_of (view_of (shape_of s) s) q old new)) =
+              counted ∙ ap (λ (x : Case). length (exchange_rows h s (exchange_of x q.now))) is ∙ ap (λ (y : Ends). length (exchange_rows_in h y)) same_ends
+              ∙ ap (λ (x : Shape). length (exchange_rows_in x (walks_of (view_of x s) q old new))) given.read.shape in
               subst (λ (x : List ℕ). RenameAnswers s plan q old new (answer w.new.number n) x) (sym f)
-              (answers-as (answers-case s plan q old new given.long h given.read given.fine given.good given.flags new-whole Exchanged (sym e ∙ decided))
+              (answers_as (answers_case s plan q old new given.long h given.read given.fine given.good given.flags new_whole Exchanged (sym e ∙ decided))
               (λ t. record { number = none t; rows = k t; old = (same_ends t).old.steps; new = (same_ends t).new.steps }))

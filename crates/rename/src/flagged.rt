@@ -4,7 +4,7 @@ ghost use Rattle.layout.specs.Facts.{Readable};
 ghost use Rattle.layout.specs.View.{view_of};
 ghost use Rattle.refusals.specs.CaseIn.{CaseIn};
 ghost use Rattle.refusals.specs.Rules.{decide};
-ghost use Rattle.rename.specs.Order.{caseRules};
+ghost use Rattle.rename.specs.Order.{case_rules};
 
 use layout::{Shape, errno, limits};
 use paths::flags;
@@ -14,7 +14,7 @@ use refusals::case::{Answer, Case};
 // New's name has to be missing, or has to exist, or may be either; then the steps of an exchange, or those of a rename.
 pub fn judge(image: &[u8], h: Shape, q: Request, c: Case) -> Answer
     requires { Readable h image.now × CaseIn (view_of h image.now) c }
-    ensures { result ≡ decide (caseRules (view_of h image.now) q c) }
+    ensures { result ≡ decide (case_rules (view_of h image.now) q c) }
 {
     if q.flags == flags::EXCHANGE {
         if c.replaced == limits::ABSENT {

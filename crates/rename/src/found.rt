@@ -3,7 +3,7 @@ ghost use Rattle.std.specs.Prelude.{◌≡◌, ◌≤◌, ◌<◌};
 ghost use Rattle.layout.specs.Facts.{Laid};
 ghost use Rattle.layout.specs.View.{view_of};
 ghost use Rattle.walk.specs.Answer.{end_of};
-ghost use Rattle.rename.specs.Order.{freeSlot, directoryOf, slot_of, inodeOf, slashOf, case_of};
+ghost use Rattle.rename.specs.Order.{free_slot, directory_of, slot_of, inode_of, slash_of, case_of};
 
 use component::state::Found;
 use layout::{Shape, limits};
@@ -14,7 +14,7 @@ use walk::resolve::Walked;
 // The lowest free slot, or the number of slots where none is free.
 pub fn free_slot(image: &[u8], h: Shape) -> usize
     requires { Laid h image.now }
-    ensures { (result ≡ freeSlot (view_of h image.now)) × (result ≤ h.entries) }
+    ensures { (result ≡ free_slot (view_of h image.now)) × (result ≤ h.entries) }
 {
     let n = h.entries;
     let mut j: usize = 0;
@@ -29,7 +29,7 @@ pub fn free_slot(image: &[u8], h: Shape) -> usize
 }
 
 fn directory_of(w: Walked) -> usize
-    ensures { result ≡ directoryOf (end_of w).found }
+    ensures { result ≡ directory_of (end_of w).found }
 {
     let found = w.found;
     match found {
@@ -72,7 +72,7 @@ fn slot_of(image: &[u8], h: Shape, w: Walked) -> usize
 }
 
 fn inode_of(w: Walked) -> usize
-    ensures { result ≡ inodeOf (end_of w).found }
+    ensures { result ≡ inode_of (end_of w).found }
 {
     let found = w.found;
     match found {
@@ -93,7 +93,7 @@ fn inode_of(w: Walked) -> usize
 }
 
 fn slash_of(w: Walked) -> bool
-    ensures { result ≡ slashOf (end_of w).found }
+    ensures { result ≡ slash_of (end_of w).found }
 {
     let found = w.found;
     match found {

@@ -2,18 +2,18 @@
 ghost use Rattle.std.specs.Prelude.{◌≡◌, true, ◌+◌, ◌≤◌, length};
 ghost use Rattle.layout.specs.Facts.{Laid, Read};
 ghost use Rattle.layout.specs.View.{view_of};
-ghost use Rattle.consistency.specs.Consistent.{recordsNumber};
-ghost use Rattle.paths.specs.Request.{requestGood};
-ghost use Rattle.paths.specs.Flags.{flagsGood};
+ghost use Rattle.consistency.specs.Consistent.{records_number};
+ghost use Rattle.paths.specs.Request.{request_good};
+ghost use Rattle.paths.specs.Flags.{flags_good};
 ghost use Rattle.component.specs.State.{Ranged};
 ghost use Rattle.walk.specs.Answer.{end_of};
-ghost use Rattle.plan.specs.Form.{planBytes};
+ghost use Rattle.plan.specs.Form.{plan_bytes};
 ghost use Rattle.results.specs.InImage.{InImage};
-ghost use Rattle.exchanges.specs.Exchange.{exchangeRows, exchangePlanned};
+ghost use Rattle.exchanges.specs.Exchange.{exchange_rows, exchange_planned};
 ghost use Rattle.exchanges.specs.InImage.{BothInImage};
-ghost use Rattle.moves.specs.Plan.{move_of, exchangeOf, renameRows, planned};
+ghost use Rattle.moves.specs.Plan.{move_of, exchange_of, rename_rows, planned};
 ghost use Rattle.rename.specs.Order.{name_of};
-ghost use Rattle.rename.specs.Answers.{refusedEarly, RenameAnswers};
+ghost use Rattle.rename.specs.Answers.{refused_early, RenameAnswers};
 
 use component::state::Found;
 use layout::contents::Contents;
@@ -36,7 +36,7 @@ pub struct Renamed {
 
 // A refusal before any walk.
 fn refused(number: u8) -> Renamed
-    ensures { result ≡ refusedEarly number }
+    ensures { result ≡ refused_early number }
 {
     Renamed {
         number,
@@ -48,8 +48,8 @@ fn refused(number: u8) -> Renamed
 
 // Plans the case: under the name that new's walk found missing, if it did. Answers how many rows there are.
 fn write(plan: &mut [u8], image: &[u8], h: Shape, c: Case, time: u64, new: Walked) -> usize
-    requires { (planBytes ≤ length plan.old) × Laid h image.now × Ranged new.path new.found × InImage h (move_of (view_of h image.now) c time) × (8 + length (name_of (end_of new).found) ≤ h.width) }
-    ensures { (plan.new ≡ planned h image.now (move_of (view_of h image.now) c time) (name_of (end_of new).found) plan.old) × (result ≡ length (renameRows h image.now (move_of (view_of h image.now) c time) (name_of (end_of new).found))) }
+    requires { (plan_bytes ≤ length plan.old) × Laid h image.now × Ranged new.path new.found × InImage h (move_of (view_of h image.now) c time) × (8 + length (name_of (end_of new).found) ≤ h.width) }
+    ensures { (plan.new ≡ planned h image.now (move_of (view_of h image.now) c time) (name_of (end_of new).found) plan.old) × (result ≡ length (rename_rows h image.now (move_of (view_of h image.now) c time) (name_of (end_of new).found))) }
 {
     let m = moves::move_of(image, h, c, time);
     let found = new.found;
@@ -75,15 +75,15 @@ fn write(plan: &mut [u8], image: &[u8], h: Shape, c: Case, time: u64, new: Walke
 
 // Plans the exchange of the case. Answers how many rows there are.
 fn exchange(plan: &mut [u8], image: &[u8], h: Shape, c: Case, time: u64) -> usize
-    requires { (planBytes ≤ length plan.old) × Laid h image.now × BothInImage h (exchangeOf c time) }
-    ensures { (plan.new ≡ exchangePlanned h image.now (exchangeOf c time) plan.old) × (result ≡ length (exchangeRows h image.now (exchangeOf c time))) }
+    requires { (plan_bytes ≤ length plan.old) × Laid h image.now × BothInImage h (exchange_of c time) }
+    ensures { (plan.new ≡ exchange_planned h image.now (exchange_of c time) plan.old) × (result ≡ length (exchange_rows h image.now (exchange_of c time))) }
 {
     exchanges::rows::fill(plan, image, h, moves::exchange_of(c, time))
 }
 
 // Both walks of a good request, and what is made of the case that they have found.
 fn walked(image: &[u8], h: Shape, q: Request, old: &[u8], new: &[u8], plan: &mut [u8]) -> Renamed
-    requires { (planBytes ≤ length plan.old) × Read image.now h × (recordsNumber h image.now ≡ 0) × (requestGood (view_of h image.now) q old.now new.now ≡ true) × (flagsGood q ≡ true) }
+    requires { (plan_bytes ≤ length plan.old) × Read image.now h × (records_number h image.now ≡ 0) × (request_good (view_of h image.now) q old.now new.now ≡ true) × (flags_good q ≡ true) }
     ensures { RenameAnswers image.now plan.old q old.now new.now result plan.new }
 {
     let w = walk::both::both(image, h, q, old, new);
@@ -111,7 +111,7 @@ fn walked(image: &[u8], h: Shape, q: Request, old: &[u8], new: &[u8], plan: &mut
 
 // A request on an image of a good layout.
 fn asked(image: &[u8], h: Shape, q: Request, old: &[u8], new: &[u8], plan: &mut [u8]) -> Renamed
-    requires { (planBytes ≤ length plan.old) × Read image.now h }
+    requires { (plan_bytes ≤ length plan.old) × Read image.now h }
     ensures { RenameAnswers image.now plan.old q old.now new.now result plan.new }
 {
     let number = consistency::records_number(image, h);

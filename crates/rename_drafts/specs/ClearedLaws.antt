@@ -2,15 +2,15 @@
 use Rattle.std.specs.Prelude.{◌≡◌, List, [], ◌∷◌, ◌++◌, ℕ, ◌+◌, ◌≤◌, ◌<◌, length}
 use Rattle.std.proofs.Common.{arith}
 use Rattle.layout.specs.declared.Shape.{Shape}
-use Rattle.plan.specs.Form.{planRows, rowPut}
-use Rattle.plan.specs.Write.{Write, rowFrom}
+use Rattle.plan.specs.Form.{plan_rows, row_stored}
+use Rattle.plan.specs.Write.{Write, row_from}
 use Rattle.plan.specs.Filled.{Filled}
-use Rattle.plan.specs.WriteLaws.{filled-one, filled-join}
-use Rattle.results.specs.Results.{clearRow}
+use Rattle.plan.specs.WriteLaws.{filled_one, filled_join}
+use Rattle.results.specs.Results.{clear_row}
 
 module _ (h : Shape) (ws : List Write) (few : length ws ≤ 6) {p q : List ℕ} {n : ℕ} (filled : Filled h p 0 ws q n) where
-  pub rows-below : n < planRows
-  rows-below = omega (arith, filled.next)
+  pub rows_below : n < plan_rows
+  rows_below = omega (arith, filled.next)
 
-  pub cleared-filled : {r : List ℕ} → r ≡ rowPut q n (rowFrom h (clearRow h)) → Filled h p 0 (ws ++ clearRow h ∷ []) r (n + 1)
-  cleared-filled e = filled-join h filled (filled-one h (clearRow h) e)
+  pub cleared_filled : {r : List ℕ} → r ≡ row_stored q n (row_from h (clear_row h)) → Filled h p 0 (ws ++ clear_row h ∷ []) r (n + 1)
+  cleared_filled e = filled_join h filled (filled_one h (clear_row h) e)

@@ -4,21 +4,21 @@ use Rattle.std.specs.Prelude.{Bool, ◌&&◌, not, cond, List, [], ◌∷◌, �
 use Rattle.std.proofs.Math.Option.{Option, none, some}
 use Rattle.seq.specs.Search.{implies}
 use Rattle.layout.specs.declared.Shape.{Shape}
-use Rattle.layout.specs.View.{View, view_of, entryUsed, isDirectory}
+use Rattle.layout.specs.View.{View, view_of, entry_used, is_directory}
 use Rattle.encode.specs.declared.journal.Journal.{Journal}
 use Rattle.plan.specs.Write.{Write}
 use Rattle.recounts.specs.declared.Move.{Move}
-use Rattle.results.specs.Results.{present, results, clearRow}
+use Rattle.results.specs.Results.{present, results, clear_row}
 
 -- a number below n, or none
-abbrev pub belowOrAbsent : ℕ → ℕ → Bool
-belowOrAbsent i n = implies (present i) (ltb i n)
+abbrev pub below_or_absent : ℕ → ℕ → Bool
+below_or_absent i n = implies (present i) (ltb i n)
 
 -- rule 105: the numbers are in range; that of the old parent is asked for by rule 106
-abbrev pub numbersInRange : Shape → Journal → Bool
-numbersInRange h j =
-    ltb j.old h.entries && ltb j.new h.entries && ltb j.moved h.inodes && belowOrAbsent j.replaced h.inodes
-    && belowOrAbsent j.text h.texts
+abbrev pub numbers_in_range : Shape → Journal → Bool
+numbers_in_range h j =
+    ltb j.old h.entries && ltb j.new h.entries && ltb j.moved h.inodes && below_or_absent j.replaced h.inodes
+    && below_or_absent j.text h.texts
 
 -- rule 106: the slots differ, the moved inode is not the root, and it, the old parent and the replaced inode are different
 abbrev pub different : Journal → Bool
@@ -27,12 +27,12 @@ different j =
     && not (eqb j.replaced j.parent)
 
 -- rules 105 and 106: the record of a rename fits the image
-unfoldable pub renameFits : Shape → List ℕ → Journal → Bool
-renameFits h x j = numbersInRange h j && different j && isDirectory (view_of h x) j.parent
+unfoldable pub rename_fits : Shape → List ℕ → Journal → Bool
+rename_fits h x j = numbers_in_range h j && different j && is_directory (view_of h x) j.parent
 
 -- the move that the record names; the new parent is the one of the entry in the new slot
-abbrev pub moveFrom : View → Journal → Move
-moveFrom v j = record {
+abbrev pub move_from : View → Journal → Move
+move_from v j = record {
   old = j.old;
   new = j.new;
   moved = j.moved;
@@ -44,26 +44,26 @@ moveFrom v j = record {
 }
 
 -- rule 107: the new entry has been applied, so its slot is in use and targets the moved inode
-unfoldable pub entryStands : View → Move → Bool
-entryStands v m = entryUsed v m.new && eqb (v.target m.new) m.moved
+unfoldable pub entry_stands : View → Move → Bool
+entry_stands v m = entry_used v m.new && eqb (v.target m.new) m.moved
 
 -- rule 108: the new parent is a directory, and neither moved nor replaced
-unfoldable pub intoGood : View → Move → Bool
-intoGood v m = isDirectory v m.into && not (eqb m.into m.moved) && not (eqb m.into m.replaced)
+unfoldable pub into_good : View → Move → Bool
+into_good v m = is_directory v m.into && not (eqb m.into m.moved) && not (eqb m.into m.replaced)
 
 module _ (h : Shape) (x : List ℕ) where
   -- rule 107: clearing the journal record takes the rename back
   abbrev pub undoing : List Write
-  undoing = clearRow h ∷ []
+  undoing = clear_row h ∷ []
 
   -- rule 108: the results, made afresh, and then the cleared journal record finish it
   abbrev pub finishing : Move → List Write
-  finishing m = results h x m ++ clearRow h ∷ []
+  finishing m = results h x m ++ clear_row h ∷ []
 
   -- rules 107 and 108: the rows of a move whose record fits
-  unfoldable pub moveDraft : Move → Option (List Write)
-  moveDraft m = cond (entryStands (view_of h x) m) (cond (intoGood (view_of h x) m) (some (finishing m)) none) (some undoing)
+  unfoldable pub move_draft : Move → Option (List Write)
+  move_draft m = cond (entry_stands (view_of h x) m) (cond (into_good (view_of h x) m) (some (finishing m)) none) (some undoing)
 
   -- and of a pending rename
-  unfoldable pub renameDraft : Journal → Option (List Write)
-  renameDraft j = cond (renameFits h x j) (moveDraft (moveFrom (view_of h x) j)) none
+  unfoldable pub rename_draft : Journal → Option (List Write)
+  rename_draft j = cond (rename_fits h x j) (move_draft (move_from (view_of h x) j)) none

@@ -2,10 +2,10 @@
 ghost use Rattle.std.specs.Prelude.{◌≡◌, ◌≤◌, ◌<◌, length};
 ghost use Rattle.layout.specs.Facts.{Laid};
 ghost use Rattle.layout.specs.View.{view_of};
-ghost use Rattle.plan.specs.Form.{planBytes};
+ghost use Rattle.plan.specs.Form.{plan_bytes};
 ghost use Rattle.plan.specs.Filled.{Filled};
 ghost use Rattle.results.specs.InImage.{InImage};
-ghost use Rattle.rename_drafts.specs.PendingRename.{belowOrAbsent, numbersInRange, different, renameFits, moveFrom, entryStands, intoGood, finishing, renameDraft};
+ghost use Rattle.rename_drafts.specs.PendingRename.{below_or_absent, numbers_in_range, different, rename_fits, move_from, entry_stands, into_good, finishing, rename_draft};
 ghost use Rattle.rename_drafts.specs.Drafted.{Drafted};
 
 use crate::drafted::Draft;
@@ -16,7 +16,7 @@ use recounts::Move;
 pub mod drafted;
 
 fn below_or_absent(i: usize, n: usize) -> bool
-    ensures { result ≡ belowOrAbsent i n }
+    ensures { result ≡ below_or_absent i n }
 {
     if i == limits::ABSENT {
         return true;
@@ -25,7 +25,7 @@ fn below_or_absent(i: usize, n: usize) -> bool
 }
 
 fn in_range(h: Shape, j: Journal) -> bool
-    ensures { result ≡ numbersInRange h j }
+    ensures { result ≡ numbers_in_range h j }
 {
     if h.entries <= j.old {
         return false;
@@ -64,7 +64,7 @@ pub fn different(j: Journal) -> bool
 // Whether the record fits the image.
 fn fits(image: &[u8], h: Shape, j: Journal) -> bool
     requires { Laid h image.now }
-    ensures { result ≡ renameFits h image.now j }
+    ensures { result ≡ rename_fits h image.now j }
 {
     if !in_range(h, j) {
         return false;
@@ -78,7 +78,7 @@ fn fits(image: &[u8], h: Shape, j: Journal) -> bool
 // The move that the record names. The new parent is not in the record: the entry in the new slot has it.
 pub fn move_from(image: &[u8], h: Shape, j: Journal) -> Move
     requires { Laid h image.now × (j.new < h.entries) }
-    ensures { result ≡ moveFrom (view_of h image.now) j }
+    ensures { result ≡ move_from (view_of h image.now) j }
 {
     let e = layout::records::entry(image, h, j.new);
     Move {
@@ -96,7 +96,7 @@ pub fn move_from(image: &[u8], h: Shape, j: Journal) -> Move
 // Whether the new entry has been applied.
 fn entry_stands(image: &[u8], h: Shape, m: Move) -> bool
     requires { Laid h image.now × (m.new < h.entries) }
-    ensures { result ≡ entryStands (view_of h image.now) m }
+    ensures { result ≡ entry_stands (view_of h image.now) m }
 {
     let e = layout::records::entry(image, h, m.new);
     if layout::entry::name_length(e) == 0 {
@@ -108,7 +108,7 @@ fn entry_stands(image: &[u8], h: Shape, m: Move) -> bool
 // Whether the new parent is a directory, and neither moved nor replaced.
 pub fn into_good(image: &[u8], h: Shape, m: Move) -> bool
     requires { Laid h image.now }
-    ensures { result ≡ intoGood (view_of h image.now) m }
+    ensures { result ≡ into_good (view_of h image.now) m }
 {
     if !layout::lookup::is_directory(image, h, m.into) {
         return false;
@@ -121,7 +121,7 @@ pub fn into_good(image: &[u8], h: Shape, m: Move) -> bool
 
 // The rows that finish the move.
 fn finish(plan: &mut [u8], image: &[u8], h: Shape, m: Move) -> usize
-    requires { (planBytes ≤ length plan.old) × Laid h image.now × InImage h m }
+    requires { (plan_bytes ≤ length plan.old) × Laid h image.now × InImage h m }
     ensures { Filled h plan.old 0 (finishing h image.now m) plan.new result }
 {
     let at = results::rows::put(plan, 0, image, h, m);
@@ -131,8 +131,8 @@ fn finish(plan: &mut [u8], image: &[u8], h: Shape, m: Move) -> usize
 
 // Puts the rows of a pending rename into a plan of none.
 pub fn draft(plan: &mut [u8], image: &[u8], h: Shape, j: Journal) -> Draft
-    requires { (planBytes ≤ length plan.old) × Laid h image.now }
-    ensures { Drafted h plan.old (renameDraft h image.now j) result plan.new }
+    requires { (plan_bytes ≤ length plan.old) × Laid h image.now }
+    ensures { Drafted h plan.old (rename_draft h image.now j) result plan.new }
 {
     if !fits(image, h, j) {
         return Draft::Unfit;

@@ -4,31 +4,31 @@ use Rattle.std.proofs.Common.{◌∙◌}
 use Rattle.layout.specs.View.{View}
 use Rattle.refusals.specs.declared.case.Answer.TheVariants.{Refused, Same, Planned}
 use Rattle.refusals.specs.declared.case.Case.{Case}
-use Rattle.refusals.specs.Rules.{Rule, number_of, decide, parentRules}
-use Rattle.refusals.specs.DecideLaws.{decide-refused, decide-passed, first-same, first-parents, past-parents}
-use Rattle.rename_steps.specs.Steps.{kindRules, targetRules, steps}
+use Rattle.refusals.specs.Rules.{Rule, number_of, decide, parent_rules}
+use Rattle.refusals.specs.DecideLaws.{decide_refused, decide_passed, first_same, first_parents, past_parents}
+use Rattle.rename_steps.specs.Steps.{kind_rules, target_rules, steps}
 
 module _ (v : View) (c : Case) where
   abbrev rest : List Rule
-  rest = kindRules v c ++ targetRules v c
+  rest = kind_rules v c ++ target_rules v c
 
-  pub steps-same : c.moved ≡ c.replaced → decide (steps v c) ≡ Same
-  steps-same e = first-same v c rest e
+  pub steps_same : c.moved ≡ c.replaced → decide (steps v c) ≡ Same
+  steps_same e = first_same v c rest e
 
   module _ (other : c.moved ≡ c.replaced → ⊥) where
-    pub steps-parents : (number_of (decide (parentRules v c)) ≡ 0 → ⊥) → decide (steps v c) ≡ Refused (number_of (decide (parentRules v c)))
-    steps-parents some = first-parents v c rest other some
+    pub steps_parents : (number_of (decide (parent_rules v c)) ≡ 0 → ⊥) → decide (steps v c) ≡ Refused (number_of (decide (parent_rules v c)))
+    steps_parents some = first_parents v c rest other some
 
-    module _ (parents : number_of (decide (parentRules v c)) ≡ 0) where
-      pub steps-kinds : (number_of (decide (kindRules v c)) ≡ 0 → ⊥) → decide (steps v c) ≡ Refused (number_of (decide (kindRules v c)))
-      steps-kinds some = past-parents v c rest other parents ∙ decide-refused (targetRules v c) (kindRules v c) some
+    module _ (parents : number_of (decide (parent_rules v c)) ≡ 0) where
+      pub steps_kinds : (number_of (decide (kind_rules v c)) ≡ 0 → ⊥) → decide (steps v c) ≡ Refused (number_of (decide (kind_rules v c)))
+      steps_kinds some = past_parents v c rest other parents ∙ decide_refused (target_rules v c) (kind_rules v c) some
 
-      module _ (kinds : number_of (decide (kindRules v c)) ≡ 0) where
-        past-kinds : decide (steps v c) ≡ decide (targetRules v c)
-        past-kinds = past-parents v c rest other parents ∙ decide-passed (targetRules v c) (kindRules v c) refl kinds
+      module _ (kinds : number_of (decide (kind_rules v c)) ≡ 0) where
+        past_kinds : decide (steps v c) ≡ decide (target_rules v c)
+        past_kinds = past_parents v c rest other parents ∙ decide_passed (target_rules v c) (kind_rules v c) refl kinds
 
-        pub steps-target : (number_of (decide (targetRules v c)) ≡ 0 → ⊥) → decide (steps v c) ≡ Refused (number_of (decide (targetRules v c)))
-        steps-target some = past-kinds ∙ decide-refused [] (targetRules v c) some
+        pub steps_target : (number_of (decide (target_rules v c)) ≡ 0 → ⊥) → decide (steps v c) ≡ Refused (number_of (decide (target_rules v c)))
+        steps_target some = past_kinds ∙ decide_refused [] (target_rules v c) some
 
-        pub steps-planned : number_of (decide (targetRules v c)) ≡ 0 → decide (steps v c) ≡ Planned
-        steps-planned none = past-kinds ∙ decide-passed [] (targetRules v c) refl none
+        pub steps_planned : number_of (decide (target_rules v c)) ≡ 0 → decide (steps v c) ≡ Planned
+        steps_planned none = past_kinds ∙ decide_passed [] (target_rules v c) refl none

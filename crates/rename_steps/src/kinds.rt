@@ -1,11 +1,11 @@
 // Steps 8 to 10 of the order of refusal: the two type numbers decide.
 ghost use Rattle.std.specs.Prelude.{◌≡◌, true, false};
 ghost use Rattle.layout.specs.Facts.{Laid};
-ghost use Rattle.layout.specs.View.{view_of, isDirectory};
-ghost use Rattle.rename_steps.specs.Tests.{movedDenied};
+ghost use Rattle.layout.specs.View.{view_of, is_directory};
+ghost use Rattle.rename_steps.specs.Tests.{moved_denied};
 ghost use Rattle.refusals.specs.CaseIn.{CaseIn};
 ghost use Rattle.refusals.specs.Rules.{number_of, decide};
-ghost use Rattle.rename_steps.specs.Steps.{kindRules};
+ghost use Rattle.rename_steps.specs.Steps.{kind_rules};
 
 use crate::target;
 use layout::{Shape, errno};
@@ -14,8 +14,8 @@ use refusals::case::Case;
 
 // Step 9 of a directory: it gets another parent, and write permission is denied on it.
 fn moved_denied(image: &[u8], h: Shape, c: Case) -> bool
-    requires { Laid h image.now × (isDirectory (view_of h image.now) c.moved ≡ true) }
-    ensures { result ≡ movedDenied (view_of h image.now) c }
+    requires { Laid h image.now × (is_directory (view_of h image.now) c.moved ≡ true) }
+    ensures { result ≡ moved_denied (view_of h image.now) c }
 {
     if c.from == c.into {
         return false;
@@ -25,8 +25,8 @@ fn moved_denied(image: &[u8], h: Shape, c: Case) -> bool
 
 // Steps 8 to 10 of a directory. It may replace nothing, or a directory that has no entries.
 fn of_directory(image: &[u8], h: Shape, c: Case) -> u8
-    requires { Laid h image.now × CaseIn (view_of h image.now) c × (isDirectory (view_of h image.now) c.moved ≡ true) }
-    ensures { result ≡ number_of (decide (kindRules (view_of h image.now) c)) }
+    requires { Laid h image.now × CaseIn (view_of h image.now) c × (is_directory (view_of h image.now) c.moved ≡ true) }
+    ensures { result ≡ number_of (decide (kind_rules (view_of h image.now) c)) }
 {
     let replaced = layout::lookup::kind(image, h, c.replaced);
     match replaced {
@@ -51,8 +51,8 @@ fn of_directory(image: &[u8], h: Shape, c: Case) -> u8
 
 // Step 8 of anything else, of which steps 9 and 10 ask nothing.
 fn of_other(image: &[u8], h: Shape, c: Case) -> u8
-    requires { Laid h image.now × CaseIn (view_of h image.now) c × (isDirectory (view_of h image.now) c.moved ≡ false) }
-    ensures { result ≡ number_of (decide (kindRules (view_of h image.now) c)) }
+    requires { Laid h image.now × CaseIn (view_of h image.now) c × (is_directory (view_of h image.now) c.moved ≡ false) }
+    ensures { result ≡ number_of (decide (kind_rules (view_of h image.now) c)) }
 {
     let replaced = layout::lookup::kind(image, h, c.replaced);
     match replaced {
@@ -70,7 +70,7 @@ fn of_other(image: &[u8], h: Shape, c: Case) -> u8
 // The number of the first of steps 8 to 10 that refuses, or 0.
 pub fn number(image: &[u8], h: Shape, c: Case) -> u8
     requires { Laid h image.now × CaseIn (view_of h image.now) c }
-    ensures { result ≡ number_of (decide (kindRules (view_of h image.now) c)) }
+    ensures { result ≡ number_of (decide (kind_rules (view_of h image.now) c)) }
 {
     let moved = layout::lookup::kind(image, h, c.moved);
     match moved {

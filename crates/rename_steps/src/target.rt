@@ -2,10 +2,10 @@
 ghost use Rattle.std.specs.Prelude.{◌≡◌, List, ℕ, ◌<◌};
 ghost use Rattle.layout.specs.Facts.{Laid};
 ghost use Rattle.layout.specs.View.{view_of};
-ghost use Rattle.rename_steps.specs.Tests.{entryIn, hasEntries, openOn, isOpened, busy, fullParent, no_slot};
+ghost use Rattle.rename_steps.specs.Tests.{entry_in, has_entries, open_on, is_opened, busy, full_parent, no_slot};
 ghost use Rattle.refusals.specs.Within.{Within};
 ghost use Rattle.refusals.specs.Rules.{number_of, decide};
-ghost use Rattle.rename_steps.specs.Steps.{targetRules};
+ghost use Rattle.rename_steps.specs.Steps.{target_rules};
 
 use layout::{Shape, errno, limits};
 use refusals::case::Case;
@@ -13,7 +13,7 @@ use refusals::case::Case;
 // Whether the entry in slot j is in use and lies in directory d. Few entries do, so that is asked first.
 fn entry_in(image: &[u8], h: Shape, d: usize, j: usize) -> bool
     requires { Laid h image.now × (j < h.entries) }
-    ensures { result ≡ entryIn (view_of h image.now) d j }
+    ensures { result ≡ entry_in (view_of h image.now) d j }
 {
     let e = layout::records::entry(image, h, j);
     if layout::entry::parent(e) != d {
@@ -25,7 +25,7 @@ fn entry_in(image: &[u8], h: Shape, d: usize, j: usize) -> bool
 // Whether directory d has entries.
 pub fn has_entries(image: &[u8], h: Shape, d: usize) -> bool
     requires { Laid h image.now }
-    ensures { result ≡ hasEntries (view_of h image.now) d }
+    ensures { result ≡ has_entries (view_of h image.now) d }
 {
     let n = h.entries;
     let mut j: usize = 0;
@@ -41,7 +41,7 @@ pub fn has_entries(image: &[u8], h: Shape, d: usize) -> bool
 // Whether handle n is open on inode i.
 fn open_on(image: &[u8], h: Shape, i: usize, n: usize) -> bool
     requires { Laid h image.now × (n < h.handles) }
-    ensures { result ≡ openOn (view_of h image.now) i n }
+    ensures { result ≡ open_on (view_of h image.now) i n }
 {
     let r = layout::records::handle(image, h, n);
     if layout::handle::state(r) == 0 {
@@ -53,7 +53,7 @@ fn open_on(image: &[u8], h: Shape, i: usize, n: usize) -> bool
 // Whether inode i is under an open handle.
 fn is_opened(image: &[u8], h: Shape, i: usize) -> bool
     requires { Laid h image.now }
-    ensures { result ≡ isOpened (view_of h image.now) i }
+    ensures { result ≡ is_opened (view_of h image.now) i }
 {
     let handles = h.handles;
     let mut n: usize = 0;
@@ -87,7 +87,7 @@ fn busy(image: &[u8], h: Shape, c: Case) -> bool
 // Step 12: the new parent would get a link more than there may be.
 fn full_parent(image: &[u8], h: Shape, c: Case) -> bool
     requires { Laid h image.now × Within h c }
-    ensures { result ≡ fullParent (view_of h image.now) c }
+    ensures { result ≡ full_parent (view_of h image.now) c }
 {
     if !layout::lookup::is_directory(image, h, c.moved) {
         return false;
@@ -115,7 +115,7 @@ fn no_slot(h: Shape, c: Case) -> bool
 // The number of the first of steps 11 to 13 that refuses, or 0.
 pub fn number(image: &[u8], h: Shape, c: Case) -> u8
     requires { Laid h image.now × Within h c }
-    ensures { result ≡ number_of (decide (targetRules (view_of h image.now) c)) }
+    ensures { result ≡ number_of (decide (target_rules (view_of h image.now) c)) }
 {
     if busy(image, h, c) {
         return errno::EBUSY;

@@ -7,24 +7,24 @@ use Rattle.std.proofs.Math.Option.{some}
 use Rattle.std.proofs.Math.Decide.{ℕ_discrete}
 use Rattle.seq.specs.Bytes.{zeros}
 use Rattle.seq.specs.Number.{span}
-use Rattle.seq.specs.SearchLaws.{all-not}
+use Rattle.seq.specs.SearchLaws.{all_not}
 use Rattle.layout.specs.declared.Shape.{Shape}
 use Rattle.layout.specs.Limits.{absent}
 use Rattle.layout.specs.Facts.{Laid}
-use Rattle.layout.specs.View.{journalAt}
+use Rattle.layout.specs.View.{journal_at}
 use Rattle.encode.specs.declared.journal.Journal.{Journal}
 use Rattle.encode.specs.Facts.{InRange}
-use Rattle.encode.specs.Journal.{journalOf, journalFormed, journalBytes, journalHead}
-use Rattle.encode.specs.JournalLaws.{journal-formed, journal-of-bytes}
-use Rattle.consistency.specs.Sound.{journalClear}
+use Rattle.encode.specs.Journal.{journal_of, journal_formed, journal_bytes, journal_head}
+use Rattle.encode.specs.JournalLaws.{journal_formed_lem, journal_of_bytes}
+use Rattle.consistency.specs.Sound.{journal_clear}
 use Rattle.consistency.specs.Consistent.{consistent}
-use Rattle.plan.specs.Write.{Write, journalKey, storeAll}
+use Rattle.plan.specs.Write.{Write, journal_key, store_all}
 use Rattle.recounts.specs.declared.Move.{Move}
-use Rattle.results.specs.Start.{journalFor}
+use Rattle.results.specs.Start.{journal_for}
 use Rattle.results.specs.InImage.{InImage}
-use Rattle.drafts.specs.Draft.{kindDraft, draft}
-use Rattle.recover.specs.Recover.{ifConsistent, pendingRows, recover}
-use Rattle.image_store.specs.Image.{recordOf}
+use Rattle.drafts.specs.Draft.{kind_draft, draft}
+use Rattle.recover.specs.Recover.{if_consistent, pending_rows, recover}
+use Rattle.image_store.specs.Image.{record_of}
 use Rattle.image_store.specs.ImageLaws.{record_is}
 
 -- ---- the record's numbers fit their fields
@@ -36,52 +36,52 @@ small i n f l = go (ℕ_discrete i absent)
     go (yes e) = omega arith
     go (no d) = omega (arith, f d)
 
-pub in-range : (h : Shape) (s : List ℕ) → Laid h s → (kind : ℕ) → kind < 256 → (m : Move) → InImage h m → m.now < span 8 → InRange (journalFor kind m)
-in-range h s laid kind l m range time = record {
+pub in_range_lem : (h : Shape) (s : List ℕ) → Laid h s → (kind : ℕ) → kind < 256 → (m : Move) → InImage h m → m.now < span 8 → InRange (journal_for kind m)
+in_range_lem h s laid kind l m range time = record {
   kind = l;
-  old = omega (arith, range.old, laid.entries-most);
-  new = omega (arith, range.new, laid.entries-most);
-  moved = omega (arith, range.moved, laid.inodes-most);
-  replaced = small m.replaced h.inodes range.replaced (omega (arith, laid.inodes-most));
-  parent = omega (arith, range.from, laid.inodes-most);
-  text = small m.text h.texts range.text (omega (arith, laid.texts-most));
+  old = omega (arith, range.old, laid.entries_most);
+  new = omega (arith, range.new, laid.entries_most);
+  moved = omega (arith, range.moved, laid.inodes_most);
+  replaced = small m.replaced h.inodes range.replaced (omega (arith, laid.inodes_most));
+  parent = omega (arith, range.from, laid.inodes_most);
+  text = small m.text h.texts range.text (omega (arith, laid.texts_most));
   time = time;
 }
 
 -- ---- the record set
 
-module _ (h : Shape) (x : List ℕ) (kind : ℕ) (m : Move) (range : InRange (journalFor kind m))
-    (set : recordOf h x journalKey ≡ journalBytes (journalFor kind m)) where
-  journal-is : journalAt h x ≡ journalBytes (journalFor kind m)
-  journal-is = sym (record_is h x journalKey (record { in_image = lit< tt; in-section = lit< tt })) ∙ set
+module _ (h : Shape) (x : List ℕ) (kind : ℕ) (m : Move) (range : InRange (journal_for kind m))
+    (set : record_of h x journal_key ≡ journal_bytes (journal_for kind m)) where
+  journal_is : journal_at h x ≡ journal_bytes (journal_for kind m)
+  journal_is = sym (record_is h x journal_key (record { in_image = lit< tt; in_section = lit< tt })) ∙ set
 
-  not-clear : journalClear h x ≡ false
-  unfolding journalClear zeros journalBytes journalHead
-  not-clear = rw journal-is (all-not _ 32 0 (omega arith) refl)
+  not_clear : journal_clear h x ≡ false
+  unfolding journal_clear zeros journal_bytes journal_head
+  not_clear = rw journal_is (all_not _ 32 0 (omega arith) refl)
 
-  read-journal : journalOf (journalAt h x) ≡ journalFor kind m
-  read-journal = ap journalOf journal-is ∙ journal-of-bytes (journalFor kind m) range
+  read_journal : journal_of (journal_at h x) ≡ journal_for kind m
+  read_journal = ap journal_of journal_is ∙ journal_of_bytes (journal_for kind m) range
 
-  drafted : draft h x ≡ kindDraft h x kind (journalFor kind m)
+  drafted : draft h x ≡ kind_draft h x kind (journal_for kind m)
   unfolding draft
   drafted =
-      let formed : journalFormed (journalAt h x) ≡ true = ap journalFormed journal-is ∙ journal-formed (journalFor kind m) in
-      rw formed (ap (λ (j : Journal). kindDraft h x j.kind j) read-journal)
+      let formed : journal_formed (journal_at h x) ≡ true = ap journal_formed journal_is ∙ journal_formed_lem (journal_for kind m) in
+      rw formed (ap (λ (j : Journal). kind_draft h x j.kind j) read_journal)
 
   -- recovery does what the record says
-  pub by-record : recover h x ≡ ifConsistent h x (kindDraft h x kind (journalFor kind m))
-  unfolding recover pendingRows
-  by-record = rw not-clear (ap (ifConsistent h x) drafted)
+  pub by_record : recover h x ≡ if_consistent h x (kind_draft h x kind (journal_for kind m))
+  unfolding recover pending_rows
+  by_record = rw not_clear (ap (if_consistent h x) drafted)
 
 -- ---- what is answered
 
 -- rows whose outcome is consistent
-pub answered : (h : Shape) (x : List ℕ) (ws : List Write) {y : List ℕ} → storeAll h x ws ≡ y → consistent y ≡ true → ifConsistent h x (some ws) ≡ some ws
+pub answered : (h : Shape) (x : List ℕ) (ws : List Write) {y : List ℕ} → store_all h x ws ≡ y → consistent y ≡ true → if_consistent h x (some ws) ≡ some ws
 answered h x ws e good =
-    let k : consistent (storeAll h x ws) ≡ true = ap consistent e ∙ good in
+    let k : consistent (store_all h x ws) ≡ true = ap consistent e ∙ good in
     rw k
 
 -- nothing to do
-pub nothing-pending : (h : Shape) (x : List ℕ) → journalClear h x ≡ true → consistent x ≡ true → recover h x ≡ some []
+pub nothing_pending : (h : Shape) (x : List ℕ) → journal_clear h x ≡ true → consistent x ≡ true → recover h x ≡ some []
 unfolding recover
-nothing-pending h x clear good = rw (clear, good)
+nothing_pending h x clear good = rw (clear, good)

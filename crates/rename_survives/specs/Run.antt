@@ -13,16 +13,16 @@ use Rattle.recover.specs.Job.{recovered}
 use Rattle.image_store.specs.ImageLaws.{images}
 use Rattle.image_store.specs.JobLaws.{jobs}
 use Rattle.image_store.specs.Recovery.{RecoveryJob}
-use Rattle.image_store.specs.Operation.{plannedChange, stateAfter}
-use Rattle.outcome.specs.RenamePlan.{renamePlan}
+use Rattle.image_store.specs.Operation.{planned_change, state_after}
+use Rattle.outcome.specs.RenamePlan.{rename_plan}
 
 -- a rename as the crash theorem sees it
-abbrev pub renameChange : (h : Shape) (s : List ℕ) → Move → List ℕ → Change (images h s)
-renameChange h s m called = change (images h s) (renamePlan h s m called) (recover h)
+abbrev pub rename_change : (h : Shape) (s : List ℕ) → Move → List ℕ → Change (images h s)
+rename_change h s m called = change (images h s) (rename_plan h s m called) (recover h)
 
 -- the job that recovers, as a crash calls it
-abbrev pub recoveryJob : RecoveryJob
-recoveryJob = record { number = λ b x. (recovered b.plan b.scratch x).number; plan = λ b x. (recovered b.plan b.scratch x).plan }
+abbrev pub recovery_job : RecoveryJob
+recovery_job = record { number = λ b x. (recovered b.plan b.scratch x).number; plan = λ b x. (recovered b.plan b.scratch x).plan }
 
 -- What no crash takes away: the moved inode has a name, and where an inode is replaced its slot keeps parent and name, and targets it or the moved one.
 pub record NamesKept (h : Shape) (s x : List ℕ) (m : Move) : Type 0 where
@@ -33,8 +33,8 @@ pub record NamesKept (h : Shape) (s x : List ℕ) (m : Move) : Type 0 where
 
 -- a rename whose plan fills `buffer`, and where it stands after events
 module _ (h : Shape) (s : List ℕ) (m : Move) (called buffer : List ℕ) where
-  abbrev pub renameJobs : Change (jobs h s)
-  renameJobs = plannedChange h s (renamePlan h s m called) buffer recoveryJob
+  abbrev pub rename_jobs : Change (jobs h s)
+  rename_jobs = planned_change h s (rename_plan h s m called) buffer recovery_job
 
-  abbrev pub renameState : List (EventOf (jobs h s)) → State (List ℕ) Job
-  renameState es = stateAfter h s (renamePlan h s m called) buffer recoveryJob es
+  abbrev pub rename_state : List (EventOf (jobs h s)) → State (List ℕ) Job
+  rename_state es = state_after h s (rename_plan h s m called) buffer recovery_job es

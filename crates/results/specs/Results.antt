@@ -3,14 +3,14 @@
 use Rattle.std.specs.Prelude.{Bool, true, false, not, cond, List, [], ◌∷◌, ◌++◌, ℕ, eqb, replicate}
 use Rattle.layout.specs.declared.Shape.{Shape}
 use Rattle.layout.specs.Limits.{absent}
-use Rattle.layout.specs.Place.{Key, recordBytes}
-use Rattle.layout.specs.Fields.{inodeKind}
-use Rattle.layout.specs.View.{view_of, inodeAt}
-use Rattle.encode.specs.Inode.{withLinks, withField, withModified, withChanged}
-use Rattle.plan.specs.Form.{resultGroup, clearGroup}
-use Rattle.plan.specs.Write.{Write, inodeKey, entryKey, textKey, journalKey}
+use Rattle.layout.specs.Place.{Key, record_bytes}
+use Rattle.layout.specs.Fields.{inode_kind}
+use Rattle.layout.specs.View.{view_of, inode_at}
+use Rattle.encode.specs.Inode.{with_links, with_field, with_modified, with_changed}
+use Rattle.plan.specs.Form.{result_group, clear_group}
+use Rattle.plan.specs.Write.{Write, inode_key, entry_key, text_key, journal_key}
 use Rattle.recounts.specs.declared.Move.{Move}
-use Rattle.recounts.specs.Recount.{entriesAfter, linksAfter}
+use Rattle.recounts.specs.Recount.{entries_after, links_after}
 
 -- form H: the number names a replaced inode, or a text
 abbrev pub present : ℕ → Bool
@@ -19,29 +19,29 @@ present n = not (eqb n absent)
 -- ---- the records, made from their bytes as they stand
 
 -- a record of zeros in section k
-abbrev pub freeRecord : Shape → ℕ → List ℕ
-freeRecord h k = replicate (recordBytes h k) 0
+abbrev pub free_record : Shape → ℕ → List ℕ
+free_record h k = replicate (record_bytes h k) 0
 
 -- rule 89: the moved inode gets its time of change, and a directory its new parent
 abbrev pub reparented : Bool → ℕ → List ℕ → List ℕ
-reparented true into r = withField into r
+reparented true into r = with_field into r
 reparented false into r = r
 
-unfoldable pub movedBytes : ℕ → ℕ → List ℕ → List ℕ
-movedBytes into time r = reparented (eqb (inodeKind r) 2) into (withChanged time r)
+unfoldable pub moved_bytes : ℕ → ℕ → List ℕ → List ℕ
+moved_bytes into time r = reparented (eqb (inode_kind r) 2) into (with_changed time r)
 
 -- rule 90: the old and the new parent get their link count and both times
-unfoldable pub holderBytes : ℕ → ℕ → List ℕ → List ℕ
-holderBytes links time r = withChanged time (withModified time (withLinks links r))
+unfoldable pub holder_bytes : ℕ → ℕ → List ℕ → List ℕ
+holder_bytes links time r = with_changed time (with_modified time (with_links links r))
 
 -- rule 91: the replaced inode gets its link count and its time of change; with no entry left it is free
-unfoldable pub replacedBytes : Shape → ℕ → ℕ → ℕ → List ℕ → List ℕ
-replacedBytes h left links time r = cond (eqb left 0) (freeRecord h 0) (withChanged time (withLinks links r))
+unfoldable pub replaced_bytes : Shape → ℕ → ℕ → ℕ → List ℕ → List ℕ
+replaced_bytes h left links time r = cond (eqb left 0) (free_record h 0) (with_changed time (with_links links r))
 
 -- ---- the rows
 
 abbrev pub result_row : Key → List ℕ → Write
-result_row key body = record { group = resultGroup; key = key; body = body }
+result_row key body = record { group = result_group; key = key; body = body }
 
 -- a row where it is asked for
 abbrev pub when : Bool → Write → List Write
@@ -50,50 +50,50 @@ when false w = []
 
 module _ (h : Shape) (s : List ℕ) (m : Move) where
   -- the new bytes of the inodes
-  abbrev pub movedAfter : List ℕ
-  movedAfter = movedBytes m.into m.now (inodeAt h s m.moved)
+  abbrev pub moved_after : List ℕ
+  moved_after = moved_bytes m.into m.now (inode_at h s m.moved)
 
-  abbrev pub holderAfter : ℕ → List ℕ
-  holderAfter i = holderBytes (linksAfter (view_of h s) m i) m.now (inodeAt h s i)
+  abbrev pub holder_after : ℕ → List ℕ
+  holder_after i = holder_bytes (links_after (view_of h s) m i) m.now (inode_at h s i)
 
-  abbrev pub replacedAfter : List ℕ
-  replacedAfter =
-      replacedBytes h (entriesAfter (view_of h s) m m.replaced) (linksAfter (view_of h s) m m.replaced) m.now (inodeAt h s m.replaced)
+  abbrev pub replaced_after : List ℕ
+  replaced_after =
+      replaced_bytes h (entries_after (view_of h s) m m.replaced) (links_after (view_of h s) m m.replaced) m.now (inode_at h s m.replaced)
 
   -- a row for each record
-  abbrev pub oldRow : Write
-  oldRow = result_row (entryKey m.old) (freeRecord h 1)
+  abbrev pub old_row : Write
+  old_row = result_row (entry_key m.old) (free_record h 1)
 
   abbrev pub moved_row : Write
-  moved_row = result_row (inodeKey m.moved) movedAfter
+  moved_row = result_row (inode_key m.moved) moved_after
 
-  abbrev pub holderRow : ℕ → Write
-  holderRow i = result_row (inodeKey i) (holderAfter i)
+  abbrev pub holder_row : ℕ → Write
+  holder_row i = result_row (inode_key i) (holder_after i)
 
-  abbrev pub replacedRow : Write
-  replacedRow = result_row (inodeKey m.replaced) replacedAfter
+  abbrev pub replaced_row : Write
+  replaced_row = result_row (inode_key m.replaced) replaced_after
 
-  abbrev pub textRow : Write
-  textRow = result_row (textKey m.text) (freeRecord h 2)
+  abbrev pub text_row : Write
+  text_row = result_row (text_key m.text) (free_record h 2)
 
   -- rule 85: always the old entry cleared, the moved inode and the old parent
-  abbrev pub alwaysRows : List Write
-  alwaysRows = oldRow ∷ moved_row ∷ holderRow m.from ∷ []
+  abbrev pub always_rows : List Write
+  always_rows = old_row ∷ moved_row ∷ holder_row m.from ∷ []
 
   -- rule 85: the new parent if it is another directory, the replaced inode if there is one, the text if one is freed
-  abbrev pub intoRows : List Write
-  intoRows = when (not (eqb m.into m.from)) (holderRow m.into)
+  abbrev pub into_rows : List Write
+  into_rows = when (not (eqb m.into m.from)) (holder_row m.into)
 
-  abbrev pub replacedRows : List Write
-  replacedRows = when (present m.replaced) replacedRow
+  abbrev pub replaced_rows : List Write
+  replaced_rows = when (present m.replaced) replaced_row
 
-  abbrev pub textRows : List Write
-  textRows = when (present m.text) textRow
+  abbrev pub text_rows : List Write
+  text_rows = when (present m.text) text_row
 
   -- rule 85: the rows in the order of the plan
   unfoldable pub results : List Write
-  results = alwaysRows ++ intoRows ++ replacedRows ++ textRows
+  results = always_rows ++ into_rows ++ replaced_rows ++ text_rows
 
 -- rule 85: the last row clears the journal record
-abbrev pub clearRow : Shape → Write
-clearRow h = record { group = clearGroup; key = journalKey; body = freeRecord h 4 }
+abbrev pub clear_row : Shape → Write
+clear_row h = record { group = clear_group; key = journal_key; body = free_record h 4 }

@@ -1,14 +1,14 @@
 -- The journal record of a move, and the row that sets it, which is the first of a plan (rules 85 and 87). A reader has to believe this file. Assumes nothing.
 use Rattle.std.specs.Prelude.{ℕ}
 use Rattle.encode.specs.declared.journal.Journal.{Journal}
-use Rattle.encode.specs.Journal.{journalBytes}
-use Rattle.plan.specs.Form.{journalGroup}
-use Rattle.plan.specs.Write.{Write, journalKey}
+use Rattle.encode.specs.Journal.{journal_bytes}
+use Rattle.plan.specs.Form.{journal_group}
+use Rattle.plan.specs.Write.{Write, journal_key}
 use Rattle.recounts.specs.declared.Move.{Move}
 
 -- form H and rule 87: the record, by the kind of the operation
-abbrev pub journalFor : ℕ → Move → Journal
-journalFor kind m = record {
+abbrev pub journal_for : ℕ → Move → Journal
+journal_for kind m = record {
   kind = kind;
   old = m.old;
   new = m.new;
@@ -20,5 +20,5 @@ journalFor kind m = record {
 }
 
 -- rule 85: the first row
-abbrev pub startRow : ℕ → Move → Write
-startRow kind m = record { group = journalGroup; key = journalKey; body = journalBytes (journalFor kind m) }
+abbrev pub start_row : ℕ → Move → Write
+start_row kind m = record { group = journal_group; key = journal_key; body = journal_bytes (journal_for kind m) }

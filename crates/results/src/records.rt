@@ -1,9 +1,9 @@
 // What a rename leaves in the records that it touches, made from their bytes as they stand.
 ghost use Rattle.std.specs.Prelude.{◌≡◌, ◌<◌, length};
 ghost use Rattle.layout.specs.Facts.{Laid};
-ghost use Rattle.layout.specs.View.{inodeAt, entry_at};
+ghost use Rattle.layout.specs.View.{inode_at, entry_at};
 ghost use Rattle.encode.specs.Entry.{retargeted};
-ghost use Rattle.results.specs.Results.{holderBytes, movedAfter, holderAfter, replacedAfter};
+ghost use Rattle.results.specs.Results.{holder_bytes, moved_after, holder_after, replaced_after};
 
 use layout::Shape;
 use recounts::Move;
@@ -11,7 +11,7 @@ use recounts::Move;
 // Inode i as it stands, copied.
 fn inode(image: &[u8], h: Shape, i: usize) -> [u8; 32]
     requires { Laid h image.now × (i < h.inodes) }
-    ensures { result ≡ inodeAt h image.now i }
+    ensures { result ≡ inode_at h image.now i }
 {
     let mut r = [0u8; 32];
     layout::bytes::copy(&mut r, 0, layout::records::inode(image, h, i));
@@ -21,7 +21,7 @@ fn inode(image: &[u8], h: Shape, i: usize) -> [u8; 32]
 // The moved inode.
 pub fn moved(image: &[u8], h: Shape, m: Move) -> [u8; 32]
     requires { Laid h image.now × (m.moved < h.inodes) }
-    ensures { result ≡ movedAfter h image.now m }
+    ensures { result ≡ moved_after h image.now m }
 {
     let mut r = inode(image, h, m.moved);
     let kind = r[0];
@@ -36,7 +36,7 @@ pub fn moved(image: &[u8], h: Shape, m: Move) -> [u8; 32]
 // A parent, inode i, with its link count and both times.
 pub fn counted(image: &[u8], h: Shape, i: usize, links: usize, time: u64) -> [u8; 32]
     requires { Laid h image.now × (i < h.inodes) }
-    ensures { result ≡ holderBytes links time (inodeAt h image.now i) }
+    ensures { result ≡ holder_bytes links time (inode_at h image.now i) }
 {
     let mut r = inode(image, h, i);
     encode::inode::set_links(&mut r, links);
@@ -48,7 +48,7 @@ pub fn counted(image: &[u8], h: Shape, i: usize, links: usize, time: u64) -> [u8
 // The old or the new parent, inode i.
 pub fn holder(image: &[u8], h: Shape, m: Move, i: usize) -> [u8; 32]
     requires { Laid h image.now × (i < h.inodes) }
-    ensures { result ≡ holderAfter h image.now m i }
+    ensures { result ≡ holder_after h image.now m i }
 {
     let links = recounts::links_after(image, h, m, i);
     counted(image, h, i, links, m.now)
@@ -57,7 +57,7 @@ pub fn holder(image: &[u8], h: Shape, m: Move, i: usize) -> [u8; 32]
 // The replaced inode.
 pub fn replaced(image: &[u8], h: Shape, m: Move) -> [u8; 32]
     requires { Laid h image.now × (m.replaced < h.inodes) }
-    ensures { result ≡ replacedAfter h image.now m }
+    ensures { result ≡ replaced_after h image.now m }
 {
     let i = m.replaced;
     if recounts::entries_after(image, h, m, i) == 0 {

@@ -1,13 +1,13 @@
 // The rows of a rename that another operation or a recovery shares, put into a plan: all but the new entry.
 ghost use Rattle.std.specs.Prelude.{◌≡◌, ◌+◌, ◌<◌, ◌≤◌, length};
 ghost use Rattle.layout.specs.Facts.{Laid};
-ghost use Rattle.encode.specs.Journal.{journalBytes};
-ghost use Rattle.plan.specs.Form.{planRows, planBytes, rowPut};
-ghost use Rattle.plan.specs.Write.{rowFrom};
+ghost use Rattle.encode.specs.Journal.{journal_bytes};
+ghost use Rattle.plan.specs.Form.{plan_rows, plan_bytes, row_stored};
+ghost use Rattle.plan.specs.Write.{row_from};
 ghost use Rattle.plan.specs.Filled.{Filled};
-ghost use Rattle.results.specs.Results.{moved_row, holderRow, alwaysRows, intoRows, replacedRows, results, clearRow};
+ghost use Rattle.results.specs.Results.{moved_row, holder_row, always_rows, into_rows, replaced_rows, results, clear_row};
 ghost use Rattle.results.specs.InImage.{InImage};
-ghost use Rattle.results.specs.Start.{journalFor, startRow};
+ghost use Rattle.results.specs.Start.{journal_for, start_row};
 
 use encode::journal::Journal;
 use layout::limits::TEXT_BYTES;
@@ -17,7 +17,7 @@ use recounts::Move;
 
 // The journal record of the move, of an operation of this kind.
 fn journal(kind: u8, m: Move) -> [u8; 32]
-    ensures { result ≡ journalBytes (journalFor kind m) }
+    ensures { result ≡ journal_bytes (journal_for kind m) }
 {
     let j = Journal {
         kind,
@@ -36,8 +36,8 @@ fn journal(kind: u8, m: Move) -> [u8; 32]
 
 // The row that sets it, in the first place.
 pub fn put_start(plan: &mut [u8], kind: u8, image: &[u8], h: Shape, m: Move)
-    requires { (planBytes ≤ length plan.old) × Laid h image.now }
-    ensures { plan.new ≡ rowPut plan.old 0 (rowFrom h (startRow kind m)) }
+    requires { (plan_bytes ≤ length plan.old) × Laid h image.now }
+    ensures { plan.new ≡ row_stored plan.old 0 (row_from h (start_row kind m)) }
 {
     let r = journal(kind, m);
     plan::put_row(plan, 0, plan::JOURNAL_GROUP, place::journal(h), &r);
@@ -45,8 +45,8 @@ pub fn put_start(plan: &mut [u8], kind: u8, image: &[u8], h: Shape, m: Move)
 
 // The moved inode.
 pub fn put_moved(plan: &mut [u8], at: usize, image: &[u8], h: Shape, m: Move)
-    requires { (planBytes ≤ length plan.old) × (at < planRows) × Laid h image.now × (m.moved < h.inodes) }
-    ensures { plan.new ≡ rowPut plan.old at (rowFrom h (moved_row h image.now m)) }
+    requires { (plan_bytes ≤ length plan.old) × (at < plan_rows) × Laid h image.now × (m.moved < h.inodes) }
+    ensures { plan.new ≡ row_stored plan.old at (row_from h (moved_row h image.now m)) }
 {
     let r = crate::records::moved(image, h, m);
     plan::put_row(plan, at, RESULT_GROUP, place::inode(h, m.moved), &r);
@@ -54,8 +54,8 @@ pub fn put_moved(plan: &mut [u8], at: usize, image: &[u8], h: Shape, m: Move)
 
 // The old or the new parent, inode i.
 fn put_holder(plan: &mut [u8], at: usize, image: &[u8], h: Shape, m: Move, i: usize)
-    requires { (planBytes ≤ length plan.old) × (at < planRows) × Laid h image.now × (i < h.inodes) }
-    ensures { plan.new ≡ rowPut plan.old at (rowFrom h (holderRow h image.now m i)) }
+    requires { (plan_bytes ≤ length plan.old) × (at < plan_rows) × Laid h image.now × (i < h.inodes) }
+    ensures { plan.new ≡ row_stored plan.old at (row_from h (holder_row h image.now m i)) }
 {
     let r = crate::records::holder(image, h, m, i);
     plan::put_row(plan, at, RESULT_GROUP, place::inode(h, i), &r);
@@ -63,8 +63,8 @@ fn put_holder(plan: &mut [u8], at: usize, image: &[u8], h: Shape, m: Move, i: us
 
 // The old entry cleared, the moved inode and the old parent. Answers the next place, as the functions below do.
 fn put_always(plan: &mut [u8], at: usize, image: &[u8], h: Shape, m: Move) -> usize
-    requires { (planBytes ≤ length plan.old) × (at + 3 ≤ planRows) × Laid h image.now × InImage h m }
-    ensures { Filled h plan.old at (alwaysRows h image.now m) plan.new result }
+    requires { (plan_bytes ≤ length plan.old) × (at + 3 ≤ plan_rows) × Laid h image.now × InImage h m }
+    ensures { Filled h plan.old at (always_rows h image.now m) plan.new result }
 {
     plan::put_clearing(plan, at, RESULT_GROUP, place::entry(h, m.old), h.width);
     put_moved(plan, at + 1, image, h, m);
@@ -74,8 +74,8 @@ fn put_always(plan: &mut [u8], at: usize, image: &[u8], h: Shape, m: Move) -> us
 
 // The new parent, where it is another directory than the old one.
 fn put_into(plan: &mut [u8], at: usize, image: &[u8], h: Shape, m: Move) -> usize
-    requires { (planBytes ≤ length plan.old) × (at < planRows) × Laid h image.now × InImage h m }
-    ensures { Filled h plan.old at (intoRows h image.now m) plan.new result }
+    requires { (plan_bytes ≤ length plan.old) × (at < plan_rows) × Laid h image.now × InImage h m }
+    ensures { Filled h plan.old at (into_rows h image.now m) plan.new result }
 {
     if m.into == m.from {
         return at;
@@ -86,8 +86,8 @@ fn put_into(plan: &mut [u8], at: usize, image: &[u8], h: Shape, m: Move) -> usiz
 
 // The replaced inode, where there is one.
 fn put_replaced(plan: &mut [u8], at: usize, image: &[u8], h: Shape, m: Move) -> usize
-    requires { (planBytes ≤ length plan.old) × (at < planRows) × Laid h image.now × InImage h m }
-    ensures { Filled h plan.old at (replacedRows h image.now m) plan.new result }
+    requires { (plan_bytes ≤ length plan.old) × (at < plan_rows) × Laid h image.now × InImage h m }
+    ensures { Filled h plan.old at (replaced_rows h image.now m) plan.new result }
 {
     if m.replaced == limits::ABSENT {
         return at;
@@ -99,7 +99,7 @@ fn put_replaced(plan: &mut [u8], at: usize, image: &[u8], h: Shape, m: Move) -> 
 
 // Puts the results of the move into the plan from place first on, and answers the place behind them.
 pub fn put(plan: &mut [u8], first: usize, image: &[u8], h: Shape, m: Move) -> usize
-    requires { (planBytes ≤ length plan.old) × (first + 6 ≤ planRows) × Laid h image.now × InImage h m }
+    requires { (plan_bytes ≤ length plan.old) × (first + 6 ≤ plan_rows) × Laid h image.now × InImage h m }
     ensures { Filled h plan.old first (results h image.now m) plan.new result }
 {
     let a = put_always(plan, first, image, h, m);
@@ -114,8 +114,8 @@ pub fn put(plan: &mut [u8], first: usize, image: &[u8], h: Shape, m: Move) -> us
 
 // The row that clears the journal record, in the place behind all others.
 pub fn put_clear(plan: &mut [u8], at: usize, image: &[u8], h: Shape)
-    requires { (planBytes ≤ length plan.old) × (at < planRows) × Laid h image.now }
-    ensures { plan.new ≡ rowPut plan.old at (rowFrom h (clearRow h)) }
+    requires { (plan_bytes ≤ length plan.old) × (at < plan_rows) × Laid h image.now }
+    ensures { plan.new ≡ row_stored plan.old at (row_from h (clear_row h)) }
 {
     let r = [0u8; limits::JOURNAL_BYTES];
     plan::put_row(plan, at, plan::CLEAR_GROUP, place::journal(h), &r);

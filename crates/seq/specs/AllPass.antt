@@ -1,6 +1,6 @@
 -- Laws of a list of tests that all pass: from each to the whole, and back. Assumes nothing.
 use Rattle.std.specs.Prelude.{◌≡◌, refl, Bool, true, List, [], ◌∷◌, ℕ, zero, suc, get_or}
-use Rattle.seq.specs.Search.{allPass}
+use Rattle.seq.specs.Search.{all_pass}
 use Rattle.seq.specs.Truth.{and_left, and_right, and_both}
 
 -- each of them passes
@@ -9,12 +9,12 @@ pub data Every : List Bool → Type 0 where
   no_more : Every []
   ◌&◌ : {b : Bool} {bs : List Bool} → b ≡ true → Every bs → Every (b ∷ bs)
 
-pub is-every : {bs : List Bool} → Every bs → allPass bs ≡ true
-is-every no_more = refl
-is-every (◌&◌ {b} {bs} e t) = and_both b (allPass bs) e (is-every t)
+pub is_every : {bs : List Bool} → Every bs → all_pass bs ≡ true
+is_every no_more = refl
+is_every (◌&◌ {b} {bs} e t) = and_both b (all_pass bs) e (is_every t)
 
 -- the one at a place
-pub every-at : (bs : List Bool) → allPass bs ≡ true → (k : ℕ) → get_or bs k true ≡ true
-every-at [] e k = refl
-every-at (b ∷ bs) e zero = and_left b (allPass bs) e
-every-at (b ∷ bs) e (suc k) = every-at bs (and_right b (allPass bs) e) k
+pub every_at : (bs : List Bool) → all_pass bs ≡ true → (k : ℕ) → get_or bs k true ≡ true
+every_at [] e k = refl
+every_at (b ∷ bs) e zero = and_left b (all_pass bs) e
+every_at (b ∷ bs) e (suc k) = every_at bs (and_right b (all_pass bs) e) k

@@ -9,11 +9,11 @@ use Prim.Native.Nat.{ℕ, zero, suc, ◌+◌, ◌<◌, ◌≤◌}
 use Rattle.std.proofs.Math.Nat.{le_refl}
 use native.Mathlib.Omega.{arith}
 use Rattle.seq.specs.Search.{all, any, count, first}
-use Rattle.seq.specs.Truth.{and_left, and_right, and_both, not-both, fails, holds}
+use Rattle.seq.specs.Truth.{and_left, and_right, and_both, not_both, fails, holds}
 
 -- a number below suc n is n, or below n
-last-or-below : {A : Type 0} (n k : ℕ) → k < suc n → (k ≡ n → A) → (k < n → A) → A
-last-or-below n k below f g = ⊎_elim f g (eq-or-lt_of_le (le_of_suc-le-suc below))
+last_or_below : {A : Type 0} (n k : ℕ) → k < suc n → (k ≡ n → A) → (k < n → A) → A
+last_or_below n k below f g = ⊎_elim f g (eq-or-lt_of_le (le_of_suc-le-suc below))
 
 module _ (p : ℕ → Bool) where
   pub any_none : any p 0 ≡ false
@@ -21,20 +21,20 @@ module _ (p : ℕ → Bool) where
   any_none = refl
 
   -- a turn that did not find
-  pub any-miss : (n : ℕ) → any p n ≡ false → p n ≡ false → any p (n + 1) ≡ false
+  pub any_miss : (n : ℕ) → any p n ≡ false → p n ≡ false → any p (n + 1) ≡ false
   unfolding any
-  any-miss n before here = rw (add-one, before, here)
+  any_miss n before here = rw (add-one, before, here)
 
   -- a turn that found
-  pub any-hit : (n k : ℕ) → k < n → p k ≡ true → any p n ≡ true
+  pub any_hit : (n k : ℕ) → k < n → p k ≡ true → any p n ≡ true
   unfolding any
-  any-hit zero k below here = absurd (not-suc-le-zero below)
-  any-hit (suc n) k below here =
-      last-or-below n k below (λ e. rw (← e, here, or-true)) (λ l. rw (any-hit n k l here))
+  any_hit zero k below here = absurd (not-suc-le-zero below)
+  any_hit (suc n) k below here =
+      last_or_below n k below (λ e. rw (← e, here, or-true)) (λ l. rw (any_hit n k l here))
 
-  any-front : (n : ℕ) → any p (suc n) ≡ false → any p n ≡ false
+  any_front : (n : ℕ) → any p (suc n) ≡ false → any p n ≡ false
   unfolding any
-  any-front n h = go (any p n) (p n) h
+  any_front n h = go (any p n) (p n) h
     where
       go : (a b : Bool) → (a || b) ≡ false → a ≡ false
       go true b e = e
@@ -49,10 +49,10 @@ module _ (p : ℕ → Bool) where
       go false b e = e
 
   -- none passes, read at one number
-  pub any-not : (n : ℕ) → any p n ≡ false → (k : ℕ) → k < n → p k ≡ false
-  any-not zero none k below = absurd (not-suc-le-zero below)
-  any-not (suc n) none k below =
-      last-or-below n k below (λ e. rw e (any_last n none)) (λ l. any-not n (any-front n none) k l)
+  pub any_not : (n : ℕ) → any p n ≡ false → (k : ℕ) → k < n → p k ≡ false
+  any_not zero none k below = absurd (not-suc-le-zero below)
+  any_not (suc n) none k below =
+      last_or_below n k below (λ e. rw e (any_last n none)) (λ l. any_not n (any_front n none) k l)
 
   pub any_false : (n : ℕ) → ((k : ℕ) → k < n → p k ≡ false) → any p n ≡ false
   unfolding any
@@ -79,18 +79,18 @@ module _ (p : ℕ → Bool) where
   unfolding all
   all_more n before here = rw (add-one, before, here)
 
-  pub all-not : (n k : ℕ) → k < n → p k ≡ false → all p n ≡ false
+  pub all_not : (n k : ℕ) → k < n → p k ≡ false → all p n ≡ false
   unfolding all
-  all-not zero k below here = absurd (not-suc-le-zero below)
-  all-not (suc n) k below here =
-      last-or-below n k below (λ e. rw (← e, here, and-false)) (λ l. rw (all-not n k l here))
+  all_not zero k below here = absurd (not-suc-le-zero below)
+  all_not (suc n) k below here =
+      last_or_below n k below (λ e. rw (← e, here, and-false)) (λ l. rw (all_not n k l here))
 
   -- every number passes, read at one number and made from all
-  pub all-at : (n : ℕ) → all p n ≡ true → (k : ℕ) → k < n → p k ≡ true
+  pub all_at : (n : ℕ) → all p n ≡ true → (k : ℕ) → k < n → p k ≡ true
   unfolding all
-  all-at zero h k below = absurd (not-suc-le-zero below)
-  all-at (suc n) h k below =
-      last-or-below n k below (λ e. rw e (and_right (all p n) (p n) h)) (λ l. all-at n (and_left (all p n) (p n) h) k l)
+  all_at zero h k below = absurd (not-suc-le-zero below)
+  all_at (suc n) h k below =
+      last_or_below n k below (λ e. rw e (and_right (all p n) (p n) h)) (λ l. all_at n (and_left (all p n) (p n) h) k l)
 
   pub all_of : (n : ℕ) → ((k : ℕ) → k < n → p k ≡ true) → all p n ≡ true
   unfolding all
@@ -101,42 +101,42 @@ module _ (p : ℕ → Bool) where
   unfolding count
   count_none = refl
 
-  pub count-hit : (n : ℕ) → p n ≡ true → count p (n + 1) ≡ count p n + 1
+  pub count_hit : (n : ℕ) → p n ≡ true → count p (n + 1) ≡ count p n + 1
   unfolding count
-  count-hit n here = rw (add-one, here)
+  count_hit n here = rw (add-one, here)
 
-  pub count-miss : (n : ℕ) → p n ≡ false → count p (n + 1) ≡ count p n
+  pub count_miss : (n : ℕ) → p n ≡ false → count p (n + 1) ≡ count p n
   unfolding count
-  count-miss n here = rw (add-one, here)
+  count_miss n here = rw (add-one, here)
 
-  pub count-le : (n : ℕ) → count p n ≤ n
+  pub count_le : (n : ℕ) → count p n ≤ n
   unfolding count
-  count-le zero = omega arith
-  count-le (suc n) = go (p n) (count-le n)
+  count_le zero = omega arith
+  count_le (suc n) = go (p n) (count_le n)
     where
       go : (b : Bool) → count p n ≤ n → cond b (count p n + 1) (count p n) ≤ suc n
       go true h = omega arith
       go false h = omega arith
 
-  pub first-hit : (n k : ℕ) → k < n → any p k ≡ false → p k ≡ true → first p n ≡ k
+  pub first_hit : (n k : ℕ) → k < n → any p k ≡ false → p k ≡ true → first p n ≡ k
   unfolding first
-  first-hit zero k below none here = absurd (not-suc-le-zero below)
-  first-hit (suc n) k below none here =
-      last-or-below n k below (λ e. rw (← e, none, here)) (λ l. rw (any-hit n k l here) (first-hit n k l none here))
+  first_hit zero k below none here = absurd (not-suc-le-zero below)
+  first_hit (suc n) k below none here =
+      last_or_below n k below (λ e. rw (← e, none, here)) (λ l. rw (any_hit n k l here) (first_hit n k l none here))
 
-  pub first-none : (n : ℕ) → any p n ≡ false → first p n ≡ n
+  pub first_none : (n : ℕ) → any p n ≡ false → first p n ≡ n
   unfolding first
-  first-none zero none = refl
-  first-none (suc n) none = rw (any-front n none, any_last n none)
+  first_none zero none = refl
+  first_none (suc n) none = rw (any_front n none, any_last n none)
 
   -- of a search for the first: none passes, or it is one that passes and none below it does
   abbrev First : ℕ → Type 0
   First n = ((any p n ≡ false) × (first p n ≡ n)) ⊎ ((first p n < n) × (any p (first p n) ≡ false) × (p (first p n) ≡ true))
 
-  first-cases : (n : ℕ) → First n
+  first_cases : (n : ℕ) → First n
   unfolding any first
-  first-cases zero = inl (refl, refl)
-  first-cases (suc n) = ⊎_elim (λ none. here (p n) refl none.0) (λ hit. below hit.0 hit.1 hit.2) (first-cases n)
+  first_cases zero = inl (refl, refl)
+  first_cases (suc n) = ⊎_elim (λ none. here (p n) refl none.0) (λ hit. below hit.0 hit.1 hit.2) (first_cases n)
     where
       here : (b : Bool) → p n ≡ b → any p n ≡ false → First (suc n)
       here true e none = inr (rw (none, e) (le_refl (suc n)), rw (none, e) none, rw (none, e) e)
@@ -144,51 +144,51 @@ module _ (p : ℕ → Bool) where
 
       below : first p n < n → any p (first p n) ≡ false → p (first p n) ≡ true → First (suc n)
       below l none e =
-          let some : any p n ≡ true = any-hit n (first p n) l e in
+          let some : any p n ≡ true = any_hit n (first p n) l e in
           inr (rw some (omega arith), rw some none, rw some e)
 
-  pub first-le : (n : ℕ) → first p n ≤ n
-  first-le n = ⊎_elim (λ none. let e = none.1 in omega arith) (λ hit. let l = hit.0 in omega arith) (first-cases n)
+  pub first_le : (n : ℕ) → first p n ≤ n
+  first_le n = ⊎_elim (λ none. let e = none.1 in omega arith) (λ hit. let l = hit.0 in omega arith) (first_cases n)
 
   pub first_passes : (n : ℕ) → first p n < n → p (first p n) ≡ true
-  first_passes n l = ⊎_elim (λ none. let e = none.1 in absurd (omega arith)) (λ hit. hit.2) (first-cases n)
+  first_passes n l = ⊎_elim (λ none. let e = none.1 in absurd (omega arith)) (λ hit. hit.2) (first_cases n)
 
   -- it comes no later than any that passes
-  pub first-upto : (n k : ℕ) → k < n → p k ≡ true → first p n ≤ k
-  first-upto n k l here =
-      ⊎_elim (λ none. absurd (not-both (p k) here (any-not n none.0 k l)))
-      (λ hit. le_of_suc-le-suc (lt_of_not-le (λ low. not-both (p k) here (any-not (first p n) hit.1 k low))))
-      (first-cases n)
+  pub first_upto : (n k : ℕ) → k < n → p k ≡ true → first p n ≤ k
+  first_upto n k l here =
+      ⊎_elim (λ none. absurd (not_both (p k) here (any_not n none.0 k l)))
+      (λ hit. le_of_suc-le-suc (lt_of_not-le (λ low. not_both (p k) here (any_not (first p n) hit.1 k low))))
+      (first_cases n)
 
   -- and none before it passes
-  pub first-before : (n k : ℕ) → k < first p n → p k ≡ false
-  first-before n k l = go (p k) refl
+  pub first_before : (n k : ℕ) → k < first p n → p k ≡ false
+  first_before n k l = go (p k) refl
     where
       go : (b : Bool) → p k ≡ b → b ≡ false
-      go true e = let u = first-upto n k (omega (arith, first-le n)) e in absurd (omega arith)
+      go true e = let u = first_upto n k (omega (arith, first_le n)) e in absurd (omega arith)
       go false e = refl
 
 -- A loop over the numbers below n that stands at k, where a call answered b for the test of k: its turns, and its ways out.
 module _ (p : ℕ → Bool) (n k : ℕ) {b : Bool} where
-  pub any-turn : k < n → any p k ≡ false → b ≡ p k → b ≡ false → (k + 1 ≤ n) × (any p (k + 1) ≡ false)
-  any-turn below none says miss = (omega arith, any-miss p k none (sym says ∙ miss))
+  pub any_turn : k < n → any p k ≡ false → b ≡ p k → b ≡ false → (k + 1 ≤ n) × (any p (k + 1) ≡ false)
+  any_turn below none says miss = (omega arith, any_miss p k none (sym says ∙ miss))
 
   pub any_found : k < n → b ≡ p k → b ≡ true → true ≡ any p n
-  any_found below says hit = sym (any-hit p n k below (sym says ∙ hit))
+  any_found below says hit = sym (any_hit p n k below (sym says ∙ hit))
 
-  pub all-turn : k < n → all p k ≡ true → b ≡ p k → not b ≡ false → (k + 1 ≤ n) × (all p (k + 1) ≡ true)
-  all-turn below every says pass = (omega arith, all_more p k every (holds says pass))
+  pub all_turn : k < n → all p k ≡ true → b ≡ p k → not b ≡ false → (k + 1 ≤ n) × (all p (k + 1) ≡ true)
+  all_turn below every says pass = (omega arith, all_more p k every (holds says pass))
 
-  pub all-failed : k < n → b ≡ p k → not b ≡ true → false ≡ all p n
-  all-failed below says fail = sym (all-not p n k below (fails says fail))
+  pub all_failed : k < n → b ≡ p k → not b ≡ true → false ≡ all p n
+  all_failed below says fail = sym (all_not p n k below (fails says fail))
 
   -- found counts those before k, and next those before k + 1
   module _ (found next : ℕ) (below : k < n) (most : found ≤ k) (counted : found ≡ count p k) (says : b ≡ p k) where
     pub count_turn : b ≡ true → next ≡ found + 1 → (k + 1 ≤ n) × (next ≤ k + 1) × (next ≡ count p (k + 1))
-    count_turn hit e = (omega arith, omega arith, e ∙ ap (λ m. m + 1) counted ∙ sym (count-hit p k (sym says ∙ hit)))
+    count_turn hit e = (omega arith, omega arith, e ∙ ap (λ m. m + 1) counted ∙ sym (count_hit p k (sym says ∙ hit)))
 
-    pub count-pass : b ≡ false → next ≡ found → (k + 1 ≤ n) × (next ≤ k + 1) × (next ≡ count p (k + 1))
-    count-pass miss e = (omega arith, omega arith, e ∙ counted ∙ sym (count-miss p k (sym says ∙ miss)))
+    pub count_pass : b ≡ false → next ≡ found → (k + 1 ≤ n) × (next ≤ k + 1) × (next ≡ count p (k + 1))
+    count_pass miss e = (omega arith, omega arith, e ∙ counted ∙ sym (count_miss p k (sym says ∙ miss)))
 
 -- it has been through all of them
 module _ (p : ℕ → Bool) (n k : ℕ) (upto : k ≤ n) (done : n ≤ k) where
@@ -198,14 +198,14 @@ module _ (p : ℕ → Bool) (n k : ℕ) (upto : k ≤ n) (done : n ≤ k) where
   pub any_out : any p k ≡ false → false ≡ any p n
   any_out none = sym (rw ended at none)
 
-  pub all-out : all p k ≡ true → true ≡ all p n
-  all-out every = sym (rw ended at every)
+  pub all_out : all p k ≡ true → true ≡ all p n
+  all_out every = sym (rw ended at every)
 
   pub first_out : any p k ≡ false → k ≡ first p n
-  first_out none = ended ∙ sym (first-none p n (rw ended at none))
+  first_out none = ended ∙ sym (first_none p n (rw ended at none))
 
-  pub count-out : (found : ℕ) → found ≡ count p k → found ≡ count p n
-  count-out found counted = rw ended at counted
+  pub count_out : (found : ℕ) → found ≡ count p k → found ≡ count p n
+  count_out found counted = rw ended at counted
 
 -- tests that agree below n give the same search
 module _ (p q : ℕ → Bool) where

@@ -4,16 +4,16 @@ use Rattle.std.proofs.Common.{sym, subst, ◌∙◌, arith}
 use Rattle.seq.specs.SearchLaws.{count_same}
 use Rattle.layout.specs.declared.Shape.{Shape}
 use Rattle.layout.specs.Facts.{Laid}
-use Rattle.layout.specs.Limits.{inodeLimit, textLimit}
-use Rattle.layout.specs.View.{view_of, entryUsed, isDirectory, isSymlink}
+use Rattle.layout.specs.Limits.{inode_limit, text_limit}
+use Rattle.layout.specs.View.{view_of, entry_used, is_directory, is_symlink}
 use Rattle.tables.specs.Table.{Table, tally, Firsts}
-use Rattle.tables.specs.TableLaws.{table_same, tally-none, least_first, least-same, pick}
-use Rattle.tree.specs.Tree.{entriesOf, childDirectories}
-use Rattle.tallies.specs.Tallies.{targetSlot, holderSlot, textSlot, Blank, EntryCounts, ChildCounts, TextOwners}
+use Rattle.tables.specs.TableLaws.{table_same, tally_none, least_first, least_same, pick}
+use Rattle.tree.specs.Tree.{entries_of, child_directories}
+use Rattle.tallies.specs.Tallies.{target_slot, holder_slot, text_slot, Blank, EntryCounts, ChildCounts, TextOwners}
 
-pub tally-blank : (key : ℕ → ℕ) (m : ℕ) (xs : List ℕ) → Blank m xs → Table (tally key 0) m xs
+pub tally_blank : (key : ℕ → ℕ) (m : ℕ) (xs : List ℕ) → Blank m xs → Table (tally key 0) m xs
 unfolding Blank
-tally-blank key m xs e = subst (Table (tally key 0) m) (sym e) (tally-none key m)
+tally_blank key m xs e = subst (Table (tally key 0) m) (sym e) (tally_none key m)
 
 pub blank : (m : ℕ) → Blank m (replicate m 0)
 unfolding Blank
@@ -27,26 +27,26 @@ swap true false false = refl
 swap false b c = refl
 
 module _ (h : Shape) (s : List ℕ) (laid : Laid h s) where
-  pub entry-counts-are : (xs : List ℕ) → Table (tally (targetSlot (view_of h s)) h.entries) (inodeLimit + 1) xs → EntryCounts h s xs
-  unfolding view_of tally targetSlot entriesOf
-  entry-counts-are xs t =
-      table_same _ _ _ _ xs (omega (arith, laid.inodes-most)) (λ i l.
-      count_same _ _ h.entries (λ k b. pick (entryUsed (view_of h s) k) ((view_of h s).target k) h.inodes inodeLimit i l laid.inodes-most)) t
+  pub entry_counts_are : (xs : List ℕ) → Table (tally (target_slot (view_of h s)) h.entries) (inode_limit + 1) xs → EntryCounts h s xs
+  unfolding view_of tally target_slot entries_of
+  entry_counts_are xs t =
+      table_same _ _ _ _ xs (omega (arith, laid.inodes_most)) (λ i l.
+      count_same _ _ h.entries (λ k b. pick (entry_used (view_of h s) k) ((view_of h s).target k) h.inodes inode_limit i l laid.inodes_most)) t
 
-  pub child-counts-are : (xs : List ℕ) → Table (tally (holderSlot (view_of h s)) h.entries) (inodeLimit + 1) xs → ChildCounts h s xs
-  unfolding view_of tally holderSlot childDirectories
-  child-counts-are xs t =
-      table_same _ _ _ _ xs (omega (arith, laid.inodes-most)) (λ i l.
+  pub child_counts_are : (xs : List ℕ) → Table (tally (holder_slot (view_of h s)) h.entries) (inode_limit + 1) xs → ChildCounts h s xs
+  unfolding view_of tally holder_slot child_directories
+  child_counts_are xs t =
+      table_same _ _ _ _ xs (omega (arith, laid.inodes_most)) (λ i l.
       count_same _ _ h.entries (λ k b.
-      pick (entryUsed (view_of h s) k && isDirectory (view_of h s) ((view_of h s).target k)) ((view_of h s).parent k) h.inodes inodeLimit i l laid.inodes-most
-      ∙ swap (entryUsed (view_of h s) k) (isDirectory (view_of h s) ((view_of h s).target k)) (eqb ((view_of h s).parent k) i))) t
+      pick (entry_used (view_of h s) k && is_directory (view_of h s) ((view_of h s).target k)) ((view_of h s).parent k) h.inodes inode_limit i l laid.inodes_most
+      ∙ swap (entry_used (view_of h s) k) (is_directory (view_of h s) ((view_of h s).target k)) (eqb ((view_of h s).parent k) i))) t
 
-  pub text-owners-are : (xs : List ℕ) → Firsts (textSlot (view_of h s)) (textLimit + 1) 0 h.inodes xs → TextOwners h s xs
-  unfolding view_of textSlot
-  text-owners-are xs f = record {
-    long = omega (arith, f.long, laid.texts-most);
+  pub text_owners_are : (xs : List ℕ) → Firsts (text_slot (view_of h s)) (text_limit + 1) 0 h.inodes xs → TextOwners h s xs
+  unfolding view_of text_slot
+  text_owners_are xs f = record {
+    long = omega (arith, f.long, laid.texts_most);
     at = λ t l.
         least_first _ _ _
-        (least-same _ _ _ _ _ (λ i. pick (isSymlink (view_of h s) i) ((view_of h s).field i) h.texts textLimit t l laid.texts-most)
-        (f.at t (omega (arith, laid.texts-most))));
+        (least_same _ _ _ _ _ (λ i. pick (is_symlink (view_of h s) i) ((view_of h s).field i) h.texts text_limit t l laid.texts_most)
+        (f.at t (omega (arith, laid.texts_most))));
   }

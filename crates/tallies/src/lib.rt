@@ -2,9 +2,9 @@
 // leads.
 ghost use Rattle.std.specs.Prelude.{◌≡◌, ◌≤◌, ◌<◌};
 ghost use Rattle.layout.specs.Facts.{Laid};
-ghost use Rattle.layout.specs.Limits.{inodeLimit, textLimit};
+ghost use Rattle.layout.specs.Limits.{inode_limit, text_limit};
 ghost use Rattle.layout.specs.View.{view_of};
-ghost use Rattle.tallies.specs.Tallies.{targetSlot, holderSlot, textSlot, Blank, EntryCounts, ChildCounts, TextOwners};
+ghost use Rattle.tallies.specs.Tallies.{target_slot, holder_slot, text_slot, Blank, EntryCounts, ChildCounts, TextOwners};
 
 use layout::{Shape, limits};
 
@@ -13,7 +13,7 @@ pub mod tops;
 // The inode that the entry in slot j targets; one past the last where it is free or targets none.
 fn target_slot(image: &[u8], h: Shape, j: usize) -> usize
     requires { Laid h image.now × (j < h.entries) }
-    ensures { (result ≡ targetSlot (view_of h image.now) j) × (result ≤ inodeLimit) }
+    ensures { (result ≡ target_slot (view_of h image.now) j) × (result ≤ inode_limit) }
 {
     let e = layout::records::entry(image, h, j);
     if layout::entry::name_length(e) == 0 {
@@ -29,7 +29,7 @@ fn target_slot(image: &[u8], h: Shape, j: usize) -> usize
 // The inode that holds the entry in slot j, if that targets a directory; else one past the last.
 fn holder_slot(image: &[u8], h: Shape, j: usize) -> usize
     requires { Laid h image.now × (j < h.entries) }
-    ensures { (result ≡ holderSlot (view_of h image.now) j) × (result ≤ inodeLimit) }
+    ensures { (result ≡ holder_slot (view_of h image.now) j) × (result ≤ inode_limit) }
 {
     let e = layout::records::entry(image, h, j);
     if layout::entry::name_length(e) == 0 {
@@ -64,7 +64,7 @@ pub fn counts(image: &[u8], h: Shape, entries: &mut [u16; 513], children: &mut [
 // The text of inode i, if it is a symlink that has one; else one past the last.
 fn text_slot(image: &[u8], h: Shape, i: usize) -> usize
     requires { Laid h image.now × (i < h.inodes) }
-    ensures { (result ≡ textSlot (view_of h image.now) i) × (result ≤ textLimit) }
+    ensures { (result ≡ text_slot (view_of h image.now) i) × (result ≤ text_limit) }
 {
     if !layout::lookup::is_symlink(image, h, i) {
         return limits::TEXT_LIMIT;

@@ -1,9 +1,9 @@
 // The directory tree: the entries of a file, child directories, and the way up.
 ghost use Rattle.std.specs.Prelude.{◌≡◌, ◌≤◌, ◌<◌};
-ghost use Rattle.layout.specs.Limits.{entryLimit};
+ghost use Rattle.layout.specs.Limits.{entry_limit};
 ghost use Rattle.layout.specs.Facts.{Laid};
 ghost use Rattle.layout.specs.View.{view_of};
-ghost use Rattle.tree.specs.Tree.{targets, entriesOf, holdsDirectory, childDirectories, reaches};
+ghost use Rattle.tree.specs.Tree.{targets, entries_of, holds_directory, child_directories, reaches};
 
 use layout::Shape;
 
@@ -22,7 +22,7 @@ pub fn entry_targets(image: &[u8], h: Shape, i: usize, j: usize) -> bool
 // How many entries target inode i.
 pub fn entries_of(image: &[u8], h: Shape, i: usize) -> usize
     requires { Laid h image.now }
-    ensures { result ≡ entriesOf (view_of h image.now) i }
+    ensures { result ≡ entries_of (view_of h image.now) i }
 {
     let n = h.entries;
     let mut found: usize = 0;
@@ -39,7 +39,7 @@ pub fn entries_of(image: &[u8], h: Shape, i: usize) -> usize
 // Whether the entry in slot j is in use, lies in directory i and targets a directory. Few entries lie there, so that is asked first.
 pub fn entry_holds_directory(image: &[u8], h: Shape, i: usize, j: usize) -> bool
     requires { Laid h image.now × (j < h.entries) }
-    ensures { result ≡ holdsDirectory (view_of h image.now) i j }
+    ensures { result ≡ holds_directory (view_of h image.now) i j }
 {
     let e = layout::records::entry(image, h, j);
     if layout::entry::parent(e) != i {
@@ -54,7 +54,7 @@ pub fn entry_holds_directory(image: &[u8], h: Shape, i: usize, j: usize) -> bool
 // How many child directories directory i has.
 pub fn child_directories(image: &[u8], h: Shape, i: usize) -> usize
     requires { Laid h image.now }
-    ensures { (result ≡ childDirectories (view_of h image.now) i) × (result ≤ entryLimit) }
+    ensures { (result ≡ child_directories (view_of h image.now) i) × (result ≤ entry_limit) }
 {
     let n = h.entries;
     let mut found: usize = 0;

@@ -2,7 +2,7 @@
 ghost use Rattle.std.specs.Prelude.{◌≡◌, true};
 ghost use Rattle.layout.specs.View.{view_of};
 ghost use Rattle.layout.specs.Facts.{Readable};
-ghost use Rattle.paths.specs.Request.{requestGood};
+ghost use Rattle.paths.specs.Request.{request_good};
 ghost use Rattle.component.specs.State.{Ranged};
 
 use crate::request::Job;
@@ -80,7 +80,7 @@ fn print_found(r: Walked)
 
 // Both walks of a request that is good.
 fn resolve(image: &[u8], h: Shape, q: Request, old: &[u8], new: &[u8])
-    requires { Readable h image.now × (requestGood (view_of h image.now) q old.now new.now ≡ true) }
+    requires { Readable h image.now × (request_good (view_of h image.now) q old.now new.now ≡ true) }
 {
     let r = walk::both::both(image, h, q, old, new);
     let first = r.old;

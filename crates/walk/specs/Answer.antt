@@ -1,23 +1,23 @@
 -- The code's answer of a walk: the end that it stands for, and all that a caller may rely on. Assumes nothing.
 use Rattle.std.specs.Prelude.{◌≡◌, ℕ, ◌≤◌}
-use Rattle.layout.specs.Limits.{stepLimit}
+use Rattle.layout.specs.Limits.{step_limit}
 use Rattle.layout.specs.View.{View}
 use Rattle.component.specs.declared.state.Final.{Final}
 use Rattle.component.specs.declared.state.Found.{Found}
 use Rattle.component.specs.declared.state.Walk.{Walk}
 use Rattle.component.specs.Step.{End, Step, ends}
-use Rattle.component.specs.State.{findingOf, Ranged}
+use Rattle.component.specs.State.{finding_of, Ranged}
 use Rattle.walk.specs.declared.both.Walks.{Walks}
 use Rattle.walk.specs.declared.resolve.Walked.{Walked}
 use Rattle.walk.specs.Ends.{Facts}
-use Rattle.walk.specs.Both.{Ends, oldFinal, newFinal}
+use Rattle.walk.specs.Both.{Ends, old_final, new_final}
 
 -- a walk that ends in this state
 abbrev pub answer_of : Walk → ℕ → Found → Walked
 answer_of w number found = record { number = number; steps = w.steps; found = found; path = w.path }
 
 abbrev pub end_of : Walked → End
-end_of r = record { number = r.number; steps = r.steps; found = findingOf r.path r.found }
+end_of r = record { number = r.number; steps = r.steps; found = finding_of r.path r.found }
 
 -- An answer that stands for an end, with a missing name inside its path.
 pub record Ended (r : Walked) (e : End) : Type 0 where
@@ -33,10 +33,10 @@ pub record Closes (x : Step) (a : Walked) : Type 0 where
 pub record Answered (v : View) (last : Final) (r : Walked) (e : End) : Type 0 where
   pub is : end_of r ≡ e
   pub range : Ranged r.path r.found
-  pub bound : r.steps ≤ stepLimit
+  pub bound : r.steps ≤ step_limit
   pub facts : Facts v last (end_of r)
 
 -- Both answers, with all that a caller may rely on.
 pub record BothAnswered (v : View) (r : Walks) (e : Ends) : Type 0 where
-  pub old : Answered v oldFinal r.old e.old
-  pub new : Answered v newFinal r.new e.new
+  pub old : Answered v old_final r.old e.old
+  pub new : Answered v new_final r.new e.new

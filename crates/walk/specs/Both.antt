@@ -12,22 +12,22 @@ pub record Ends : Type 0 where
   pub new : End
 
 -- rules 59 and 53a: old must name something, of any name; new need not, but its last name must be portable
-abbrev pub oldFinal : Final
-oldFinal = record { present = true; portable = false }
+abbrev pub old_final : Final
+old_final = record { present = true; portable = false }
 
-abbrev pub newFinal : Final
-newFinal = record { present = false; portable = true }
+abbrev pub new_final : Final
+new_final = record { present = false; portable = true }
 
 module _ (v : View) (q : Request) where
-  abbrev pub oldWalk : List ℕ → End
-  oldWalk path = walk v q.who oldFinal q.current q.starts.old path
+  abbrev pub old_walk : List ℕ → End
+  old_walk path = walk v q.who old_final q.current q.starts.old path
 
-  abbrev pub newWalk : List ℕ → End
-  newWalk path = walk v q.who newFinal q.current q.starts.new path
+  abbrev pub new_walk : List ℕ → End
+  new_walk path = walk v q.who new_final q.current q.starts.new path
 
   -- where old's walk is refused, new's does not begin, and ends with old's number; so the number of new's is that of both
-  abbrev pub newAfter : ℕ → List ℕ → End
-  newAfter number path = cond (eqb number 0) (newWalk path) (halt number)
+  abbrev pub new_after : ℕ → List ℕ → End
+  new_after number path = cond (eqb number 0) (new_walk path) (halt number)
 
-  unfoldable pub walksOf : List ℕ → List ℕ → Ends
-  walksOf old new = record { old = oldWalk old; new = newAfter (oldWalk old).number new }
+  unfoldable pub walks_of : List ℕ → List ℕ → Ends
+  walks_of old new = record { old = old_walk old; new = new_after (old_walk old).number new }

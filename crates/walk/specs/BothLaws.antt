@@ -8,27 +8,27 @@ use Rattle.component.specs.Step.{End}
 use Rattle.walk.specs.declared.resolve.Walked.{Walked}
 use Rattle.walk.specs.Walk.{halt}
 use Rattle.walk.specs.Ends.{Facts}
-use Rattle.walk.specs.Both.{oldFinal, newFinal, oldWalk, newWalk, newAfter, walksOf}
+use Rattle.walk.specs.Both.{old_final, new_final, old_walk, new_walk, new_after, walks_of}
 use Rattle.walk.specs.Answer.{Ended, Answered, BothAnswered}
 
-module _ (v : View) (q : Request) (old new : List ℕ) (first second : Walked) (walked : Answered v oldFinal first (oldWalk v q old)) where
-  pub both-refused : first.number ≢ 0 → Ended second (halt first.number) → BothAnswered v (record { old = first; new = second }) (walksOf v q old new)
-  unfolding walksOf
-  both-refused some e =
-      let n : first.number ≡ (oldWalk v q old).number = ap (λ (x : End). x.number) walked.is in
-      let h : halt first.number ≡ newAfter v q (oldWalk v q old).number new = subst (λ (m : ℕ). halt first.number ≡ newAfter v q m new) n (rw (ne_eqb _ 0 some)) in
+module _ (v : View) (q : Request) (old new : List ℕ) (first second : Walked) (walked : Answered v old_final first (old_walk v q old)) where
+  pub both_refused : first.number ≢ 0 → Ended second (halt first.number) → BothAnswered v (record { old = first; new = second }) (walks_of v q old new)
+  unfolding walks_of
+  both_refused some e =
+      let n : first.number ≡ (old_walk v q old).number = ap (λ (x : End). x.number) walked.is in
+      let h : halt first.number ≡ new_after v q (old_walk v q old).number new = subst (λ (m : ℕ). halt first.number ≡ new_after v q m new) n (rw (ne_eqb _ 0 some)) in
       record {
         old = walked;
         new = record {
           is = e.is ∙ h;
           range = e.range;
           bound = rw (ap (λ (x : End). x.steps) e.is) zero-le;
-          facts = subst (λ (x : End). Facts v newFinal x) (sym e.is) (record { known = tt; numbered = some; listed = walked.facts.listed });
+          facts = subst (λ (x : End). Facts v new_final x) (sym e.is) (record { known = tt; numbered = some; listed = walked.facts.listed });
         };
       }
 
-  pub both-walked : first.number ≡ 0 → Answered v newFinal second (newWalk v q new) → BothAnswered v (record { old = first; new = second }) (walksOf v q old new)
-  unfolding walksOf
-  both-walked none w =
-      let n : (oldWalk v q old).number ≡ 0 = sym (ap (λ (x : End). x.number) walked.is) ∙ none in
+  pub both_walked : first.number ≡ 0 → Answered v new_final second (new_walk v q new) → BothAnswered v (record { old = first; new = second }) (walks_of v q old new)
+  unfolding walks_of
+  both_walked none w =
+      let n : (old_walk v q old).number ≡ 0 = sym (ap (λ (x : End). x.number) walked.is) ∙ none in
       record { old = walked; new = rw (eq-eqb _ 0 n) w }

@@ -2,8 +2,8 @@
 ghost use Rattle.std.specs.Prelude.{◌≡◌, true};
 ghost use Rattle.layout.specs.View.{view_of};
 ghost use Rattle.layout.specs.Facts.{Readable};
-ghost use Rattle.paths.specs.Request.{requestGood};
-ghost use Rattle.walk.specs.Both.{walksOf};
+ghost use Rattle.paths.specs.Request.{request_good};
+ghost use Rattle.walk.specs.Both.{walks_of};
 ghost use Rattle.walk.specs.Answer.{BothAnswered};
 
 use crate::resolve;
@@ -21,8 +21,8 @@ pub struct Walks {
 // Old must name something, new need not, but its last name must be portable. Where old's walk is refused, new's does not begin, and ends with the same number: so the number
 // of new's is that of both.
 pub fn both(image: &[u8], h: Shape, q: Request, old: &[u8], new: &[u8]) -> Walks
-    requires { Readable h image.now × (requestGood (view_of h image.now) q old.now new.now ≡ true) }
-    ensures { BothAnswered (view_of h image.now) result (walksOf (view_of h image.now) q old.now new.now) }
+    requires { Readable h image.now × (request_good (view_of h image.now) q old.now new.now ≡ true) }
+    ensures { BothAnswered (view_of h image.now) result (walks_of (view_of h image.now) q old.now new.now) }
 {
     let current = q.current as usize;
     let first = resolve::walk(

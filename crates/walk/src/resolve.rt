@@ -1,12 +1,12 @@
 // The walk of a whole path: where it begins, component after component, how it ends.
 ghost use Rattle.std.specs.Prelude.{◌≡◌, true, ◌≤◌, length};
-ghost use Rattle.seq.specs.Bytes.{noZero};
+ghost use Rattle.seq.specs.Bytes.{no_zero};
 ghost use Rattle.layout.specs.View.{view_of};
 ghost use Rattle.layout.specs.Facts.{Readable};
-ghost use Rattle.paths.specs.WorkingPath.{workingPath};
-ghost use Rattle.layout.specs.Limits.{pathLimit, stepLimit};
+ghost use Rattle.paths.specs.WorkingPath.{working_path};
+ghost use Rattle.layout.specs.Limits.{path_limit, step_limit};
 ghost use Rattle.component.specs.State.{position_of, beginning, Fit};
-ghost use Rattle.walk.specs.Walk.{halt, walkFrom, begun, walk};
+ghost use Rattle.walk.specs.Walk.{halt, walk_from, begun, walk};
 ghost use Rattle.walk.specs.Answer.{answer_of, Ended, Answered};
 
 use crate::start::Start;
@@ -42,7 +42,7 @@ fn ended(w: Walk, number: u8, found: Found) -> Walked
 // Goes through the components that are left. Each makes the rest shorter or follows one of few symlinks, so there is an end.
 fn run(image: &[u8], h: Shape, who: Credentials, last: Final, w: Walk) -> Walked
     requires { Readable h image.now × Fit w × (w.links ≡ 0) × (w.steps ≡ 0) }
-    ensures { Ended result (walkFrom (view_of h image.now) who last stepLimit (position_of w)) }
+    ensures { Ended result (walk_from (view_of h image.now) who last step_limit (position_of w)) }
 {
     let mut w = w;
     loop {
@@ -59,8 +59,8 @@ fn run(image: &[u8], h: Shape, who: Credentials, last: Final, w: Walk) -> Walked
 
 // A working path that holds this path, and then zeros.
 fn working(path: &[u8]) -> [u8; limits::PATH_BYTES]
-    requires { length path.now ≤ pathLimit }
-    ensures { result ≡ workingPath path.now }
+    requires { length path.now ≤ path_limit }
+    ensures { result ≡ working_path path.now }
 {
     let mut bytes = [0u8; limits::PATH_BYTES];
     layout::bytes::copy(&mut bytes, 0, path);
@@ -69,7 +69,7 @@ fn working(path: &[u8]) -> [u8; limits::PATH_BYTES]
 
 // The state in which a walk begins.
 fn begin(path: &[u8], directory: usize, waived: bool) -> Walk
-    requires { length path.now ≤ pathLimit }
+    requires { length path.now ≤ path_limit }
     ensures { result ≡ beginning path.now directory waived }
 {
     let bytes = working(path);
@@ -105,7 +105,7 @@ fn from_start(
     start: Start,
     path: &[u8],
 ) -> Walked
-    requires { Readable h image.now × (length path.now ≤ pathLimit) }
+    requires { Readable h image.now × (length path.now ≤ path_limit) }
     ensures { Ended result (begun (view_of h image.now) who last start path.now) }
 {
     match start {
@@ -153,7 +153,7 @@ pub fn walk(
     start: usize,
     path: &[u8],
 ) -> Walked
-    requires { Readable h image.now × (noZero path.now ≡ true) }
+    requires { Readable h image.now × (no_zero path.now ≡ true) }
     ensures { Answered (view_of h image.now) last result (walk (view_of h image.now) who last current start path.now) }
 {
     resolve(image, h, who, last, current, start, path)

@@ -1,46 +1,46 @@
 -- A rename of the bench tree that crashes, and crashes again while it is recovered: `/a/f` to `/b/g`, computed to its end. Assumes nothing.
 use Rattle.std.specs.Prelude.{◌≡◌, refl, Bool, true, false, List, [], ◌∷◌, ◌++◌, map, ℕ, replicate}
 use Rattle.seq.specs.Search.{any, all, first, count}
-use Rattle.seq.specs.Bytes.{part, put, zeros, noZero, sameBytes}
+use Rattle.seq.specs.Bytes.{part, put, zeros, no_zero, equal_bytes}
 use Rattle.seq.specs.Number.{number_at, bytes_of}
-use Rattle.layout.specs.Contents.{nameIs, shape_of, layoutGood}
-use Rattle.layout.specs.Record.{recordAt, store}
+use Rattle.layout.specs.Contents.{name_is, shape_of, layout_good}
+use Rattle.layout.specs.Record.{record_at, store}
 use Rattle.layout.specs.View.{view_of}
 use Rattle.layout.specs.BenchTree.{bench}
-use Rattle.encode.specs.Entry.{entryBytes}
-use Rattle.encode.specs.Journal.{journalOf, journalFormed, journalHead, journalBytes}
-use Rattle.names.specs.Name.{plainName, isDots, clash}
-use Rattle.names.specs.NameTests.{nameGood}
-use Rattle.tree.specs.Tree.{entriesOf, childDirectories, reaches, textShared}
-use Rattle.consistency.specs.Sound.{textLinked, journalClear, bodiesGood}
-use Rattle.consistency.specs.Consistent.{consistent, recordsNumber, checkNumber}
-use Rattle.paths.specs.Request.{requestGood}
-use Rattle.paths.specs.Flags.{flagsGood}
-use Rattle.paths.specs.Groups.{credentialsOf, inFurther, inGroup}
-use Rattle.paths.specs.Portable.{isPortableByte, isPortable}
+use Rattle.encode.specs.Entry.{entry_bytes}
+use Rattle.encode.specs.Journal.{journal_of, journal_formed, journal_head, journal_bytes}
+use Rattle.names.specs.Name.{plain_name, is_dots, clash}
+use Rattle.names.specs.NameTests.{name_good}
+use Rattle.tree.specs.Tree.{entries_of, child_directories, reaches, text_shared}
+use Rattle.consistency.specs.Sound.{text_linked, journal_clear, bodies_good}
+use Rattle.consistency.specs.Consistent.{consistent, records_number, check_number}
+use Rattle.paths.specs.Request.{request_good}
+use Rattle.paths.specs.Flags.{flags_good}
+use Rattle.paths.specs.Groups.{credentials_of, in_further, in_group}
+use Rattle.paths.specs.Portable.{is_portable_byte, is_portable}
 use Rattle.paths.specs.Permission.{allows}
-use Rattle.paths.specs.Lookup.{isNamed, lookup}
+use Rattle.paths.specs.Lookup.{is_named, lookup}
 use Rattle.paths.specs.Path as path
-use Rattle.component.specs.Step.{walkStep}
-use Rattle.walk.specs.Walk.{walkFrom, walk}
-use Rattle.walk.specs.Both.{walksOf}
-use Rattle.refusals.specs.Case.{stickyDenied}
-use Rattle.rename_steps.specs.Tests.{hasEntries, isOpened}
-use Rattle.plan.specs.Form.{row_at, headerOf, rowPut, rowsPut, cleared, no_row, rowCount}
-use Rattle.plan.specs.Fit.{coversSection, covers, rowFits, applicable}
-use Rattle.apply.specs.Apply.{applyNumber, appliedImage}
-use Rattle.recounts.specs.Recount.{entriesAfter, childrenAfter, linksAfter}
-use Rattle.results.specs.Results.{movedBytes, holderBytes, replacedBytes, results}
-use Rattle.moves.specs.Plan.{move_of, renameRows, planned}
-use Rattle.rename.specs.Order.{freeSlot, order}
-use Rattle.rename.specs.Job.{renamed, planAfter}
-use Rattle.rename_drafts.specs.PendingRename.{renameFits, entryStands, intoGood, moveDraft, renameDraft}
+use Rattle.component.specs.Step.{walk_step}
+use Rattle.walk.specs.Walk.{walk_from, walk}
+use Rattle.walk.specs.Both.{walks_of}
+use Rattle.refusals.specs.Case.{sticky_denied}
+use Rattle.rename_steps.specs.Tests.{has_entries, is_opened}
+use Rattle.plan.specs.Form.{row_at, header_of, row_stored, rows_put, cleared, no_row, count_of_rows}
+use Rattle.plan.specs.Fit.{covers_section, covers, is_fitting_row, applicable}
+use Rattle.apply.specs.Apply.{apply_number, applied_image}
+use Rattle.recounts.specs.Recount.{entries_after, children_after, links_after}
+use Rattle.results.specs.Results.{moved_bytes, holder_bytes, replaced_bytes, results}
+use Rattle.moves.specs.Plan.{move_of, rename_rows, planned}
+use Rattle.rename.specs.Order.{free_slot, order}
+use Rattle.rename.specs.Job.{renamed, plan_after}
+use Rattle.rename_drafts.specs.PendingRename.{rename_fits, entry_stands, into_good, move_draft, rename_draft}
 use Rattle.drafts.specs.Draft.{draft}
-use Rattle.recover.specs.Recover.{pendingRows}
+use Rattle.recover.specs.Recover.{pending_rows}
 use Rattle.recover.specs.Job.{recovered}
 use Rattle.outcome.specs.Outcome.{finished}
-use Rattle.demands.specs.Crashes.{Event, apply, refused, crash, State, group_of, step as stepped, atFirst, entryApplied}
-use Rattle.demands.specs.Demand2.{finishedImage}
+use Rattle.demands.specs.Crashes.{Event, apply, refused, crash, State, group_of, step as stepped, at_first, entry_applied}
+use Rattle.demands.specs.Demand2.{finished_image}
 use Rattle.bench_table.specs.Line.{dirty}
 use Rattle.bench_table.specs.Table.{owner, /a/f, /b/g}
 
@@ -73,7 +73,7 @@ abbrev pub Seen : Type 0
 Seen = Bool × Bool × List ℕ
 
 abbrev pub seen : State → Seen
-seen x = (x.done, entryApplied x, map group_of x.waiting)
+seen x = (x.done, entry_applied x, map group_of x.waiting)
 
 -- what is seen before the first event and after each, and the image in the end: one pass, so that no event is computed twice
 abbrev pub passing : State → List Event → List Seen × List ℕ
@@ -81,7 +81,7 @@ passing x [] = (seen x ∷ [], x.image)
 passing x (e ∷ es) = let rest = passing (stepped x e) es in (seen x ∷ rest.0, rest.1)
 
 abbrev pub passed : List Event → List Seen × List ℕ
-passed es = passing (atFirst bench (planAfter bench dirty owner /a/f /b/g)) es
+passed es = passing (at_first bench (plan_after bench dirty owner /a/f /b/g)) es
 
 -- eight rows wait at first; recovery is refused twice, and then its one row leaves the image before
 pub taken_back : passed back
@@ -96,11 +96,11 @@ pub taken_back : passed back
           ∷ [],
       bench,
     )
-unfolding bench any all first count part put store zeros noZero sameBytes number_at bytes_of nameIs shape_of layoutGood recordAt view_of plainName isDots nameGood clash entriesOf childDirectories reaches textShared textLinked journalClear bodiesGood consistent recordsNumber checkNumber credentialsOf inFurther inGroup allows path.slashes path.untilSlash isPortableByte isPortable isNamed lookup requestGood flagsGood walkStep walkFrom walk walksOf entryBytes journalOf journalFormed journalHead journalBytes row_at headerOf rowPut rowsPut cleared no_row rowCount coversSection covers rowFits applicable applyNumber appliedImage movedBytes holderBytes replacedBytes entriesAfter childrenAfter linksAfter results stickyDenied hasEntries isOpened move_of renameRows planned freeSlot order renamed planAfter renameFits entryStands intoGood moveDraft renameDraft draft pendingRows recovered finished
+unfolding bench any all first count part put store zeros no_zero equal_bytes number_at bytes_of name_is shape_of layout_good record_at view_of plain_name is_dots name_good clash entries_of child_directories reaches text_shared text_linked journal_clear bodies_good consistent records_number check_number credentials_of in_further in_group allows path.slashes path.until_slash is_portable_byte is_portable is_named lookup request_good flags_good walk_step walk_from walk walks_of entry_bytes journal_of journal_formed journal_head journal_bytes row_at header_of row_stored rows_put cleared no_row count_of_rows covers_section covers is_fitting_row applicable apply_number applied_image moved_bytes holder_bytes replaced_bytes entries_after children_after links_after results sticky_denied has_entries is_opened move_of rename_rows planned free_slot order renamed plan_after rename_fits entry_stands into_good move_draft rename_draft draft pending_rows recovered finished
 taken_back = refl
 
 -- once the new entry is applied, recovery has six rows, also the second time; they leave the finished image
-pub carried-through : passed through
+pub carried_through : passed through
     ≡ (
       (false, false, 1 ∷ 2 ∷ 3 ∷ 3 ∷ 3 ∷ 3 ∷ 3 ∷ 4 ∷ [])
           ∷ (false, false, 2 ∷ 3 ∷ 3 ∷ 3 ∷ 3 ∷ 3 ∷ 4 ∷ [])
@@ -118,7 +118,7 @@ pub carried-through : passed through
           ∷ (false, true, 4 ∷ [])
           ∷ (true, true, [])
           ∷ [],
-      finishedImage bench dirty owner /a/f /b/g,
+      finished_image bench dirty owner /a/f /b/g,
     )
-unfolding bench any all first count part put store zeros noZero sameBytes number_at bytes_of nameIs shape_of layoutGood recordAt view_of plainName isDots nameGood clash entriesOf childDirectories reaches textShared textLinked journalClear bodiesGood consistent recordsNumber checkNumber credentialsOf inFurther inGroup allows path.slashes path.untilSlash isPortableByte isPortable isNamed lookup requestGood flagsGood walkStep walkFrom walk walksOf entryBytes journalOf journalFormed journalHead journalBytes row_at headerOf rowPut rowsPut cleared no_row rowCount coversSection covers rowFits applicable applyNumber appliedImage movedBytes holderBytes replacedBytes entriesAfter childrenAfter linksAfter results stickyDenied hasEntries isOpened move_of renameRows planned freeSlot order renamed planAfter renameFits entryStands intoGood moveDraft renameDraft draft pendingRows recovered finished
-carried-through = refl
+unfolding bench any all first count part put store zeros no_zero equal_bytes number_at bytes_of name_is shape_of layout_good record_at view_of plain_name is_dots name_good clash entries_of child_directories reaches text_shared text_linked journal_clear bodies_good consistent records_number check_number credentials_of in_further in_group allows path.slashes path.until_slash is_portable_byte is_portable is_named lookup request_good flags_good walk_step walk_from walk walks_of entry_bytes journal_of journal_formed journal_head journal_bytes row_at header_of row_stored rows_put cleared no_row count_of_rows covers_section covers is_fitting_row applicable apply_number applied_image moved_bytes holder_bytes replaced_bytes entries_after children_after links_after results sticky_denied has_entries is_opened move_of rename_rows planned free_slot order renamed plan_after rename_fits entry_stands into_good move_draft rename_draft draft pending_rows recovered finished
+carried_through = refl

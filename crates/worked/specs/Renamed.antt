@@ -7,14 +7,14 @@ use Rattle.layout.specs.declared.Shape.{Shape}
 use Rattle.layout.specs.Limits.{absent}
 use Rattle.layout.specs.Place.{place}
 use Rattle.layout.specs.Contents.{shape_of}
-use Rattle.layout.specs.Record.{recordAt}
-use Rattle.layout.specs.Fields.{inodeLinks, inodeField, inodeModified, inodeChanged}
+use Rattle.layout.specs.Record.{record_at}
+use Rattle.layout.specs.Fields.{inode_links, inode_field, inode_modified, inode_changed}
 use Rattle.layout.specs.View.{view_of}
 use Rattle.layout.specs.BenchTree.{bench}
 use Rattle.plan.specs.Write.{Write}
 use Rattle.recounts.specs.declared.Move.{Move}
-use Rattle.recounts.specs.Recount.{entriesAfter, childrenAfter, linksAfter}
-use Rattle.results.specs.Results.{movedBytes, holderBytes, replacedBytes, results}
+use Rattle.recounts.specs.Recount.{entries_after, children_after, links_after}
+use Rattle.results.specs.Results.{moved_bytes, holder_bytes, replaced_bytes, results}
 
 abbrev h : Shape
 h = shape_of bench
@@ -33,26 +33,26 @@ moves =
 abbrev shown : Write → List ℕ
 shown w = w.group ∷ length w.body ∷ place h w.key.section w.key.index ∷ []
 
-pub bench-rows : map (λ m. map shown (results h bench m)) moves ≡
+pub bench_rows : map (λ m. map shown (results h bench m)) moves ≡
     ((3 ∷ 32 ∷ 360 ∷ []) ∷ (3 ∷ 32 ∷ 136 ∷ []) ∷ (3 ∷ 32 ∷ 72 ∷ []) ∷ [])
     ∷ ((3 ∷ 32 ∷ 360 ∷ []) ∷ (3 ∷ 32 ∷ 136 ∷ []) ∷ (3 ∷ 32 ∷ 72 ∷ []) ∷ (3 ∷ 32 ∷ 104 ∷ []) ∷ (3 ∷ 32 ∷ 168 ∷ []) ∷ [])
     ∷ ((3 ∷ 32 ∷ 392 ∷ []) ∷ (3 ∷ 32 ∷ 200 ∷ []) ∷ (3 ∷ 32 ∷ 72 ∷ []) ∷ (3 ∷ 32 ∷ 104 ∷ []) ∷ [])
     ∷ ((3 ∷ 32 ∷ 424 ∷ []) ∷ (3 ∷ 32 ∷ 168 ∷ []) ∷ (3 ∷ 32 ∷ 104 ∷ []) ∷ (3 ∷ 32 ∷ 136 ∷ []) ∷ [])
     ∷ ((3 ∷ 32 ∷ 360 ∷ []) ∷ (3 ∷ 32 ∷ 136 ∷ []) ∷ (3 ∷ 32 ∷ 72 ∷ []) ∷ (3 ∷ 32 ∷ 40 ∷ []) ∷ (3 ∷ 32 ∷ 232 ∷ []) ∷ (3 ∷ 64 ∷ 520 ∷ []) ∷ [])
     ∷ []
-unfolding bench count part put number_at bytes_of shape_of recordAt view_of movedBytes holderBytes replacedBytes entriesAfter childrenAfter linksAfter results
-bench-rows = refl
+unfolding bench count part put number_at bytes_of shape_of record_at view_of moved_bytes holder_bytes replaced_bytes entries_after children_after links_after results
+bench_rows = refl
 
 -- link count, field and both times of each record that they write behind the old entry
 abbrev written : Write → List ℕ
-written w = inodeLinks w.body ∷ inodeField w.body ∷ inodeModified w.body ∷ inodeChanged w.body ∷ []
+written w = inode_links w.body ∷ inode_field w.body ∷ inode_modified w.body ∷ inode_changed w.body ∷ []
 
-pub bench-results : map (λ m. map written (drop 1 (results h bench m))) moves ≡
+pub bench_results : map (λ m. map written (drop 1 (results h bench m))) moves ≡
     ((2 ∷ 0 ∷ 100 ∷ 500 ∷ []) ∷ (3 ∷ 0 ∷ 500 ∷ 500 ∷ []) ∷ [])
     ∷ ((2 ∷ 0 ∷ 100 ∷ 500 ∷ []) ∷ (3 ∷ 0 ∷ 500 ∷ 500 ∷ []) ∷ (2 ∷ 0 ∷ 500 ∷ 500 ∷ []) ∷ (0 ∷ 0 ∷ 0 ∷ 0 ∷ []) ∷ [])
     ∷ ((2 ∷ 2 ∷ 100 ∷ 500 ∷ []) ∷ (2 ∷ 0 ∷ 500 ∷ 500 ∷ []) ∷ (3 ∷ 0 ∷ 500 ∷ 500 ∷ []) ∷ [])
     ∷ ((1 ∷ 0 ∷ 100 ∷ 500 ∷ []) ∷ (2 ∷ 0 ∷ 500 ∷ 500 ∷ []) ∷ (1 ∷ 0 ∷ 100 ∷ 500 ∷ []) ∷ [])
     ∷ ((2 ∷ 0 ∷ 100 ∷ 500 ∷ []) ∷ (3 ∷ 0 ∷ 500 ∷ 500 ∷ []) ∷ (4 ∷ 0 ∷ 500 ∷ 500 ∷ []) ∷ (0 ∷ 0 ∷ 0 ∷ 0 ∷ []) ∷ (0 ∷ 0 ∷ 0 ∷ 0 ∷ []) ∷ [])
     ∷ []
-unfolding bench count part put number_at bytes_of shape_of recordAt view_of movedBytes holderBytes replacedBytes entriesAfter childrenAfter linksAfter results
-bench-results = refl
+unfolding bench count part put number_at bytes_of shape_of record_at view_of moved_bytes holder_bytes replaced_bytes entries_after children_after links_after results
+bench_results = refl

@@ -5,11 +5,11 @@ use native.Mathlib.Omega.{arith}
 use Prim.Native.Nat.{◌+◌, ◌≤◌}
 use lib.ListN.{length}
 use Rattle.seq.specs.Truth.{fails, holds}
-use Rattle.plan.specs.Form.{bodyBytes, rowLength, rowOffset}
+use Rattle.plan.specs.Form.{body_bytes, row_length, row_offset}
 use Rattle.plan.specs.Fit.{applicable}
-use Rattle.plan.specs.FitLaws.{applicable-is, applicable-fits}
+use Rattle.plan.specs.FitLaws.{applicable_is, applicable_fits}
 use Rattle.plan.specs.FitFacts.{Applicable}
-use Rattle.apply.specs.FindLaws.{laid-bounded}
+use Rattle.apply.specs.FindLaws.{laid_bounded}
 use Rattle.apply.specs.ApplyLaws.{row_copied}
 use borrow.Author.Rules.{rules}
 use Rattle.apply.proofs.apply_row.Statement.{statement}
@@ -23,14 +23,14 @@ passed : (c : tie.Else1) → applicable (start c).args.h (start c).args.plan.now
 passed c = holds c.before.applicable.ensures c.if1.false
 
 good : (c : tie.Else1) → Applicable (start c).args.h (start c).args.plan.now (start c).args.row
-good c = applicable-is _ _ _ (passed c)
+good c = applicable_is _ _ _ (passed c)
 
-fits : (c : tie.Else1) → (rowLength (start c).args.plan.now (start c).args.row ≤ bodyBytes)
-    × (rowOffset (start c).args.plan.now (start c).args.row + rowLength (start c).args.plan.now (start c).args.row ≤ length (start c).args.image.now)
-fits c = applicable-fits (start c).args.h (start c).args.image.now _ _ (start c).requires.0 (good c)
+fits : (c : tie.Else1) → (row_length (start c).args.plan.now (start c).args.row ≤ body_bytes)
+    × (row_offset (start c).args.plan.now (start c).args.row + row_length (start c).args.plan.now (start c).args.row ≤ length (start c).args.image.now)
+fits c = applicable_fits (start c).args.h (start c).args.image.now _ _ (start c).requires.0 (good c)
 
 applicable-requires : tie.Need-applicable-requires
-applicable-requires c κs = (laid-bounded _ _ c.before.before.requires.0, c.before.before.requires.1)
+applicable-requires c κs = (laid_bounded _ _ c.before.before.requires.0, c.before.before.requires.1)
 
 returns : tie.Need-returns
 returns c = let e = fails c.before.applicable.ensures c.if1.true in (rw e, rw e)

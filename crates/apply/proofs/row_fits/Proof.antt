@@ -1,7 +1,7 @@
 -- `apply::row_fits` meets its contract. Assumes nothing.
 use borrow.Author.Tests.{le-leb, lt-leb}
 use Rattle.plan.specs.Form.{row_at}
-use Rattle.plan.specs.Fit.{rowFits}
+use Rattle.plan.specs.Fit.{is_fitting_row}
 use borrow.Author.Rules.{rules}
 use Rattle.apply.proofs.row_fits.Statement.{statement}
 use Rattle.apply.proofs.row_fits.Tie as tie
@@ -10,11 +10,11 @@ group-requires : tie.Need-group-requires
 group-requires c κs = search rules
 
 returns : tie.Need-returns
-unfolding rowFits row_at
+unfolding is_fitting_row row_at
 returns c = simp (lt-leb _ _ (rw c.before.group.ensures at c.if1.true))
 
 returns-2 : tie.Need-returns-2
-unfolding rowFits row_at
+unfolding is_fitting_row row_at
 returns-2 c =
     let group = c.before.before.group in
     simp (le-leb _ _ (rw group.ensures at c.before.if1.false), lt-leb _ _ (rw group.ensures at c.if2.true))
@@ -29,7 +29,7 @@ covers-requires : tie.Need-covers-requires
 covers-requires c κs = search rules
 
 returns-3 : tie.Need-returns-3
-unfolding rowFits row_at
+unfolding is_fitting_row row_at
 returns-3 c =
     let group = c.before.before.before.before.before.group in
     let if1 = c.before.before.before.before.if1 in

@@ -1,7 +1,7 @@
 -- `duplicates::mixed` meets its contract. Assumes nothing.
 use native.Mathlib.Omega.{arith}
 use borrow.Author.Rules.{rules}
-use Rattle.duplicates.specs.Bucket.{mix, mixedOf}
+use Rattle.duplicates.specs.Bucket.{mix, mixed_of}
 use Rattle.duplicates.proofs.mixed.Statement.{statement}
 use Rattle.duplicates.proofs.mixed.Tie as tie
 
@@ -84,7 +84,7 @@ add-sum-6 : tie.Need-overflow-add-sum-6
 add-sum-6 c = search rules
 
 returns : tie.Need-returns
-unfolding mix mixedOf
+unfolding mix mixed_of
 returns c = (
   rw (
     c.before.before.before.before.before.before.parent.ensures.0,

@@ -1,7 +1,7 @@
 -- `exchange_drafts::in_range` meets its contract. Assumes nothing.
 use mathlib.Core.Path.{sym}
 use borrow.Author.Tests.{lt-ltb, le-ltb}
-use Rattle.exchange_drafts.specs.ExchangeFit.{both-range-last}
+use Rattle.exchange_drafts.specs.ExchangeFit.{both_range_last}
 use Rattle.exchange_drafts.proofs.in_range.Statement.{statement}
 use Rattle.exchange_drafts.proofs.in_range.Tie as tie
 
@@ -31,7 +31,7 @@ returns-5 c =
     let second = third.before.before.before in
     let first = second.before.before.before in
     let args = first.before.before.before.args in
-    sym (both-range-last args.h args.j first.if1.false second.if2.false third.if3.false fourth.if4.false)
+    sym (both_range_last args.h args.j first.if1.false second.if2.false third.if3.false fourth.if4.false)
 
 pub in-range-spec : {M : Type 1} → statement M
 in-range-spec = tie.close (tie.spec returns returns-2 returns-3 returns-4 returns-5)

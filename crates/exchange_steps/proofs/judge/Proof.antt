@@ -1,10 +1,10 @@
 -- `exchange_steps::judge` meets its contract. Assumes nothing.
 use mathlib.Core.Path.{sym, ap, ◌∙◌}
 use Rattle.layout.specs.View.{View, view_of}
-use Rattle.layout.specs.ViewLaws.{isUsed-below}
+use Rattle.layout.specs.ViewLaws.{is_used_below}
 use Rattle.refusals.specs.declared.case.Answer.TheVariants.{Refused}
-use Rattle.refusals.specs.WithinLaws.{case-within}
-use Rattle.exchange_steps.specs.ExchangeLaws.{exchange-same, exchange-parents, exchange-others, exchange-planned}
+use Rattle.refusals.specs.WithinLaws.{case_within}
+use Rattle.exchange_steps.specs.ExchangeLaws.{exchange_same, exchange_parents, exchange_others, exchange_planned_lem}
 use Rattle.exchange_steps.proofs.judge.Statement.{statement}
 use Rattle.exchange_steps.proofs.judge.Tie as tie
 
@@ -14,35 +14,35 @@ view start = view_of start.args.h start.args.image.now
 returns : tie.Need-returns
 returns c =
     let start = c.before.before.before in
-    sym (exchange-same (view start) start.args.c c.if1.true)
+    sym (exchange_same (view start) start.args.c c.if1.true)
 
 number-requires : tie.Need-number-requires
 number-requires c κs =
     let pre = c.before.before.before.requires in
-    (pre.0.laid, case-within _ _ _ pre.1)
+    (pre.0.laid, case_within _ _ _ pre.1)
 
 returns-2 : tie.Need-returns-2
 returns-2 c =
     let start = c.before.before.before.before.before in
-    ap Refused c.before.number.ensures ∙ sym (exchange-parents (view start) start.args.c c.before.before.if1.false (λ e. c.if2.true (c.before.number.ensures ∙ e)))
+    ap Refused c.before.number.ensures ∙ sym (exchange_parents (view start) start.args.c c.before.before.if1.false (λ e. c.if2.true (c.before.number.ensures ∙ e)))
 
 number-requires-2 : tie.Need-number-requires-2
 number-requires-2 c κs =
     let pre = c.before.before.before.before.before.requires in
-    (pre.0.laid, case-within _ _ _ pre.1, isUsed-below _ _ _ pre.2)
+    (pre.0.laid, case_within _ _ _ pre.1, is_used_below _ _ _ pre.2)
 
 returns-3 : tie.Need-returns-3
 returns-3 c =
     let start = c.before.before.before.before.before.before.before in
     let parents = sym c.before.before.before.number.ensures ∙ c.before.before.if2.false in
     ap Refused c.before.number2.ensures
-    ∙ sym (exchange-others (view start) start.args.c c.before.before.before.before.if1.false parents (λ e. c.if3.true (c.before.number2.ensures ∙ e)))
+    ∙ sym (exchange_others (view start) start.args.c c.before.before.before.before.if1.false parents (λ e. c.if3.true (c.before.number2.ensures ∙ e)))
 
 returns-4 : tie.Need-returns-4
 returns-4 c =
     let start = c.before.before.before.before.before.before.before in
     let parents = sym c.before.before.before.number.ensures ∙ c.before.before.if2.false in
-    sym (exchange-planned (view start) start.args.c c.before.before.before.before.if1.false parents (sym c.before.number2.ensures ∙ c.if3.false))
+    sym (exchange_planned_lem (view start) start.args.c c.before.before.before.before.if1.false parents (sym c.before.number2.ensures ∙ c.if3.false))
 
 pub judge-spec : {M : Type 1} → statement M
 judge-spec =

@@ -4,7 +4,7 @@ use mathlib.Core.List.{List}
 use lib.ListN.{drop}
 use borrow.Author.Rules.{rules}
 use Rattle.layout.specs.View.{View, view_of}
-use Rattle.exchange_steps.specs.Exchange.{otherRules}
+use Rattle.exchange_steps.specs.Exchange.{other_rules}
 use Rattle.refusals.specs.Rules.{Rule, decide}
 use Rattle.exchange_steps.proofs.number.Statement.{statement}
 use Rattle.exchange_steps.proofs.number.Tie as tie
@@ -13,7 +13,7 @@ abbrev view : tie.Start → View
 view start = view_of start.args.h start.args.image.now
 
 abbrev rules : tie.Start → List Rule
-rules start = otherRules (view start) start.args.c
+rules start = other_rules (view start) start.args.c
 
 -- behind each test that failed, the rules behind it decide
 abbrev start-1 : tie.Else1 → tie.Start

@@ -2,7 +2,7 @@
 use mathlib.Core.Path.{sym, ◌∙◌}
 use borrow.Author.Rules.{rules}
 use borrow.Author.Tests.{eq-eqb, ne_eqb}
-use Rattle.layout.specs.Fields.{inodeField}
+use Rattle.layout.specs.Fields.{inode_field}
 use Rattle.layout.specs.RecordLaws.{field_of}
 use Rattle.layout.specs.View.{view_of}
 use Rattle.inodes.proofs.directory_placed.Statement.{statement}
@@ -16,7 +16,7 @@ field-requires c κs = search rules
 
 returns : tie.Need-returns
 unfolding view_of
-returns c = simp (eq-eqb _ _ c.before.before.if1.true, field_of inodeField c.before.inode.ensures c.field.ensures.0)
+returns c = simp (eq-eqb _ _ c.before.before.if1.true, field_of inode_field c.before.inode.ensures c.field.ensures.0)
 
 mul-if2 : tie.Need-overflow-mul-if2
 mul-if2 c = search rules

@@ -2,18 +2,18 @@
 use mathlib.Core.Path.{◌≡◌, sym, ◌∙◌, ap}
 use borrow.Author.Rules.{rules}
 use Rattle.seq.specs.Bytes.{zeros}
-use Rattle.layout.specs.Fields.{inodeKind}
+use Rattle.layout.specs.Fields.{inode_kind}
 use Rattle.layout.specs.RecordLaws.{field_of}
-use Rattle.layout.specs.View.{view_of, inodeAt}
-use Rattle.layout.specs.ViewLaws.{is-kind}
-use Rattle.tree.specs.Inode.{inodeGood}
-use Rattle.tree.specs.InodeTests.{kind-free, kind-file, kind-directory, kind-symlink, kind-none}
+use Rattle.layout.specs.View.{view_of, inode_at}
+use Rattle.layout.specs.ViewLaws.{is_kind_lem}
+use Rattle.tree.specs.Inode.{inode_good}
+use Rattle.tree.specs.InodeTests.{kind_free, kind_file, kind_directory, kind_symlink, kind_none}
 use Rattle.inodes.proofs.good.Statement.{statement}
 use Rattle.inodes.proofs.good.Tie as tie
 
 -- the type number that was read is the inode's
-kind-is : (c : tie.After-kind) → c.kind.result ≡ inodeKind (inodeAt c.before.before.before.args.h c.before.before.before.args.image.now c.before.before.before.args.i)
-kind-is c = field_of inodeKind c.before.inode.ensures c.kind.ensures
+kind_is : (c : tie.After-kind) → c.kind.result ≡ inode_kind (inode_at c.before.before.before.args.h c.before.before.before.args.image.now c.before.before.before.args.i)
+kind_is c = field_of inode_kind c.before.inode.ensures c.kind.ensures
 
 inode-requires : tie.Need-inode-requires
 inode-requires c κs = search rules
@@ -37,35 +37,35 @@ directory-good-requires c κs =
       pre.2,
       pre.3,
       pre.4,
-      is-kind args.h args.image.now args.i 2 pre.1 (sym (kind-is c.before) ∙ c.match.keys3),
+      is_kind_lem args.h args.image.now args.i 2 pre.1 (sym (kind_is c.before) ∙ c.match.keys3),
     )
 
 symlink-good-requires : tie.Need-symlink-good-requires
 symlink-good-requires c κs = search rules
 
 returns : tie.Need-returns
-unfolding inodeGood view_of
+unfolding inode_good view_of
 returns c =
     c.all-zero.ensures ∙ ap (λ x. zeros x 0 32) c.before.before.before.inode.ensures.is
-    ∙ sym (kind-free _ _ _ _ _ (sym (kind-is c.before.before) ∙ c.before.match.keys1))
+    ∙ sym (kind_free _ _ _ _ _ (sym (kind_is c.before.before) ∙ c.before.match.keys1))
 
 returns-2 : tie.Need-returns-2
-unfolding inodeGood view_of
-returns-2 c = c.file-good.ensures ∙ sym (kind-file _ _ _ _ _ (sym (kind-is c.before.before) ∙ c.before.match.keys2))
+unfolding inode_good view_of
+returns-2 c = c.file-good.ensures ∙ sym (kind_file _ _ _ _ _ (sym (kind_is c.before.before) ∙ c.before.match.keys2))
 
 returns-3 : tie.Need-returns-3
-unfolding inodeGood view_of
-returns-3 c = c.directory-good.ensures ∙ sym (kind-directory _ _ _ _ _ (sym (kind-is c.before.before) ∙ c.before.match.keys3))
+unfolding inode_good view_of
+returns-3 c = c.directory-good.ensures ∙ sym (kind_directory _ _ _ _ _ (sym (kind_is c.before.before) ∙ c.before.match.keys3))
 
 returns-4 : tie.Need-returns-4
-unfolding inodeGood view_of
-returns-4 c = c.symlink-good.ensures ∙ sym (kind-symlink _ _ _ _ _ (sym (kind-is c.before.before) ∙ c.before.match.keys4))
+unfolding inode_good view_of
+returns-4 c = c.symlink-good.ensures ∙ sym (kind_symlink _ _ _ _ _ (sym (kind_is c.before.before) ∙ c.before.match.keys4))
 
 returns-5 : tie.Need-returns-5
-unfolding inodeGood view_of
-returns-5 c = let k = kind-is c.before in
+unfolding inode_good view_of
+returns-5 c = let k = kind_is c.before in
     let r = c.match.rest in
-    sym (kind-none _ _ _ _ _ (λ e. r.0.0.0.1 (k ∙ e)) (λ e. r.0.0.1 (k ∙ e)) (λ e. r.0.1 (k ∙ e)) (λ e. r.1 (k ∙ e)))
+    sym (kind_none _ _ _ _ _ (λ e. r.0.0.0.1 (k ∙ e)) (λ e. r.0.0.1 (k ∙ e)) (λ e. r.0.1 (k ∙ e)) (λ e. r.1 (k ∙ e)))
 
 pub good-spec : {M : Type 1} → statement M
 good-spec =

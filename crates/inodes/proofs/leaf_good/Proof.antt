@@ -3,10 +3,10 @@ use mathlib.Core.Path.{◌∙◌}
 use mathlib.Core.Bool.{and-false}
 use borrow.Author.Rules.{rules}
 use borrow.Author.Tests.{lt-ltb, le-ltb, le-leb, lt-leb}
-use Rattle.layout.specs.Fields.{inodeMode, inodeLinks}
+use Rattle.layout.specs.Fields.{inode_mode, inode_links}
 use Rattle.layout.specs.RecordLaws.{field_of}
 use Rattle.layout.specs.View.{view_of}
-use Rattle.tree.specs.Inode.{leafGood}
+use Rattle.tree.specs.Inode.{leaf_good}
 use Rattle.inodes.proofs.leaf_good.Statement.{statement}
 use Rattle.inodes.proofs.leaf_good.Tie as tie
 
@@ -17,19 +17,19 @@ mode-requires : tie.Need-mode-requires
 mode-requires c κs = search rules
 
 returns : tie.Need-returns
-unfolding leafGood view_of
-returns c = simp (le-ltb _ _ (rw (field_of inodeMode c.before.before.inode.ensures c.before.mode.ensures.0) at c.if1.true))
+unfolding leaf_good view_of
+returns c = simp (le-ltb _ _ (rw (field_of inode_mode c.before.before.inode.ensures c.before.mode.ensures.0) at c.if1.true))
 
 links-requires : tie.Need-links-requires
 links-requires c κs = search rules
 
 returns-2 : tie.Need-returns-2
-unfolding leafGood view_of
-returns-2 c = simp (and-false, lt-leb _ _ (rw (field_of inodeLinks c.before.before.before.before.inode.ensures c.before.links.ensures.0) at c.if2.true))
+unfolding leaf_good view_of
+returns-2 c = simp (and-false, lt-leb _ _ (rw (field_of inode_links c.before.before.before.before.inode.ensures c.before.links.ensures.0) at c.if2.true))
 
 returns-3 : tie.Need-returns-3
-unfolding leafGood view_of
-returns-3 c = simp (and-false, lt-leb _ _ (rw (field_of inodeLinks c.before.before.before.before.before.inode.ensures c.before.before.links.ensures.0) at c.if3.true))
+unfolding leaf_good view_of
+returns-3 c = simp (and-false, lt-leb _ _ (rw (field_of inode_links c.before.before.before.before.before.inode.ensures c.before.before.links.ensures.0) at c.if3.true))
 
 mul_wide : tie.Need-overflow-mul-wide
 mul_wide c = search rules
@@ -41,15 +41,15 @@ wide-requires : tie.Need-wide-requires
 wide-requires c κs = search rules
 
 returns-4 : tie.Need-returns-4
-unfolding leafGood view_of
+unfolding leaf_good view_of
 returns-4 c =
     let start = c.before.before.before.before.before.before.before.before.before in
     let inode = c.before.before.before.before.before.before.before.inode in
     let mode = c.before.before.before.before.before.before.mode in
     let if1 = c.before.before.before.before.before.if1 in
-    let n = field_of inodeLinks inode.ensures c.before.before.before.before.links.ensures.0 in
+    let n = field_of inode_links inode.ensures c.before.before.before.before.links.ensures.0 in
     simp (
-      lt-ltb _ _ (rw (field_of inodeMode inode.ensures mode.ensures.0) at if1.false),
+      lt-ltb _ _ (rw (field_of inode_mode inode.ensures mode.ensures.0) at if1.false),
       le-leb _ _ (rw n at c.before.before.before.if2.false),
       le-leb _ _ (rw n at c.before.before.if3.false),
       c.wide.ensures.0 ∙ start.requires.2.at start.args.i start.requires.1,

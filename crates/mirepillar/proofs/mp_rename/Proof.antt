@@ -1,7 +1,7 @@
 -- `mirepillar::mp_rename` meets its contract. Assumes nothing.
 use mathlib.Core.Path.{ap, ◌∙◌}
 use borrow.Author.Rules.{rules}
-use Rattle.rename.specs.Bounds.{answers-small}
+use Rattle.rename.specs.Bounds.{answers_small}
 use Rattle.mirepillar.specs.Result.{packed}
 use Rattle.mirepillar.proofs.mp_rename.Statement.{statement}
 use Rattle.mirepillar.proofs.mp_rename.Tie as tie
@@ -13,7 +13,7 @@ rename-requires : tie.Need-rename-requires
 rename-requires c κs = search rules
 
 pack-requires : tie.Need-pack-requires
-pack-requires c κs = answers-small c.before.before.rename.ensures
+pack-requires c κs = answers_small c.before.before.rename.ensures
 
 same_length : tie.Need-same-length
 same_length c = search rules

@@ -2,14 +2,14 @@
 use mathlib.Core.Path.{◌≡◌, ap, ◌∙◌}
 use mathlib.Core.Bool.{true}
 use Rattle.seq.specs.Truth.{fails, holds}
-use Rattle.layout.specs.Fields.{inodeField}
+use Rattle.layout.specs.Fields.{inode_field}
 use Rattle.layout.specs.Limits.{absent}
 use Rattle.layout.specs.RecordLaws.{field_of}
-use Rattle.layout.specs.View.{View, view_of, isSymlink}
-use Rattle.layout.specs.ViewLaws.{isKind-below}
-use Rattle.recounts.specs.Recount.{entriesAfter}
-use Rattle.moves.specs.Plan.{moveWith}
-use Rattle.moves.specs.Texts.{text-other, text-kept, text-freed}
+use Rattle.layout.specs.View.{View, view_of, is_symlink}
+use Rattle.layout.specs.ViewLaws.{is_kind_below}
+use Rattle.recounts.specs.Recount.{entries_after}
+use Rattle.moves.specs.Plan.{move_with}
+use Rattle.moves.specs.Texts.{text_other, text_kept, text_freed}
 use borrow.Author.Rules.{rules}
 use Rattle.moves.proofs.freed_text.Statement.{statement}
 use Rattle.moves.proofs.freed_text.Tie as tie
@@ -21,14 +21,14 @@ abbrev view : tie.Else1 → View
 view c = view_of (start c).args.h (start c).args.image.now
 
 -- past the first test the replaced inode is a symlink, and what is counted are its entries after the move
-symlink : (c : tie.Else1) → isSymlink (view c) (start c).args.c.replaced ≡ true
+symlink : (c : tie.Else1) → is_symlink (view c) (start c).args.c.replaced ≡ true
 symlink c = holds c.before.is-symlink.ensures c.if1.false
 
 counted : (c : tie.After-entries-after) → c.entries-after.result
-    ≡ entriesAfter (view c.before.before) (moveWith (start c.before.before).args.c (start c.before.before).args.time absent) (start c.before.before).args.c.replaced
+    ≡ entries_after (view c.before.before) (move_with (start c.before.before).args.c (start c.before.before).args.time absent) (start c.before.before).args.c.replaced
 counted c =
     let at = c.before.before in
-    c.entries-after.ensures.0 ∙ ap (λ m. entriesAfter (view at) m (start at).args.c.replaced) c.before.move-with.ensures
+    c.entries-after.ensures.0 ∙ ap (λ m. entries_after (view at) m (start at).args.c.replaced) c.before.move-with.ensures
 
 is-symlink-requires : tie.Need-is-symlink-requires
 is-symlink-requires c κs = search rules
@@ -36,7 +36,7 @@ is-symlink-requires c κs = search rules
 returns : tie.Need-returns
 returns c =
     let args = c.before.before.before.args in
-    text-other (view_of args.h args.image.now) args.c args.time (fails c.before.is-symlink.ensures c.if1.true)
+    text_other (view_of args.h args.image.now) args.c args.time (fails c.before.is-symlink.ensures c.if1.true)
 
 move-with-requires : tie.Need-move-with-requires
 move-with-requires c κs = search rules
@@ -47,12 +47,12 @@ entries-after-requires c κs = search rules
 returns-2 : tie.Need-returns-2
 returns-2 c =
     let args = (start c.before.before.before).args in
-    text-kept (view c.before.before.before) args.c args.time (symlink c.before.before.before) _ (counted c.before) c.if2.true
+    text_kept (view c.before.before.before) args.c args.time (symlink c.before.before.before) _ (counted c.before) c.if2.true
 
 inode-requires : tie.Need-inode-requires
 inode-requires c κs =
     let args = (start c.before.before.before).args in
-    (search rules, isKind-below args.h args.image.now _ 3 (symlink c.before.before.before))
+    (search rules, is_kind_below args.h args.image.now _ 3 (symlink c.before.before.before))
 
 field-requires : tie.Need-field-requires
 field-requires c κs = search rules
@@ -61,8 +61,8 @@ returns-3 : tie.Need-returns-3
 unfolding view_of
 returns-3 c =
     let args = (start c.before.before.before.before.before).args in
-    text-freed (view c.before.before.before.before.before) args.c args.time (symlink c.before.before.before.before.before) _ (counted c.before.before.before) c.before.before.if2.false _
-    (field_of inodeField c.before.inode.ensures c.field.ensures.0)
+    text_freed (view c.before.before.before.before.before) args.c args.time (symlink c.before.before.before.before.before) _ (counted c.before.before.before) c.before.before.if2.false _
+    (field_of inode_field c.before.inode.ensures c.field.ensures.0)
 
 pub freed-text-spec : {M : Type 1} → statement M
 freed-text-spec =

@@ -7,12 +7,12 @@ use borrow.Author.Rules.{rules}
 use Rattle.seq.specs.Search.{any}
 use Rattle.seq.specs.SearchLaws.{any_none}
 use Rattle.names.specs.FrontLaws.{any_tells}
-use Rattle.names.specs.NameTests.{frontWrong, frontGood}
+use Rattle.names.specs.NameTests.{front_wrong, front_good}
 use Rattle.names.proofs.front_good.Statement.{statement}
 use Rattle.names.proofs.front_good.Tie as tie
 
 abbrev invariant-loop : tie.invariant-loop
-invariant-loop e n m wrong₀ k₀ wrong k = (k ≤ 24) × (wrong ≡ any (frontWrong e n) k)
+invariant-loop e n m wrong₀ k₀ wrong k = (k ≤ 24) × (wrong ≡ any (front_wrong e n) k)
 
 abbrev decreases-loop : tie.decreases-loop
 decreases-loop e n m wrong₀ k₀ wrong k = 24 - k
@@ -41,10 +41,10 @@ loop-less c = search rules
 loop-again : tie.Need-loop-preserved invariant-loop decreases-loop
 loop-again c =
     let args = c.before.before.before.args in
-    (search rules, any_tells (frontWrong args.e.now args.n) _ _ _ _ c.before.before.loop.invariant.1 refl)
+    (search rules, any_tells (front_wrong args.e.now args.n) _ _ _ _ c.before.before.loop.invariant.1 refl)
 
 returns : tie.Need-returns invariant-loop decreases-loop
-unfolding frontGood
+unfolding front_good
 returns c =
     let e : c.before.loop.k ≡ 24 = omega arith in
     rw (c.before.loop.invariant.1, e)

@@ -1,6 +1,6 @@
 -- `plan::body` meets its contract. Assumes nothing.
 use native.Mathlib.Omega.{arith}
-use Rattle.plan.specs.RowLaws.{reads-body}
+use Rattle.plan.specs.RowLaws.{reads_body}
 use borrow.Author.Rules.{rules}
 use Rattle.plan.proofs.body.Statement.{statement}
 use Rattle.plan.proofs.body.Tie as tie
@@ -32,7 +32,7 @@ returns c =
     let pre = c.before.before.before.requires in
     let length = c.before.length in
     let e = length.ensures.0 in
-    reads-body args.plan.now args.i length.result pre.0 pre.1 (omega (arith, pre.2)) e
+    reads_body args.plan.now args.i length.result pre.0 pre.1 (omega (arith, pre.2)) e
 
 pub body-spec : {M : Type 1} → statement M
 body-spec =

@@ -5,8 +5,8 @@ use native.Mathlib.Omega.{arith}
 use lib.ListN.{replicate}
 use lib.Seq.{length-take-le}
 use borrow.Author.Rules.{rules}
-use Rattle.seq.specs.BytesLaws.{take-zeros}
-use Rattle.plan.specs.Form.{row_of, rowPut}
+use Rattle.seq.specs.BytesLaws.{take_zeros}
+use Rattle.plan.specs.Form.{row_of, row_stored}
 use Rattle.plan.proofs.put_clearing.Statement.{statement}
 use Rattle.plan.proofs.put_clearing.Tie as tie
 
@@ -28,7 +28,7 @@ returns : tie.Need-returns
 returns c =
     let start = c.before.before.before.before.before.before in
     c.before.before.put-row.ensures
-    ∙ ap (λ b. rowPut start.args.plan.now start.args.i (row_of start.args.group start.args.offset b)) (take-zeros start.args.n 64 start.requires.2)
+    ∙ ap (λ b. row_stored start.args.plan.now start.args.i (row_of start.args.group start.args.offset b)) (take_zeros start.args.n 64 start.requires.2)
 
 pub put-clearing-spec : {M : Type 1} → statement M
 put-clearing-spec =

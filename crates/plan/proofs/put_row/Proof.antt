@@ -3,7 +3,7 @@ use mathlib.Core.Path.{◌∙◌, ap}
 use Prim.Native.Nat.{◌+◌, ◌*◌}
 use Rattle.seq.specs.Bytes.{put}
 use Rattle.seq.specs.Number.{bytes_of}
-use Rattle.plan.specs.Form.{headerOf, rowPut}
+use Rattle.plan.specs.Form.{header_of, row_stored}
 use borrow.Author.Rules.{rules}
 use Rattle.plan.proofs.put_row.Statement.{statement}
 use Rattle.plan.proofs.put_row.Tie as tie
@@ -48,7 +48,7 @@ same_length : tie.Need-same-length
 same_length c = search rules
 
 returns : tie.Need-returns
-unfolding rowPut headerOf bytes_of
+unfolding row_stored header_of bytes_of
 returns c =
     let args = c.before.before.before.before.before.before.before.before.before.before.before.args in
     let copy = c.before.before.before.before.before.before.copy in

@@ -6,32 +6,32 @@ use native.Mathlib.Omega.{arith}
 use lib.Dec.{eqb}
 use borrow.Author.Rules.{rules}
 use Rattle.seq.specs.Count.{bit}
-use Rattle.seq.specs.SearchLaws.{count-le}
+use Rattle.seq.specs.SearchLaws.{count_le}
 use Rattle.seq.specs.Truth.{holds}
-use Rattle.layout.specs.View.{view_of, isDirectory}
-use Rattle.tree.specs.Tree.{holdsDirectory, childDirectories}
-use Rattle.recounts.specs.Recount.{holdsAfter, childrenAfter}
-use Rattle.recounts.specs.RecountLaws.{two_is, recounted-cleared}
+use Rattle.layout.specs.View.{view_of, is_directory}
+use Rattle.tree.specs.Tree.{holds_directory, child_directories}
+use Rattle.recounts.specs.Recount.{holds_after, children_after}
+use Rattle.recounts.specs.RecountLaws.{two_is, recounted_cleared}
 use Rattle.recounts.proofs.children_after.Statement.{statement}
 use Rattle.recounts.proofs.children_after.Tie as tie
 
 -- what stands and what is made is what is left and what the two slots counted for
 sum : (c : tie.After-one-if3)
-    → childrenAfter (view_of c.before.before.before.before.before.before.before.before.before.before.args.h c.before.before.before.before.before.before.before.before.before.before.args.image.now) c.before.before.before.before.before.before.before.before.before.before.args.m c.before.before.before.before.before.before.before.before.before.before.args.d + (c.before.before.one-if2.result + c.one-if3.result)
+    → children_after (view_of c.before.before.before.before.before.before.before.before.before.before.args.h c.before.before.before.before.before.before.before.before.before.before.args.image.now) c.before.before.before.before.before.before.before.before.before.before.args.m c.before.before.before.before.before.before.before.before.before.before.args.d + (c.before.before.one-if2.result + c.one-if3.result)
     ≡ c.before.before.before.before.before.before.child-directories.result + c.before.before.before.before.one-if.result
-unfolding childrenAfter childDirectories view_of
+unfolding children_after child_directories view_of
 sum c =
     let args = c.before.before.before.before.before.before.before.before.before.before.args in
     let v = view_of args.h args.image.now in
     let two = two_is args.m args.h.entries (holds c.before.before.before.before.before.before.before.before.edits-two.ensures c.before.before.before.before.before.before.before.if1.false) in
-    let e = recounted-cleared args.m args.h.entries two (holdsDirectory v args.d) (eqb args.m.into args.d && isDirectory v args.m.moved) in
+    let e = recounted_cleared args.m args.h.entries two (holds_directory v args.d) (eqb args.m.into args.d && is_directory v args.m.moved) in
     let old = c.before.before.one-if2.ensures.0 ∙ ap bit c.before.before.before.entry-holds-directory.ensures in
     let new = c.one-if3.ensures.0 ∙ ap bit c.before.entry-holds-directory2.ensures in
     rw (old, new, c.before.before.before.before.one-if.ensures.0 ∙ ap bit c.before.before.before.before.before.makes-child.ensures, c.before.before.before.before.before.before.child-directories.ensures.0) e
 
-few : (c : tie.After-one-if3) → childrenAfter (view_of c.before.before.before.before.before.before.before.before.before.before.args.h c.before.before.before.before.before.before.before.before.before.before.args.image.now) c.before.before.before.before.before.before.before.before.before.before.args.m c.before.before.before.before.before.before.before.before.before.before.args.d ≤ c.before.before.before.before.before.before.before.before.before.before.args.h.entries
-unfolding childrenAfter view_of
-few c = count-le (holdsAfter (view_of c.before.before.before.before.before.before.before.before.before.before.args.h c.before.before.before.before.before.before.before.before.before.before.args.image.now) c.before.before.before.before.before.before.before.before.before.before.args.m c.before.before.before.before.before.before.before.before.before.before.args.d) c.before.before.before.before.before.before.before.before.before.before.args.h.entries
+few : (c : tie.After-one-if3) → children_after (view_of c.before.before.before.before.before.before.before.before.before.before.args.h c.before.before.before.before.before.before.before.before.before.before.args.image.now) c.before.before.before.before.before.before.before.before.before.before.args.m c.before.before.before.before.before.before.before.before.before.before.args.d ≤ c.before.before.before.before.before.before.before.before.before.before.args.h.entries
+unfolding children_after view_of
+few c = count_le (holds_after (view_of c.before.before.before.before.before.before.before.before.before.before.args.h c.before.before.before.before.before.before.before.before.before.before.args.image.now) c.before.before.before.before.before.before.before.before.before.before.args.m c.before.before.before.before.before.before.before.before.before.before.args.d) c.before.before.before.before.before.before.before.before.before.before.args.h.entries
 
 edits-two-requires : tie.Need-edits-two-requires
 edits-two-requires c κs = search rules
@@ -70,7 +70,7 @@ one-if-requires-3 : tie.Need-one-if-requires-3
 one-if-requires-3 c κs = search rules
 
 add-result : tie.Need-overflow-add-result
-add-result c = omega (arith, sum c, few c, c.before.before.before.before.before.before.before.before.before.before.requires.entries-most, c.before.before.one-if2.ensures.1, c.one-if3.ensures.1)
+add-result c = omega (arith, sum c, few c, c.before.before.before.before.before.before.before.before.before.before.requires.entries_most, c.before.before.one-if2.ensures.1, c.one-if3.ensures.1)
 
 sub-result : tie.Need-overflow-sub-result
 sub-result c = omega (arith, sum c)
@@ -79,7 +79,7 @@ sub-result-2 : tie.Need-overflow-sub-result-2
 sub-result-2 c = omega (arith, sum c)
 
 returns-2 : tie.Need-returns-2
-returns-2 c = (omega (arith, sum c), omega (arith, sum c, few c, c.before.before.before.before.before.before.before.before.before.before.requires.entries-most))
+returns-2 c = (omega (arith, sum c), omega (arith, sum c, few c, c.before.before.before.before.before.before.before.before.before.before.requires.entries_most))
 
 pub children-after-spec : {M : Type 1} → statement M
 children-after-spec =

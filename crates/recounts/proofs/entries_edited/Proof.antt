@@ -6,14 +6,14 @@ use Prim.Native.Nat.{◌≤◌, ◌-◌}
 use native.Mathlib.Omega.{arith}
 use borrow.Author.Rules.{rules}
 use Rattle.seq.specs.Search.{count}
-use Rattle.seq.specs.SearchLaws.{count_none, count_turn, count-pass, count-out}
+use Rattle.seq.specs.SearchLaws.{count_none, count_turn, count_pass, count_out}
 use Rattle.layout.specs.View.{view_of}
-use Rattle.recounts.specs.Recount.{targetsAfter, entriesAfter}
+use Rattle.recounts.specs.Recount.{targets_after, entries_after}
 use Rattle.recounts.proofs.entries_edited.Statement.{statement}
 use Rattle.recounts.proofs.entries_edited.Tie as tie
 
 abbrev invariant-loop : tie.invariant-loop
-invariant-loop s h m i n found₀ j₀ found j = (j ≤ n) × (found ≤ j) × (found ≡ count (targetsAfter (view_of h s) m i) j)
+invariant-loop s h m i n found₀ j₀ found j = (j ≤ n) × (found ≤ j) × (found ≡ count (targets_after (view_of h s) m i) j)
 
 abbrev decreases-loop : tie.decreases-loop
 decreases-loop s h m i n found₀ j₀ found j = n - j
@@ -38,11 +38,11 @@ loop-again c =
     let below = c.before.before.loop-test.true in
     let inv = c.before.before.before.loop.invariant in
     ⊎_elim (λ w. count_turn _ _ _ _ _ below inv.1 inv.2 c.before.targets-after.ensures w.0.taken w.1)
-    (λ w. count-pass _ _ _ _ _ below inv.1 inv.2 c.before.targets-after.ensures w.0.left w.1) c.if1.branch
+    (λ w. count_pass _ _ _ _ _ below inv.1 inv.2 c.before.targets-after.ensures w.0.left w.1) c.if1.branch
 
 returns : tie.Need-returns invariant-loop decreases-loop
-unfolding entriesAfter view_of
-returns c = (count-out _ _ _ c.before.loop.invariant.0 c.loop-test.false _ c.before.loop.invariant.2, omega (arith, c.before.before.before.requires.entries-most))
+unfolding entries_after view_of
+returns c = (count_out _ _ _ c.before.loop.invariant.0 c.loop-test.false _ c.before.loop.invariant.2, omega (arith, c.before.before.before.requires.entries_most))
 
 pub entries-edited-spec : {M : Type 1} → statement M
 entries-edited-spec =

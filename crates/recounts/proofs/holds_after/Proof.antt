@@ -2,7 +2,7 @@
 use mathlib.Core.Path.{sym, ◌∙◌}
 use borrow.Author.Rules.{rules}
 use borrow.Author.Tests.{eq-eqb, ne_eqb}
-use Rattle.layout.specs.Fields.{entryNameLength, entryParent, entryTarget}
+use Rattle.layout.specs.Fields.{entry_name_length, entry_parent, entry_target}
 use Rattle.layout.specs.RecordLaws.{field_of}
 use Rattle.layout.specs.View.{view_of}
 use Rattle.recounts.proofs.holds_after.Statement.{statement}
@@ -39,7 +39,7 @@ returns-4 c =
     simp (
       ne_eqb _ _ passed.before.before.if1.false,
       ne_eqb _ _ passed.if2.false,
-      eq-eqb _ _ (sym (field_of entryNameLength c.before.before.entry.ensures c.before.name-length.ensures.0) ∙ c.if4.true),
+      eq-eqb _ _ (sym (field_of entry_name_length c.before.before.entry.ensures c.before.name-length.ensures.0) ∙ c.if4.true),
     )
 
 parent-requires : tie.Need-parent-requires
@@ -53,8 +53,8 @@ returns-5 c =
     simp (
       ne_eqb _ _ passed.before.before.if1.false,
       ne_eqb _ _ passed.if2.false,
-      ne_eqb _ _ (λ e. c.before.before.if4.false (field_of entryNameLength entry.ensures c.before.before.before.name-length.ensures.0 ∙ e)),
-      ne_eqb _ _ (λ e. c.if5.true (field_of entryParent entry.ensures c.before.parent.ensures.0 ∙ e)),
+      ne_eqb _ _ (λ e. c.before.before.if4.false (field_of entry_name_length entry.ensures c.before.before.before.name-length.ensures.0 ∙ e)),
+      ne_eqb _ _ (λ e. c.if5.true (field_of entry_parent entry.ensures c.before.parent.ensures.0 ∙ e)),
     )
 
 target-requires : tie.Need-target-requires
@@ -72,10 +72,10 @@ returns-6 c =
     simp (
       ne_eqb _ _ passed.before.before.if1.false,
       ne_eqb _ _ passed.if2.false,
-      ne_eqb _ _ (λ e. named.if4.false (field_of entryNameLength entry.ensures named.before.name-length.ensures.0 ∙ e)),
-      eq-eqb _ _ (sym (field_of entryParent entry.ensures c.before.before.before.parent.ensures.0) ∙ c.before.before.if5.false),
+      ne_eqb _ _ (λ e. named.if4.false (field_of entry_name_length entry.ensures named.before.name-length.ensures.0 ∙ e)),
+      eq-eqb _ _ (sym (field_of entry_parent entry.ensures c.before.before.before.parent.ensures.0) ∙ c.before.before.if5.false),
       c.is-directory2.ensures,
-      field_of entryTarget entry.ensures c.before.target.ensures.0,
+      field_of entry_target entry.ensures c.before.target.ensures.0,
     )
 
 pub holds-after-spec : {M : Type 1} → statement M

@@ -3,7 +3,7 @@ use mathlib.Core.Path.{sym, ap, ◌∙◌}
 use Prim.Native.Nat.{◌+◌}
 use native.Mathlib.Omega.{arith}
 use borrow.Author.Rules.{rules}
-use Rattle.recounts.specs.Links.{links-directory, links-other}
+use Rattle.recounts.specs.Links.{links_directory, links_other}
 use Rattle.recounts.proofs.links_after.Statement.{statement}
 use Rattle.recounts.proofs.links_after.Tie as tie
 
@@ -19,7 +19,7 @@ add-result c = search rules
 returns : tie.Need-returns
 returns c =
     let taken = sym c.before.before.is-directory.ensures ∙ c.before.if1.true in
-    (ap (λ n. n + 2) c.children-after.ensures.0 ∙ sym (links-directory _ _ _ taken), omega arith)
+    (ap (λ n. n + 2) c.children-after.ensures.0 ∙ sym (links_directory _ _ _ taken), omega arith)
 
 entries-after-requires : tie.Need-entries-after-requires
 entries-after-requires c κs = search rules
@@ -27,7 +27,7 @@ entries-after-requires c κs = search rules
 returns-2 : tie.Need-returns-2
 returns-2 c =
     let left = sym c.before.before.is-directory.ensures ∙ c.before.if1.false in
-    (c.entries-after.ensures.0 ∙ sym (links-other _ _ _ left), omega arith)
+    (c.entries-after.ensures.0 ∙ sym (links_other _ _ _ left), omega arith)
 
 pub links-after-spec : {M : Type 1} → statement M
 links-after-spec =

@@ -2,7 +2,7 @@
 use mathlib.Core.Path.{sym, ◌∙◌}
 use borrow.Author.Rules.{rules}
 use borrow.Author.Tests.{eq-eqb, ne_eqb}
-use Rattle.layout.specs.Fields.{entryNameLength, entryTarget}
+use Rattle.layout.specs.Fields.{entry_name_length, entry_target}
 use Rattle.layout.specs.RecordLaws.{field_of}
 use Rattle.layout.specs.View.{view_of}
 use Rattle.recounts.proofs.targets_after.Statement.{statement}
@@ -27,7 +27,7 @@ returns-3 c =
     simp (
       ne_eqb _ _ passed.before.before.if1.false,
       ne_eqb _ _ passed.if2.false,
-      eq-eqb _ _ (sym (field_of entryNameLength c.before.before.entry.ensures c.before.name-length.ensures.0) ∙ c.if3.true),
+      eq-eqb _ _ (sym (field_of entry_name_length c.before.before.entry.ensures c.before.name-length.ensures.0) ∙ c.if3.true),
     )
 
 target-requires : tie.Need-target-requires
@@ -41,8 +41,8 @@ returns-4 c =
     simp (
       ne_eqb _ _ passed.before.before.if1.false,
       ne_eqb _ _ passed.if2.false,
-      ne_eqb _ _ (λ e. c.before.if3.false (field_of entryNameLength entry.ensures c.before.before.name-length.ensures.0 ∙ e)),
-      field_of entryTarget entry.ensures c.target.ensures.0,
+      ne_eqb _ _ (λ e. c.before.if3.false (field_of entry_name_length entry.ensures c.before.before.name-length.ensures.0 ∙ e)),
+      field_of entry_target entry.ensures c.target.ensures.0,
     )
 
 pub targets-after-spec : {M : Type 1} → statement M

@@ -2,7 +2,7 @@
 use mathlib.Core.Path.{refl, sym}
 use lib.Seq.{length-take-le}
 use Rattle.seq.specs.Truth.{fails, holds}
-use Rattle.recover.specs.Outs.{recovered-as, answers-pending, answers-unsound, answers-nothing}
+use Rattle.recover.specs.Outs.{recovered_as, answers_pending, answers_unsound, answers_nothing}
 use borrow.Author.Rules.{rules}
 use Rattle.recover.proofs.by_journal.Statement.{statement}
 use Rattle.recover.proofs.by_journal.Tie as tie
@@ -29,7 +29,7 @@ returns : tie.Need-returns
 returns c =
     let args = c.before.before.before.before.before.before.before.before.before.before.before.before.args in
     let set = fails c.before.before.before.before.before.before.before.before.journal-clear.ensures c.before.before.before.before.before.before.before.if1.true in
-    answers-pending args.plan.now args.scratch.now args.image.now args.h c.before.before.before.before.before.before.before.before.before.before.before.before.requires.2 set c.before.before.before.before.pending.ensures
+    answers_pending args.plan.now args.scratch.now args.image.now args.h c.before.before.before.before.before.before.before.before.before.before.before.before.requires.2 set c.before.before.before.before.pending.ensures
 
 bodies-good-requires : tie.Need-bodies-good-requires
 bodies-good-requires c κs = search rules
@@ -42,7 +42,7 @@ returns-2 c =
     let args = c.before.before.before.before.before.before.before.before.args in
     let clear = holds c.before.before.before.before.journal-clear.ensures c.before.before.before.if1.false in
     let bad = fails c.before.before.bodies-good.ensures c.before.if2.true in
-    recovered-as (answers-unsound args.plan.now args.scratch.now args.image.now args.h c.before.before.before.before.before.before.before.before.requires.0 clear bad) c.refused.ensures refl
+    recovered_as (answers_unsound args.plan.now args.scratch.now args.image.now args.h c.before.before.before.before.before.before.before.before.requires.0 clear bad) c.refused.ensures refl
 
 clear-requires : tie.Need-clear-requires
 clear-requires c κs = search rules
@@ -62,7 +62,7 @@ returns-3 c =
     let clear = holds c.before.before.before.before.before.before.before.before.before.before.before.journal-clear.ensures c.before.before.before.before.before.before.before.before.before.before.if1.false in
     let good = holds c.before.before.before.before.before.before.before.before.before.bodies-good.ensures c.before.before.before.before.before.before.before.before.if2.false in
     let zeroed = c.before.before.before.before.before.before.clear.ensures in
-    answers-nothing start.args.plan.now start.args.scratch.now start.args.image.now start.args.h start.requires.0 clear good zeroed c.before.before.copy.ensures
+    answers_nothing start.args.plan.now start.args.scratch.now start.args.image.now start.args.h start.requires.0 clear good zeroed c.before.before.copy.ensures
 
 pub by-journal-spec : {M : Type 1} → statement M
 by-journal-spec =

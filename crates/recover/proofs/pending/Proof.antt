@@ -1,11 +1,11 @@
 -- `recover::pending` meets its contract: a record that fits is settled. Assumes nothing.
 use mathlib.Core.Path.{refl, subst}
 use lib.ListN.{replicate}
-use Rattle.plan.specs.Form.{planBytes}
+use Rattle.plan.specs.Form.{plan_bytes}
 use Rattle.rename_drafts.specs.declared.drafted.Draft.{Draft}
 use Rattle.drafts.specs.Draft.{draft}
 use Rattle.rename_drafts.specs.Drafted.{Drafted}
-use Rattle.recover.specs.Outs.{recovered-as, answers-none, unfit-none}
+use Rattle.recover.specs.Outs.{recovered_as, answers_none, unfit_none}
 use borrow.Author.Rules.{rules}
 use Rattle.recover.proofs.pending.Statement.{statement}
 use Rattle.recover.proofs.pending.Tie as tie
@@ -36,7 +36,7 @@ settle-requires c κs =
     let args = c.before.before.before.before.before.before.before.before.before.before.before.before.args in
     let pre = c.before.before.before.before.before.before.before.before.before.before.before.before.requires in
     let make = c.before.before.before.before.before.before.before.make in
-    let drafted = subst (λ (f : Draft). Drafted args.h (replicate planBytes 0) (draft args.h args.image.now) f make.new.0) c.before.before.before.before.found.given.1 make.ensures in
+    let drafted = subst (λ (f : Draft). Drafted args.h (replicate plan_bytes 0) (draft args.h args.image.now) f make.new.0) c.before.before.before.before.found.given.1 make.ensures in
     (record { read = pre.0; drafted = drafted }, search rules, search rules)
 
 same_length : tie.Need-same-length
@@ -47,9 +47,9 @@ returns c =
     let args = c.before.before.before.before.before.before.before.before.before.before.before.before.before.args in
     let pre = c.before.before.before.before.before.before.before.before.before.before.before.before.before.requires in
     let make = c.before.before.before.before.before.before.before.before.make in
-    let drafted = subst (λ (f : Draft). Drafted args.h (replicate planBytes 0) (draft args.h args.image.now) f make.new.0) c.before.before.before.before.before.enum_told.given.1 make.ensures in
-    let none = unfit-none args.h args.image.now (replicate planBytes 0) make.new.0 drafted in
-    recovered-as (answers-none args.plan.now args.scratch.now args.image.now args.h pre.2 none _ c.before.before.before.clear.ensures) c.refused.ensures refl
+    let drafted = subst (λ (f : Draft). Drafted args.h (replicate plan_bytes 0) (draft args.h args.image.now) f make.new.0) c.before.before.before.before.before.enum_told.given.1 make.ensures in
+    let none = unfit_none args.h args.image.now (replicate plan_bytes 0) make.new.0 drafted in
+    recovered_as (answers_none args.plan.now args.scratch.now args.image.now args.h pre.2 none _ c.before.before.before.clear.ensures) c.refused.ensures refl
 
 same-length-2 : tie.Need-same-length-2
 same-length-2 c = search rules

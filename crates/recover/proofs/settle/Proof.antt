@@ -3,8 +3,8 @@ use mathlib.Core.Path.{refl, sym, ap, ◌∙◌}
 use mathlib.Core.List.{List}
 use Prim.Native.Nat.{ℕ}
 use native.Mathlib.Omega.{arith}
-use Rattle.recover.specs.Outcome.{appliedFrom}
-use Rattle.recover.specs.Outs.{recovered-as, ready-exact, settle-refused, settle-done}
+use Rattle.recover.specs.Outcome.{applied_from}
+use Rattle.recover.specs.Outs.{recovered_as, ready_exact, settle_refused, settle_done}
 use borrow.Author.Rules.{rules}
 use Rattle.recover.proofs.settle.Statement.{statement}
 use Rattle.recover.proofs.settle.Tie as tie
@@ -32,13 +32,13 @@ returns c =
     let args = c.before.before.before.before.before.before.before.before.before.before.before.before.before.before.before.before.before.before.before.before.args in
     let pre = c.before.before.before.before.before.before.before.before.before.before.before.before.before.before.before.before.before.before.before.before.requires in
     let copied = c.before.before.before.before.before.before.before.before.before.before.before.before.before.before.copy.ensures in
-    let outcome = c.before.before.before.before.before.before.before.before.before.before.apply.ensures ∙ ap (λ (xs : List ℕ). appliedFrom xs args.draft.now 0 args.rows) copied in
-    recovered-as (settle-refused args.plan.now args.scratch.now args.image.now args.h pre.2 pre.1 pre.0.read args.rows args.draft.now pre.0 _
+    let outcome = c.before.before.before.before.before.before.before.before.before.before.apply.ensures ∙ ap (λ (xs : List ℕ). applied_from xs args.draft.now 0 args.rows) copied in
+    recovered_as (settle_refused args.plan.now args.scratch.now args.image.now args.h pre.2 pre.1 pre.0.read args.rows args.draft.now pre.0 _
     outcome (λ z. c.before.before.before.before.before.if1.true (c.before.before.before.before.before.before.check.ensures ∙ z)) _ c.before.before.before.clear.ensures) c.refused.ensures refl
 
 copy-requires-2 : tie.Need-copy-requires-2
 copy-requires-2 c κs = let pre = c.before.before.before.before.before.before.before.before.before.before.before.before.before.before.before.before.requires in
-    omega (arith, pre.1, ready-exact pre.0)
+    omega (arith, pre.1, ready_exact pre.0)
 
 same-length-2 : tie.Need-same-length-2
 same-length-2 c = search rules
@@ -51,9 +51,9 @@ returns-2 c =
     let args = c.before.before.before.before.before.before.before.before.before.before.before.before.before.before.before.before.before.before.before.args in
     let pre = c.before.before.before.before.before.before.before.before.before.before.before.before.before.before.before.before.before.before.before.requires in
     let copied = c.before.before.before.before.before.before.before.before.before.before.before.before.before.copy.ensures in
-    let outcome = c.before.before.before.before.before.before.before.before.before.apply.ensures ∙ ap (λ (xs : List ℕ). appliedFrom xs args.draft.now 0 args.rows) copied in
+    let outcome = c.before.before.before.before.before.before.before.before.before.apply.ensures ∙ ap (λ (xs : List ℕ). applied_from xs args.draft.now 0 args.rows) copied in
     let good = sym c.before.before.before.before.before.check.ensures ∙ c.before.before.before.before.if1.false in
-    settle-done args.plan.now args.scratch.now args.image.now args.h pre.2 pre.1 pre.0.read args.rows args.draft.now pre.0 _ outcome good _
+    settle_done args.plan.now args.scratch.now args.image.now args.h pre.2 pre.1 pre.0.read args.rows args.draft.now pre.0 _ outcome good _
     c.before.before.copy2.ensures
 
 pub settle-spec : {M : Type 1} → statement M

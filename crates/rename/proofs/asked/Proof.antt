@@ -1,7 +1,7 @@
 -- `rename::asked` meets its contract: the records, the request and its flags. Assumes nothing.
 use mathlib.Core.Path.{sym, ◌∙◌}
 use Rattle.seq.specs.Truth.{fails, holds}
-use Rattle.rename.specs.Outs.{answers-as, answers-records, answers-request, answers-flags}
+use Rattle.rename.specs.Outs.{answers_as, answers_records, answers_request, answers_flags}
 use borrow.Author.Rules.{rules}
 use Rattle.rename.proofs.asked.Statement.{statement}
 use Rattle.rename.proofs.asked.Tie as tie
@@ -16,7 +16,7 @@ returns : tie.Need-returns
 returns c =
     let args = c.before.before.before.before.before.before.before.args in
     let pre = c.before.before.before.before.before.before.before.requires in
-    answers-as (answers-records args.image.now args.plan.now args.q args.old.now args.new.now pre.0 args.h pre.1 _ c.before.before.records-number.ensures c.before.if1.true) c.refused.ensures
+    answers_as (answers_records args.image.now args.plan.now args.q args.old.now args.new.now pre.0 args.h pre.1 _ c.before.before.records-number.ensures c.before.if1.true) c.refused.ensures
 
 good-requires : tie.Need-good-requires
 good-requires c κs = search rules
@@ -29,7 +29,7 @@ returns-2 c =
     let args = c.before.before.before.before.before.before.before.before.before.args in
     let pre = c.before.before.before.before.before.before.before.before.before.requires in
     let fine = sym c.before.before.before.before.records-number.ensures ∙ c.before.before.before.if1.false in
-    answers-as (answers-request args.image.now args.plan.now args.q args.old.now args.new.now pre.0 args.h pre.1 fine (fails c.before.before.good2.ensures c.before.if2.true)) c.refused2.ensures
+    answers_as (answers_request args.image.now args.plan.now args.q args.old.now args.new.now pre.0 args.h pre.1 fine (fails c.before.before.good2.ensures c.before.if2.true)) c.refused2.ensures
 
 good-requires-2 : tie.Need-good-requires-2
 good-requires-2 c κs = search rules
@@ -43,7 +43,7 @@ returns-3 c =
     let args = start.args in
     let fine = sym c.before.before.before.before.before.before.records-number.ensures ∙ c.before.before.before.before.before.if1.false in
     let good = holds c.before.before.before.before.good2.ensures c.before.before.before.if2.false in
-    answers-as (answers-flags args.image.now args.plan.now args.q args.old.now args.new.now start.requires.0 args.h start.requires.1 fine good (fails c.before.before.good3.ensures c.before.if3.true))
+    answers_as (answers_flags args.image.now args.plan.now args.q args.old.now args.new.now start.requires.0 args.h start.requires.1 fine good (fails c.before.before.good3.ensures c.before.if3.true))
     c.refused3.ensures
 
 walked-requires : tie.Need-walked-requires

@@ -3,7 +3,7 @@ use mathlib.Core.Path.{◌≡◌, sym, subst}
 use lib.ListN.{length}
 use borrow.Author.Rules.{rules}
 use Rattle.recounts.specs.declared.Move.{Move}
-use Rattle.exchanges.specs.Exchange.{exchangeRows, exchangePlanned}
+use Rattle.exchanges.specs.Exchange.{exchange_rows, exchange_planned}
 use Rattle.exchanges.specs.InImage.{BothInImage}
 use Rattle.rename.proofs.exchange.Statement.{statement}
 use Rattle.rename.proofs.exchange.Tie as tie
@@ -22,8 +22,8 @@ same_length c = search rules
 returns : tie.Need-returns
 returns c =
     let args = c.before.before.before.before.before.before.before.args in
-    subst (λ (m : Move). (c.before.before.fill.new.0 ≡ exchangePlanned args.h args.image.now m args.plan.now)
-    × (c.before.before.fill.result ≡ length (exchangeRows args.h args.image.now m)))
+    subst (λ (m : Move). (c.before.before.fill.new.0 ≡ exchange_planned args.h args.image.now m args.plan.now)
+    × (c.before.before.fill.result ≡ length (exchange_rows args.h args.image.now m)))
     c.before.before.before.exchange-of.ensures c.before.before.fill.ensures
 
 pub exchange-spec : {M : Type 1} → statement M

@@ -1,7 +1,7 @@
 -- `rename::rename` meets its contract: a short plan and a bad layout come first. Assumes nothing.
 use mathlib.Core.Path.{sym, ◌∙◌}
-use Rattle.layout.specs.ContentsLaws.{contents-good, contents-bad}
-use Rattle.rename.specs.Outs.{answers-as, answers-short, answers-layout}
+use Rattle.layout.specs.ContentsLaws.{contents_good, contents_bad}
+use Rattle.rename.specs.Outs.{answers_as, answers_short, answers_layout}
 use borrow.Author.Rules.{rules}
 use Rattle.rename.proofs.rename.Statement.{statement}
 use Rattle.rename.proofs.rename.Tie as tie
@@ -12,7 +12,7 @@ refused-requires c κs = search rules
 returns : tie.Need-returns
 returns c =
     let args = c.before.before.before.before.before.before.args in
-    answers-as (answers-short args.image.now args.plan.now args.q args.old.now args.new.now c.before.if1.true) c.refused.ensures
+    answers_as (answers_short args.image.now args.plan.now args.q args.old.now args.new.now c.before.if1.true) c.refused.ensures
 
 read-requires : tie.Need-read-requires
 read-requires c κs = search rules
@@ -29,13 +29,13 @@ enum-known-found c = search rules
 asked-requires : tie.Need-asked-requires
 asked-requires c κs =
     let read = c.before.before.before.before.read in
-    (search rules, contents-good _ _ (sym read.ensures ∙ c.before.before.found.given.1))
+    (search rules, contents_good _ _ (sym read.ensures ∙ c.before.before.found.given.1))
 
 returns-2 : tie.Need-returns-2
 returns-2 c =
     let args = c.before.before.before.before.before.before.before.before.before.args in
-    let bad = contents-bad _ (sym c.before.before.before.read.ensures ∙ c.before.enum_told.given.1) in
-    answers-as (answers-layout args.image.now args.plan.now args.q args.old.now args.new.now c.before.before.before.before.if1.false bad) c.refused2.ensures
+    let bad = contents_bad _ (sym c.before.before.before.read.ensures ∙ c.before.enum_told.given.1) in
+    answers_as (answers_layout args.image.now args.plan.now args.q args.old.now args.new.now c.before.before.before.before.if1.false bad) c.refused2.ensures
 
 same_length : tie.Need-same-length
 same_length c = search rules

@@ -1,5 +1,5 @@
 -- `rename::walked` meets its contract: a walk refuses, or the steps answer. Assumes nothing.
-use Rattle.rename.specs.Walked.{image-readable, refused-walk, walked-case, steps-refuse, case_same, walked-move, planned-name, steps-plan, walked-exchange, steps-exchange}
+use Rattle.rename.specs.Walked.{image_readable, refused_walk, walked_case, steps_refuse, case_same, walked_move, planned_name, steps_plan, walked_exchange, steps_exchange}
 use Rattle.rename.specs.Answers.{WalksBegin}
 use borrow.Author.Rules.{rules}
 use Rattle.rename.proofs.walked.Statement.{statement}
@@ -16,17 +16,17 @@ given : (c : tie.Start) → WalksBegin c.args.image.now c.args.plan.now c.args.q
 given c = record { long = c.requires.0; read = c.requires.1; fine = c.requires.2; good = c.requires.3; flags = c.requires.4 }
 
 both-requires : tie.Need-both-requires
-both-requires c κs = (image-readable (given c.before.before.before.before), c.before.before.before.before.requires.3)
+both-requires c κs = (image_readable (given c.before.before.before.before), c.before.before.before.before.requires.3)
 
 returns : tie.Need-returns
-returns c = refused-walk (given c.before.before.before.before.before.before.before.before.before) c.before.before.before.before.both.ensures c.if1.true
+returns c = refused_walk (given c.before.before.before.before.before.before.before.before.before) c.before.before.before.before.both.ensures c.if1.true
 
 case-of-requires : tie.Need-case-of-requires
 case-of-requires c κs = search rules
 
 judge-requires : tie.Need-judge-requires
 judge-requires c κs = let known = given c.before.before.before.before.before.before.before.before.before.before in
-    (image-readable known, walked-case known c.before.before.before.before.before.both.ensures c.before.if1.false c.case-of.ensures)
+    (image_readable known, walked_case known c.before.before.before.before.before.both.ensures c.before.if1.false c.case-of.ensures)
 
 enum-known-answer : tie.Need-enum-known-answer
 enum-known-answer c = search rules
@@ -48,7 +48,7 @@ write-requires c κs =
     let is = at.before.case-of.ensures in
     let judged = at.judge.ensures in
     let planned = c.before.enum-told2.given.1 in
-    ((start at).requires.0, (start at).requires.1.laid, both.new.range, walked-move (given (start at)) both none is judged planned, planned-name (given (start at)) both none is judged planned)
+    ((start at).requires.0, (start at).requires.1.laid, both.new.range, walked_move (given (start at)) both none is judged planned, planned_name (given (start at)) both none is judged planned)
 
 enum-told-3 : tie.Need-enum-told-3
 enum-told-3 c = search rules
@@ -60,7 +60,7 @@ exchange-requires c κs =
     let none = at.before.before.if1.false in
     let is = at.before.case-of.ensures in
     let judged = at.judge.ensures in
-    ((start at).requires.0, (start at).requires.1.laid, walked-exchange (given (start at)) both none is judged c.before.enum-told3.given.1)
+    ((start at).requires.0, (start at).requires.1.laid, walked_exchange (given (start at)) both none is judged c.before.enum-told3.given.1)
 
 returns-2 : tie.Need-returns-2
 returns-2 c =
@@ -69,7 +69,7 @@ returns-2 c =
     let none = at.before.before.if1.false in
     let is = at.before.case-of.ensures in
     let judged = at.judge.ensures in
-    steps-refuse (given (start at)) both none is judged _ c.before.answer.given.1
+    steps_refuse (given (start at)) both none is judged _ c.before.answer.given.1
 
 same_length : tie.Need-same-length
 same_length c = search rules
@@ -93,7 +93,7 @@ returns-4 c =
     let none = at.before.before.if1.false in
     let is = at.before.case-of.ensures in
     let judged = at.judge.ensures in
-    steps-plan (given (start at)) both none is judged c.before.before.before.before.enum-told2.given.1 _ _ c.before.before.write.ensures
+    steps_plan (given (start at)) both none is judged c.before.before.before.before.enum-told2.given.1 _ _ c.before.before.write.ensures
 
 same-length-3 : tie.Need-same-length-3
 same-length-3 c = search rules
@@ -105,7 +105,7 @@ returns-5 c =
     let none = at.before.before.if1.false in
     let is = at.before.case-of.ensures in
     let judged = at.judge.ensures in
-    steps-exchange (given (start at)) both none is judged c.before.before.before.before.enum-told3.given.1 _ _ c.before.before.exchange.ensures
+    steps_exchange (given (start at)) both none is judged c.before.before.before.before.enum-told3.given.1 _ _ c.before.before.exchange.ensures
 
 pub walked-spec : {M : Type 1} → statement M
 walked-spec =

@@ -1,7 +1,7 @@
 -- `rename_drafts::different` meets its contract. Assumes nothing.
 use mathlib.Core.Path.{sym}
 use borrow.Author.Tests.{eq-eqb, ne_eqb}
-use Rattle.rename_drafts.specs.Fit.{different-last}
+use Rattle.rename_drafts.specs.Fit.{different_last}
 use Rattle.rename_drafts.proofs.different.Statement.{statement}
 use Rattle.rename_drafts.proofs.different.Tie as tie
 
@@ -30,7 +30,7 @@ returns-5 c =
     let third = fourth.before.before in
     let second = third.before.before in
     let first = second.before.before in
-    sym (different-last first.before.before.args.j first.if1.false second.if2.false third.if3.false fourth.if4.false)
+    sym (different_last first.before.before.args.j first.if1.false second.if2.false third.if3.false fourth.if4.false)
 
 pub different-spec : {M : Type 1} → statement M
 different-spec = tie.close (tie.spec returns returns-2 returns-3 returns-4 returns-5)

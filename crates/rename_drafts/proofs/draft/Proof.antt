@@ -4,10 +4,10 @@ use mathlib.Core.Bool.{true}
 use borrow.Author.Rules.{rules}
 use Rattle.seq.specs.Truth.{fails, holds}
 use Rattle.layout.specs.View.{View, view_of}
-use Rattle.plan.specs.WriteLaws.{filled-one}
-use Rattle.results.specs.Results.{clearRow}
-use Rattle.rename_drafts.specs.PendingRename.{renameFits, entryStands, intoGood, moveDraft, renameDraft}
-use Rattle.rename_drafts.specs.Fit.{fits-new, move_new, move-image, rename-move, rename-unfit, move-undone, move-unfit, move-finished}
+use Rattle.plan.specs.WriteLaws.{filled_one}
+use Rattle.results.specs.Results.{clear_row}
+use Rattle.rename_drafts.specs.PendingRename.{rename_fits, entry_stands, into_good, move_draft, rename_draft}
+use Rattle.rename_drafts.specs.Fit.{fits_new, move_new, move_image, rename_move, rename_unfit, move_undone, move_unfit, move_finished}
 use Rattle.rename_drafts.proofs.draft.Statement.{statement}
 use Rattle.rename_drafts.proofs.draft.Tie as tie
 
@@ -18,21 +18,21 @@ abbrev view : tie.Else1 → View
 view c = view_of (start c).args.h (start c).args.image.now
 
 -- what the tests that were passed say
-fit : (c : tie.Else1) → renameFits (start c).args.h (start c).args.image.now (start c).args.j ≡ true
+fit : (c : tie.Else1) → rename_fits (start c).args.h (start c).args.image.now (start c).args.j ≡ true
 fit c = holds c.before.fits2.ensures c.if1.false
 
-done : (c : tie.Else2) → entryStands (view c.before.before.before) c.before.before.move-from.result ≡ true
+done : (c : tie.Else2) → entry_stands (view c.before.before.before) c.before.before.move-from.result ≡ true
 done c = holds c.before.entry-stands.ensures c.if2.false
 
-good : (c : tie.Else3) → intoGood (view c.before.before.before.before.before) c.before.before.before.before.move-from.result ≡ true
+good : (c : tie.Else3) → into_good (view c.before.before.before.before.before) c.before.before.before.before.move-from.result ≡ true
 good c = holds c.before.into-good.ensures c.if3.false
 
 -- so the draft is that of the record's move
-of-move : (c : tie.After-move-from) → renameDraft (start c.before).args.h (start c.before).args.image.now (start c.before).args.j
-    ≡ moveDraft (start c.before).args.h (start c.before).args.image.now c.move-from.result
+of-move : (c : tie.After-move-from) → rename_draft (start c.before).args.h (start c.before).args.image.now (start c.before).args.j
+    ≡ move_draft (start c.before).args.h (start c.before).args.image.now c.move-from.result
 of-move c =
     let args = (start c.before).args in
-    rename-move args.h args.image.now args.j (fit c.before) _ c.move-from.ensures
+    rename_move args.h args.image.now args.j (fit c.before) _ c.move-from.ensures
 
 fits-requires : tie.Need-fits-requires
 fits-requires c κs = search rules
@@ -40,12 +40,12 @@ fits-requires c κs = search rules
 returns : tie.Need-returns
 returns c =
     let args = c.before.before.before.before.args in
-    rw (rename-unfit args.h args.image.now args.j (fails c.before.fits2.ensures c.if1.true)) tt
+    rw (rename_unfit args.h args.image.now args.j (fails c.before.fits2.ensures c.if1.true)) tt
 
 move-from-requires : tie.Need-move-from-requires
 move-from-requires c κs =
     let args = (start c).args in
-    (search rules, fits-new args.h args.image.now args.j (fit c))
+    (search rules, fits_new args.h args.image.now args.j (fit c))
 
 entry-stands-requires : tie.Need-entry-stands-requires
 entry-stands-requires c κs =
@@ -64,8 +64,8 @@ returns-2 c =
     let asked = cleared.before.before in
     let moved = asked.before.before in
     let args = (start moved.before).args in
-    rw (of-move moved ∙ move-undone args.h args.image.now _ (fails asked.before.entry-stands.ensures asked.if2.true))
-    (filled-one args.h (clearRow args.h) cleared.put-clear.ensures)
+    rw (of-move moved ∙ move_undone args.h args.image.now _ (fails asked.before.entry-stands.ensures asked.if2.true))
+    (filled_one args.h (clear_row args.h) cleared.put-clear.ensures)
 
 into-good-requires : tie.Need-into-good-requires
 into-good-requires c κs = search rules
@@ -75,13 +75,13 @@ returns-3 c =
     let asked = c.before.before in
     let moved = asked.before.before in
     let args = (start moved.before).args in
-    rw (of-move moved ∙ move-unfit args.h args.image.now _ (done asked) (fails c.before.into-good.ensures c.if3.true)) tt
+    rw (of-move moved ∙ move_unfit args.h args.image.now _ (done asked) (fails c.before.into-good.ensures c.if3.true)) tt
 
 finish-requires : tie.Need-finish-requires
 finish-requires c κs =
     let moved = c.before.before.before.before.before in
     let args = (start moved.before).args in
-    (search rules, search rules, move-image args.h args.image.now args.j (fit moved.before) _ moved.move-from.ensures (good c.before))
+    (search rules, search rules, move_image args.h args.image.now args.j (fit moved.before) _ moved.move-from.ensures (good c.before))
 
 same-length-2 : tie.Need-same-length-2
 same-length-2 c = search rules
@@ -92,7 +92,7 @@ returns-4 c =
     let asked = finished.before.before in
     let moved = asked.before.before.before.before in
     let args = (start moved.before).args in
-    rw (of-move moved ∙ move-finished args.h args.image.now _ (done asked.before.before) (good asked))
+    rw (of-move moved ∙ move_finished args.h args.image.now _ (done asked.before.before) (good asked))
     finished.finish.ensures
 
 pub draft-spec : {M : Type 1} → statement M

@@ -2,8 +2,8 @@
 use native.Mathlib.Omega.{arith}
 use borrow.Author.Rules.{rules}
 use Rattle.results.specs.Results.{results}
-use Rattle.results.specs.ResultRows.{results-le}
-use Rattle.rename_drafts.specs.ClearedLaws.{rows-below, cleared-filled}
+use Rattle.results.specs.ResultRows.{results_le}
+use Rattle.rename_drafts.specs.ClearedLaws.{rows_below, cleared_filled}
 use Rattle.rename_drafts.proofs.finish.Statement.{statement}
 use Rattle.rename_drafts.proofs.finish.Tie as tie
 
@@ -14,13 +14,13 @@ put-clear-requires : tie.Need-put-clear-requires
 put-clear-requires c κs =
     let made = c.before.before.before in
     let args = made.before.before.before.before.args in
-    (search rules, rows-below args.h (results args.h args.image.now args.m) (results-le args.h args.image.now args.m) made.put.ensures, search rules)
+    (search rules, rows_below args.h (results args.h args.image.now args.m) (results_le args.h args.image.now args.m) made.put.ensures, search rules)
 
 add-result : tie.Need-overflow-add-result
 add-result c =
     let made = c.before.before.before.before.before.before in
     let args = made.before.before.before.before.args in
-    let l = rows-below args.h (results args.h args.image.now args.m) (results-le args.h args.image.now args.m) made.put.ensures in
+    let l = rows_below args.h (results args.h args.image.now args.m) (results_le args.h args.image.now args.m) made.put.ensures in
     omega arith
 
 same_length : tie.Need-same-length
@@ -31,7 +31,7 @@ returns c =
     let cleared = c.before.before in
     let made = cleared.before.before.before.before in
     let args = made.before.before.before.before.args in
-    cleared-filled args.h (results args.h args.image.now args.m) (results-le args.h args.image.now args.m) made.put.ensures cleared.put-clear.ensures
+    cleared_filled args.h (results args.h args.image.now args.m) (results_le args.h args.image.now args.m) made.put.ensures cleared.put-clear.ensures
 
 pub finish_spec : {M : Type 1} → statement M
 finish_spec = tie.close (tie.spec put-requires put-clear-requires add-result same_length returns)

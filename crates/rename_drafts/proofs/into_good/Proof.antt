@@ -2,7 +2,7 @@
 use borrow.Author.Tests.{eq-eqb, ne_eqb}
 use borrow.Author.Rules.{rules}
 use Rattle.seq.specs.Truth.{fails, holds}
-use Rattle.rename_drafts.specs.PendingRename.{intoGood}
+use Rattle.rename_drafts.specs.PendingRename.{into_good}
 use Rattle.rename_drafts.proofs.into_good.Statement.{statement}
 use Rattle.rename_drafts.proofs.into_good.Tie as tie
 
@@ -10,17 +10,17 @@ is-directory-requires : tie.Need-is-directory-requires
 is-directory-requires c κs = search rules
 
 returns : tie.Need-returns
-unfolding intoGood
+unfolding into_good
 returns c = simp (fails c.before.is-directory.ensures c.if1.true)
 
 returns-2 : tie.Need-returns-2
-unfolding intoGood
+unfolding into_good
 returns-2 c =
     let asked = c.before.before in
     simp (holds asked.before.is-directory.ensures asked.if1.false, eq-eqb _ _ c.if2.true)
 
 returns-3 : tie.Need-returns-3
-unfolding intoGood
+unfolding into_good
 returns-3 c =
     let other = c.before in
     let asked = other.before.before in

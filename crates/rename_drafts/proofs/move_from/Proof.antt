@@ -1,7 +1,7 @@
 -- `rename_drafts::move_from` meets its contract. Assumes nothing.
 use borrow.Author.Rules.{rules}
 use Rattle.layout.specs.View.{view_of}
-use Rattle.layout.specs.Fields.{entryParent}
+use Rattle.layout.specs.Fields.{entry_parent}
 use Rattle.layout.specs.RecordLaws.{field_of}
 use Rattle.rename_drafts.proofs.move_from.Statement.{statement}
 use Rattle.rename_drafts.proofs.move_from.Tie as tie
@@ -16,7 +16,7 @@ returns : tie.Need-returns
 unfolding view_of
 returns c =
     let j = c.before.before.before.args.j in
-    let into = field_of entryParent c.before.entry.ensures c.parent.ensures.0 in
+    let into = field_of entry_parent c.before.entry.ensures c.parent.ensures.0 in
     λ i. record {
       old = j.old;
       new = j.new;

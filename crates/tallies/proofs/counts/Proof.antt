@@ -6,21 +6,21 @@ use native.Mathlib.Omega.{arith}
 use borrow.Author.Rules.{rules}
 use Rattle.layout.specs.View.{view_of}
 use Rattle.tables.specs.Table.{Table, tally}
-use Rattle.tables.specs.TableLaws.{tally-le, tally-turn}
-use Rattle.tallies.specs.Tallies.{targetSlot, holderSlot}
-use Rattle.tallies.specs.TalliesLaws.{tally-blank, entry-counts-are, child-counts-are}
+use Rattle.tables.specs.TableLaws.{tally_le, tally_turn}
+use Rattle.tallies.specs.Tallies.{target_slot, holder_slot}
+use Rattle.tallies.specs.TalliesLaws.{tally_blank, entry_counts_are, child_counts_are}
 use Rattle.tallies.proofs.counts.Statement.{statement}
 use Rattle.tallies.proofs.counts.Tie as tie
 
 abbrev invariant-loop : tie.invariant-loop
 invariant-loop image h entries₀ children₀ n j₀ entries children j =
-    (j ≤ n) × Table (tally (targetSlot (view_of h image)) j) 513 entries × Table (tally (holderSlot (view_of h image)) j) 513 children
+    (j ≤ n) × Table (tally (target_slot (view_of h image)) j) 513 entries × Table (tally (holder_slot (view_of h image)) j) 513 children
 
 abbrev decreases-loop : tie.decreases-loop
 decreases-loop image h entries₀ children₀ n j₀ entries children j = n - j
 
 loop-holds : tie.Need-loop-init invariant-loop decreases-loop
-loop-holds c = (search rules, tally-blank _ _ _ c.before.requires.1, tally-blank _ _ _ c.before.requires.2)
+loop-holds c = (search rules, tally_blank _ _ _ c.before.requires.1, tally_blank _ _ _ c.before.requires.2)
 
 target-slot-requires : tie.Need-target-slot-requires invariant-loop decreases-loop
 target-slot-requires c κs = search rules
@@ -35,7 +35,7 @@ add-entries : tie.Need-overflow-add-entries invariant-loop decreases-loop
 add-entries c =
     let args = c.before.before.before.before.before.args in
     let t = c.before.before.before.loop.invariant.1.at c.before.target-slot.result (omega arith) in
-    omega (arith, tally-le (targetSlot (view_of args.h args.image.now)) c.before.before.before.loop.j c.before.target-slot.result)
+    omega (arith, tally_le (target_slot (view_of args.h args.image.now)) c.before.before.before.loop.j c.before.target-slot.result)
 
 element-write-entries : tie.Need-element-write-entries invariant-loop decreases-loop
 element-write-entries c = search rules
@@ -53,7 +53,7 @@ add-children : tie.Need-overflow-add-children invariant-loop decreases-loop
 add-children c =
     let args = c.before.before.before.before.before.before.before.args in
     let t = c.before.before.before.before.before.loop.invariant.2.at c.before.holder-slot.result (omega arith) in
-    omega (arith, tally-le (holderSlot (view_of args.h args.image.now)) c.before.before.before.before.before.loop.j c.before.holder-slot.result)
+    omega (arith, tally_le (holder_slot (view_of args.h args.image.now)) c.before.before.before.before.before.loop.j c.before.holder-slot.result)
 
 element-write-children : tie.Need-element-write-children invariant-loop decreases-loop
 element-write-children c = search rules
@@ -69,14 +69,14 @@ loop-again c =
     let inv = c.before.before.before.before.before.loop.invariant in
     let e = c.before.before.before.target-slot.ensures.0 in
     let d = c.before.holder-slot.ensures.0 in
-    (search rules, rw e (tally-turn _ _ _ _ inv.1 (omega arith)), rw d (tally-turn _ _ _ _ inv.2 (omega arith)))
+    (search rules, rw e (tally_turn _ _ _ _ inv.1 (omega arith)), rw d (tally_turn _ _ _ _ inv.2 (omega arith)))
 
 returns : tie.Need-returns invariant-loop decreases-loop
 returns c =
     let args = c.before.before.before.args in
     let e : c.before.loop.j ≡ args.h.entries = omega arith in (
-      entry-counts-are args.h args.image.now c.before.before.before.requires.0 _ (rw e at c.before.loop.invariant.1),
-      child-counts-are args.h args.image.now c.before.before.before.requires.0 _ (rw e at c.before.loop.invariant.2),
+      entry_counts_are args.h args.image.now c.before.before.before.requires.0 _ (rw e at c.before.loop.invariant.1),
+      child_counts_are args.h args.image.now c.before.before.before.requires.0 _ (rw e at c.before.loop.invariant.2),
     )
 
 pub counts-spec : {M : Type 1} → statement M

@@ -4,8 +4,8 @@ use borrow.Author.Tests.{eq-eqb, ne_eqb, lt-ltb, le-ltb}
 use borrow.Author.Rules.{rules}
 use Rattle.layout.specs.RecordLaws.{field_of}
 use Rattle.layout.specs.View.{view_of}
-use Rattle.layout.specs.Fields.{entryNameLength, entryTarget}
-use Rattle.tallies.specs.Tallies.{targetSlot}
+use Rattle.layout.specs.Fields.{entry_name_length, entry_target}
+use Rattle.tallies.specs.Tallies.{target_slot}
 use Rattle.tallies.proofs.target_slot.Statement.{statement}
 use Rattle.tallies.proofs.target_slot.Tie as tie
 
@@ -16,9 +16,9 @@ name-length-requires : tie.Need-name-length-requires
 name-length-requires c κs = search rules
 
 returns : tie.Need-returns
-unfolding targetSlot view_of
+unfolding target_slot view_of
 returns c = (
-  simp (eq-eqb _ _ (sym (field_of entryNameLength c.before.before.entry.ensures c.before.name-length.ensures.0) ∙ c.if1.true)),
+  simp (eq-eqb _ _ (sym (field_of entry_name_length c.before.before.entry.ensures c.before.name-length.ensures.0) ∙ c.if1.true)),
   search rules,
 )
 
@@ -26,14 +26,14 @@ target-requires : tie.Need-target-requires
 target-requires c κs = search rules
 
 returns-2 : tie.Need-returns-2
-unfolding targetSlot view_of
+unfolding target_slot view_of
 returns-2 c =
-    (simp (ne_eqb _ _ (λ e. c.before.before.before.if1.false (field_of entryNameLength c.before.before.before.before.before.entry.ensures c.before.before.before.before.name-length.ensures.0 ∙ e)), le-ltb _ _ (rw (field_of entryTarget c.before.before.before.before.before.entry.ensures c.before.before.target.ensures.0) at c.if2.true)), search rules)
+    (simp (ne_eqb _ _ (λ e. c.before.before.before.if1.false (field_of entry_name_length c.before.before.before.before.before.entry.ensures c.before.before.before.before.name-length.ensures.0 ∙ e)), le-ltb _ _ (rw (field_of entry_target c.before.before.before.before.before.entry.ensures c.before.before.target.ensures.0) at c.if2.true)), search rules)
 
 returns-3 : tie.Need-returns-3
-unfolding targetSlot view_of
+unfolding target_slot view_of
 returns-3 c =
-    (simp (ne_eqb _ _ (λ e. c.before.before.before.if1.false (field_of entryNameLength c.before.before.before.before.before.entry.ensures c.before.before.before.before.name-length.ensures.0 ∙ e)), lt-ltb _ _ (rw (field_of entryTarget c.before.before.before.before.before.entry.ensures c.before.before.target.ensures.0) at c.if2.false), field_of entryTarget c.before.before.before.before.before.entry.ensures c.before.before.target.ensures.0), search rules)
+    (simp (ne_eqb _ _ (λ e. c.before.before.before.if1.false (field_of entry_name_length c.before.before.before.before.before.entry.ensures c.before.before.before.before.name-length.ensures.0 ∙ e)), lt-ltb _ _ (rw (field_of entry_target c.before.before.before.before.before.entry.ensures c.before.before.target.ensures.0) at c.if2.false), field_of entry_target c.before.before.before.before.before.entry.ensures c.before.before.target.ensures.0), search rules)
 
 pub target-slot-spec : {M : Type 1} → statement M
 target-slot-spec =

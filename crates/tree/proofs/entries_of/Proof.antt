@@ -5,9 +5,9 @@ use mathlib.Core.Logic.{⊎_elim}
 use Prim.Native.Nat.{◌≤◌, ◌-◌}
 use borrow.Author.Rules.{rules}
 use Rattle.seq.specs.Search.{count}
-use Rattle.seq.specs.SearchLaws.{count_none, count_turn, count-pass, count-out}
+use Rattle.seq.specs.SearchLaws.{count_none, count_turn, count_pass, count_out}
 use Rattle.layout.specs.View.{view_of}
-use Rattle.tree.specs.Tree.{targets, entriesOf}
+use Rattle.tree.specs.Tree.{targets, entries_of}
 use Rattle.tree.proofs.entries_of.Statement.{statement}
 use Rattle.tree.proofs.entries_of.Tie as tie
 
@@ -37,11 +37,11 @@ loop-again c =
     let below = c.before.before.loop-test.true in
     let inv = c.before.before.before.loop.invariant in
     ⊎_elim (λ w. count_turn _ _ _ _ _ below inv.1 inv.2 c.before.entry-targets.ensures w.0.taken w.1)
-    (λ w. count-pass _ _ _ _ _ below inv.1 inv.2 c.before.entry-targets.ensures w.0.left w.1) c.if1.branch
+    (λ w. count_pass _ _ _ _ _ below inv.1 inv.2 c.before.entry-targets.ensures w.0.left w.1) c.if1.branch
 
 returns : tie.Need-returns invariant-loop decreases-loop
-unfolding entriesOf view_of
-returns c = count-out _ _ _ c.before.loop.invariant.0 c.loop-test.false _ c.before.loop.invariant.2
+unfolding entries_of view_of
+returns c = count_out _ _ _ c.before.loop.invariant.0 c.loop-test.false _ c.before.loop.invariant.2
 
 pub entries-of-spec : {M : Type 1} → statement M
 entries-of-spec =

@@ -5,12 +5,12 @@ use Prim.Native.Nat.{◌≤◌, ◌<◌, ◌-◌}
 use native.Mathlib.Omega.{arith}
 use borrow.Author.Rules.{rules}
 use Rattle.seq.specs.Truth.{fails, holds}
-use Rattle.layout.specs.Fields.{inodeField}
+use Rattle.layout.specs.Fields.{inode_field}
 use Rattle.layout.specs.RecordLaws.{field_of}
-use Rattle.layout.specs.View.{view_of, isDirectory}
-use Rattle.layout.specs.ViewLaws.{isKind-below}
+use Rattle.layout.specs.View.{view_of, is_directory}
+use Rattle.layout.specs.ViewLaws.{is_kind_below}
 use Rattle.tree.specs.Tree.{reaches}
-use Rattle.tree.specs.TreeLaws.{reaches-goal, reaches-out, reaches-on, reaches_end}
+use Rattle.tree.specs.TreeLaws.{reaches_goal, reaches_out, reaches_on, reaches_end}
 use Rattle.tree.proofs.is_above.Statement.{statement}
 use Rattle.tree.proofs.is_above.Tie as tie
 
@@ -25,7 +25,7 @@ loop-holds : tie.Need-loop-init invariant-loop decreases-loop
 loop-holds c = (search rules, search rules, refl)
 
 returns : tie.Need-returns invariant-loop decreases-loop
-returns c = sym (reaches-goal _ _ _ _ c.if1.true) ∙ c.before.before.loop.invariant.2
+returns c = sym (reaches_goal _ _ _ _ c.if1.true) ∙ c.before.before.loop.invariant.2
 
 inode-requires : tie.Need-inode-requires invariant-loop decreases-loop
 inode-requires c κs = search rules
@@ -43,9 +43,9 @@ returns-2 c =
     let loop' = c.before.before.before.before.before.before.loop in
     let loop-test = c.before.before.before.before.before.loop-test in
     let if1 = c.before.before.before.before.if1 in
-    let f = field_of inodeField c.before.before.before.inode.ensures c.before.before.field.ensures.0 in
-    let none = ap (λ x. isDirectory (view_of args.h args.image.now) x) (sym f) ∙ fails c.before.is-directory.ensures c.if2.true in
-    sym (reaches-out _ _ _ _ loop-test.true if1.false none) ∙ loop'.invariant.2
+    let f = field_of inode_field c.before.before.before.inode.ensures c.before.before.field.ensures.0 in
+    let none = ap (λ x. is_directory (view_of args.h args.image.now) x) (sym f) ∙ fails c.before.is-directory.ensures c.if2.true in
+    sym (reaches_out _ _ _ _ loop-test.true if1.false none) ∙ loop'.invariant.2
 
 sub-left : tie.Need-overflow-sub-left invariant-loop decreases-loop
 sub-left c = search rules
@@ -60,13 +60,13 @@ loop-again c =
     let loop' = c.before.before.before.before.before.before.loop in
     let loop-test = c.before.before.before.before.before.loop-test in
     let if1 = c.before.before.before.before.if1 in
-    let f = field_of inodeField c.before.before.before.inode.ensures c.before.before.field.ensures.0 in
+    let f = field_of inode_field c.before.before.before.inode.ensures c.before.before.field.ensures.0 in
     let some = holds c.before.is-directory.ensures c.if2.false in
-    let there = ap (λ x. isDirectory (view_of args.h args.image.now) x) (sym f) ∙ some in (
+    let there = ap (λ x. is_directory (view_of args.h args.image.now) x) (sym f) ∙ some in (
       search rules,
-      isKind-below _ _ _ 2 some,
+      is_kind_below _ _ _ 2 some,
       ap (λ x. reaches (view_of args.h args.image.now) args.goal (loop'.left - 1) x) f
-          ∙ sym (reaches-on _ _ _ _ loop-test.true if1.false there) ∙ loop'.invariant.2,
+          ∙ sym (reaches_on _ _ _ _ loop-test.true if1.false there) ∙ loop'.invariant.2,
     )
 
 returns-3 : tie.Need-returns-3 invariant-loop decreases-loop

@@ -2,11 +2,11 @@
 -- Invariant: start is where section k begins, and no section before k has the bytes as a record. Measure: the sections left.
 use mathlib.Core.Bool.{false}
 use Rattle.seq.specs.Search.{any}
-use Rattle.seq.specs.SearchLaws.{any_none, any-turn, any_found, any_out}
+use Rattle.seq.specs.SearchLaws.{any_none, any_turn, any_found, any_out}
 use Rattle.layout.specs.Place.{base}
-use Rattle.plan.specs.Fit.{coversSection, covers}
-use Rattle.plan.specs.FitLaws.{record-some}
-use Rattle.apply.specs.FindLaws.{section-is, section-next, section-room}
+use Rattle.plan.specs.Fit.{covers_section, covers}
+use Rattle.plan.specs.FitLaws.{record_some}
+use Rattle.apply.specs.FindLaws.{section_is, section_next, section_room}
 use mathlib.Core.Path.{◌≡◌, ◌∙◌}
 use Prim.Native.Nat.{◌≤◌, ◌-◌}
 use native.Mathlib.Omega.{arith}
@@ -15,7 +15,7 @@ use Rattle.apply.proofs.sections.covers.Statement.{statement}
 use Rattle.apply.proofs.sections.covers.Tie as tie
 
 abbrev invariant-loop : tie.invariant-loop
-invariant-loop h at n start₀ k₀ start k = (k ≤ 5) × (start ≡ base h k) × (any (coversSection h at n) k ≡ false)
+invariant-loop h at n start₀ k₀ start k = (k ≤ 5) × (start ≡ base h k) × (any (covers_section h at n) k ≡ false)
 
 abbrev decreases-loop : tie.decreases-loop
 decreases-loop h at n start₀ k₀ start k = 5 - k
@@ -34,7 +34,7 @@ one-of-section-requires c κs =
     let args = c.before.before.before.before.args in
     let pre = c.before.before.before.before.requires in
     let loop' = c.before.before.before.loop in
-    rw c.before.record-bytes.ensures (record-some args.h pre.width-least loop'.k)
+    rw c.before.record-bytes.ensures (record_some args.h pre.width_least loop'.k)
 
 returns : tie.Need-returns invariant-loop decreases-loop
 unfolding covers
@@ -42,7 +42,7 @@ returns c =
     let args = c.before.before.before.before.before.before.args in
     let loop' = c.before.before.before.before.before.loop in
     let record-bytes = c.before.before.before.record-bytes in
-    let section = section-is args.h loop'.k _ _ _ loop'.invariant.1 record-bytes.ensures c.before.before.records.ensures args.at args.n in
+    let section = section_is args.h loop'.k _ _ _ loop'.invariant.1 record-bytes.ensures c.before.before.records.ensures args.at args.n in
     any_found _ _ _ c.before.before.before.before.loop-test.true (c.before.one-of-section.ensures ∙ section) c.if1.true
 
 mul-start : tie.Need-overflow-mul-start invariant-loop decreases-loop
@@ -52,7 +52,7 @@ mul-start c =
     let loop' = c.before.before.before.before.before.loop in
     let loop-test = c.before.before.before.before.loop-test in
     let record-bytes = c.before.before.before.record-bytes in
-    omega (arith, section-room args.h loop'.k _ _ _ loop'.invariant.1 record-bytes.ensures c.before.before.records.ensures (pre) loop-test.true)
+    omega (arith, section_room args.h loop'.k _ _ _ loop'.invariant.1 record-bytes.ensures c.before.before.records.ensures (pre) loop-test.true)
 
 add_start : tie.Need-overflow-add-start invariant-loop decreases-loop
 add_start c =
@@ -61,7 +61,7 @@ add_start c =
     let loop' = c.before.before.before.before.before.loop in
     let loop-test = c.before.before.before.before.loop-test in
     let record-bytes = c.before.before.before.record-bytes in
-    omega (arith, section-room args.h loop'.k _ _ _ loop'.invariant.1 record-bytes.ensures c.before.before.records.ensures (pre) loop-test.true)
+    omega (arith, section_room args.h loop'.k _ _ _ loop'.invariant.1 record-bytes.ensures c.before.before.records.ensures (pre) loop-test.true)
 
 add-k : tie.Need-overflow-add-k invariant-loop decreases-loop
 add-k c = search rules
@@ -75,9 +75,9 @@ loop-again c =
     let loop' = c.before.before.before.before.before.loop in
     let bytes = c.before.before.before.record-bytes.ensures in
     let records = c.before.before.records.ensures in
-    let section = section-is args.h loop'.k _ _ _ loop'.invariant.1 bytes records args.at args.n in
-    let turn = any-turn _ _ _ c.before.before.before.before.loop-test.true loop'.invariant.2 (c.before.one-of-section.ensures ∙ section) c.if1.false in
-    (turn.0, section-next args.h loop'.k _ _ _ loop'.invariant.1 bytes records, turn.1)
+    let section = section_is args.h loop'.k _ _ _ loop'.invariant.1 bytes records args.at args.n in
+    let turn = any_turn _ _ _ c.before.before.before.before.loop-test.true loop'.invariant.2 (c.before.one-of-section.ensures ∙ section) c.if1.false in
+    (turn.0, section_next args.h loop'.k _ _ _ loop'.invariant.1 bytes records, turn.1)
 
 returns-2 : tie.Need-returns-2 invariant-loop decreases-loop
 unfolding covers

@@ -1,6 +1,6 @@
 -- `apply::sections::one_of` meets its contract. Assumes nothing.
 use mathlib.Core.Path.{sym}
-use Rattle.apply.specs.FindLaws.{one_size, one-before, one-between, one_index}
+use Rattle.apply.specs.FindLaws.{one_size, one_before, one_between, one_index}
 use borrow.Author.Rules.{rules}
 use Rattle.apply.proofs.sections.one_of.Statement.{statement}
 use Rattle.apply.proofs.sections.one_of.Tie as tie
@@ -9,13 +9,13 @@ returns : tie.Need-returns
 returns c = sym (one_size _ _ _ _ _ c.if1.true)
 
 returns-2 : tie.Need-returns-2
-returns-2 c = sym (one-before _ _ _ _ _ c.if2.true)
+returns-2 c = sym (one_before _ _ _ _ _ c.if2.true)
 
 rem-if3 : tie.Need-nonzero-rem-if3
 rem-if3 c = search rules
 
 returns-3 : tie.Need-returns-3
-returns-3 c = sym (one-between _ _ _ _ _ c.if3.true)
+returns-3 c = sym (one_between _ _ _ _ _ c.if3.true)
 
 div-result : tie.Need-nonzero-div-result
 div-result c = search rules

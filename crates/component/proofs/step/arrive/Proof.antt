@@ -1,13 +1,13 @@
 -- `component::step::arrive` meets its contract. Assumes nothing.
 use mathlib.Core.Path.{sym, ◌∙◌}
 use borrow.Author.Rules.{rules}
-use Rattle.layout.specs.Fields.{inodeKind}
+use Rattle.layout.specs.Fields.{inode_kind}
 use Rattle.layout.specs.RecordLaws.{field_of}
 use Rattle.layout.specs.View.{view_of}
-use Rattle.layout.specs.ViewLaws.{is-kind, is-other}
-use Rattle.component.specs.Splice.{plain_end, slash-end}
-use Rattle.component.specs.State.{position_of, restFrom}
-use Rattle.component.specs.Turns.{arrives-plain, arrives-directory, arrives-other}
+use Rattle.layout.specs.ViewLaws.{is_kind_lem, is_other}
+use Rattle.component.specs.Splice.{plain_end, slash_end}
+use Rattle.component.specs.State.{position_of, rest_from}
+use Rattle.component.specs.Turns.{arrives_plain, arrives_directory, arrives_other}
 use Rattle.component.proofs.step.arrive.Statement.{statement}
 use Rattle.component.proofs.step.arrive.Tie as tie
 
@@ -18,7 +18,7 @@ returns : tie.Need-returns
 returns c =
     let args = c.before.before.before.before.args in
     let pre = c.before.before.before.before.requires in
-    arrives-plain (view_of args.h args.image.now) _ (position_of args.w) (restFrom args.w args.e) args.slot args.target pre.2 (plain_end args.w args.e pre.1 c.before.if1.true) c.exists.ensures
+    arrives_plain (view_of args.h args.image.now) _ (position_of args.w) (rest_from args.w args.e) args.slot args.target pre.2 (plain_end args.w args.e pre.1 c.before.if1.true) c.exists.ensures
 
 inode-requires : tie.Need-inode-requires
 inode-requires c κs = search rules
@@ -39,9 +39,9 @@ returns-2 c =
     let pre = c.before.before.before.before.before.before.before.requires in
     let if1 = c.before.before.before.before.if1 in
     let inode = c.before.before.before.inode in
-    arrives-directory (view_of args.h args.image.now) _ (position_of args.w) (restFrom args.w args.e) args.slot args.target pre.2
-    (slash-end args.w args.e pre.1 if1.false)
-    (is-kind args.h args.image.now args.target 2 pre.3 (sym (field_of inodeKind inode.ensures c.before.before.kind.ensures) ∙ c.before.match.keys1)) c.exists2.ensures
+    arrives_directory (view_of args.h args.image.now) _ (position_of args.w) (rest_from args.w args.e) args.slot args.target pre.2
+    (slash_end args.w args.e pre.1 if1.false)
+    (is_kind_lem args.h args.image.now args.target 2 pre.3 (sym (field_of inode_kind inode.ensures c.before.before.kind.ensures) ∙ c.before.match.keys1)) c.exists2.ensures
 
 returns-3 : tie.Need-returns-3
 unfolding view_of
@@ -50,10 +50,10 @@ returns-3 c =
     let pre = c.before.before.before.before.before.before.before.requires in
     let if1 = c.before.before.before.before.if1 in
     let inode = c.before.before.before.inode in
-    let k = field_of inodeKind inode.ensures c.before.before.kind.ensures in
-    arrives-other (view_of args.h args.image.now) _ (position_of args.w) (restFrom args.w args.e) args.slot args.target pre.2
-    (slash-end args.w args.e pre.1 if1.false)
-    (is-other args.h args.image.now args.target 2 pre.3 (λ e. c.before.match.rest.1 (k ∙ e))) c.refuse.ensures
+    let k = field_of inode_kind inode.ensures c.before.before.kind.ensures in
+    arrives_other (view_of args.h args.image.now) _ (position_of args.w) (rest_from args.w args.e) args.slot args.target pre.2
+    (slash_end args.w args.e pre.1 if1.false)
+    (is_other args.h args.image.now args.target 2 pre.3 (λ e. c.before.match.rest.1 (k ∙ e))) c.refuse.ensures
 
 pub arrive-spec : {M : Type 1} → statement M
 arrive-spec =

@@ -6,8 +6,8 @@ use borrow.Author.Rules.{rules}
 use Rattle.seq.specs.Bytes.{part}
 use Rattle.seq.specs.BytesLaws.{part_length}
 use Rattle.layout.specs.View.{view_of}
-use Rattle.component.specs.State.{position_of, restFrom}
-use Rattle.component.specs.Turns.{reads-long, reads-dots, reads-name}
+use Rattle.component.specs.State.{position_of, rest_from}
+use Rattle.component.specs.Turns.{reads_long, reads_dots, reads_name}
 use Rattle.component.proofs.step.component.Statement.{statement}
 use Rattle.component.proofs.step.component.Tie as tie
 
@@ -26,7 +26,7 @@ returns c =
     let args = c.before.before.before.before.args in
     let pre = c.before.before.before.before.requires in
     let l = part_length args.w.path args.a (args.e - args.a) (omega (arith, pre.1.within, pre.1.short, pre.1.whole)) in
-    reads-long (view_of args.h args.image.now) _ (position_of args.w) args.last (part args.w.path args.a (args.e - args.a)) (restFrom args.w args.e) (rw (← l) at c.before.if1.true) c.refuse.ensures
+    reads_long (view_of args.h args.image.now) _ (position_of args.w) args.last (part args.w.path args.a (args.e - args.a)) (rest_from args.w args.e) (rw (← l) at c.before.if1.true) c.refuse.ensures
 
 sub-is-dot : tie.Need-overflow-sub-is-dot
 sub-is-dot c = search rules
@@ -53,7 +53,7 @@ returns-2 c =
     let if1 = c.before.before.before.before.before.before.if1 in
     let l = part_length args.w.path args.a (args.e - args.a) (omega (arith, pre.1.within, pre.1.short, pre.1.whole)) in
     let d = sym c.before.before.is-dot.ensures ∙ c.before.if2.true in
-    reads-dots (view_of args.h args.image.now) _ (position_of args.w) args.last (part args.w.path args.a (args.e - args.a)) (restFrom args.w args.e) (rw (← l) at if1.false) (rw d) c.dots.ensures
+    reads_dots (view_of args.h args.image.now) _ (position_of args.w) args.last (part args.w.path args.a (args.e - args.a)) (rest_from args.w args.e) (rw (← l) at if1.false) (rw d) c.dots.ensures
 
 sub-is-dot-dot : tie.Need-overflow-sub-is-dot-dot
 sub-is-dot-dot c = search rules
@@ -83,7 +83,7 @@ returns-3 c =
     let l = part_length args.w.path args.a (args.e - args.a) (omega (arith, pre.1.within, pre.1.short, pre.1.whole)) in
     let d = sym is-dot.ensures ∙ if2.false in
     let e = sym c.before.before.is-dot-dot.ensures ∙ c.before.if3.true in
-    reads-dots (view_of args.h args.image.now) _ (position_of args.w) args.last (part args.w.path args.a (args.e - args.a)) (restFrom args.w args.e) (rw (← l) at if1.false) (rw (d, e)) c.dots2.ensures
+    reads_dots (view_of args.h args.image.now) _ (position_of args.w) args.last (part args.w.path args.a (args.e - args.a)) (rest_from args.w args.e) (rw (← l) at if1.false) (rw (d, e)) c.dots2.ensures
 
 name-requires : tie.Need-name-requires
 name-requires c κs = search rules
@@ -99,7 +99,7 @@ returns-4 c =
     let l = part_length args.w.path args.a (args.e - args.a) (omega (arith, pre.1.within, pre.1.short, pre.1.whole)) in
     let d = sym is-dot.ensures ∙ if2.false in
     let e = sym c.before.before.is-dot-dot.ensures ∙ c.before.if3.false in
-    reads-name (view_of args.h args.image.now) _ (position_of args.w) args.last (part args.w.path args.a (args.e - args.a)) (restFrom args.w args.e) (rw (← l) at if1.false) d e c.name.ensures
+    reads_name (view_of args.h args.image.now) _ (position_of args.w) args.last (part args.w.path args.a (args.e - args.a)) (rest_from args.w args.e) (rw (← l) at if1.false) d e c.name.ensures
 
 pub component-spec : {M : Type 1} → statement M
 component-spec =

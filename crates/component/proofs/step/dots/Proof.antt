@@ -4,11 +4,11 @@ use Prim.Native.Nat.{◌-◌}
 use native.Mathlib.Omega.{arith}
 use borrow.Author.Rules.{rules}
 use Rattle.seq.specs.Bytes.{part}
-use Rattle.layout.specs.Fields.{inodeField}
+use Rattle.layout.specs.Fields.{inode_field}
 use Rattle.layout.specs.RecordLaws.{field_of}
 use Rattle.layout.specs.View.{view_of}
-use Rattle.component.specs.State.{position_of, restFrom}
-use Rattle.component.specs.Turns.{dots-last, dots-stay, dots-up}
+use Rattle.component.specs.State.{position_of, rest_from}
+use Rattle.component.specs.Turns.{dots_last, dots_stay, dots_up}
 use Rattle.component.proofs.step.dots.Statement.{statement}
 use Rattle.component.proofs.step.dots.Tie as tie
 
@@ -33,7 +33,7 @@ returns : tie.Need-returns
 unfolding part
 returns c =
     let args = c.before.before.before.before.before.before.before.args in
-    dots-last (view_of args.h args.image.now) _ (position_of args.w) (part args.w.path args.a (args.e - args.a)) (restFrom args.w args.e) (sym c.before.before.is-bare.ensures ∙ c.before.if1.true) c.refuse.ensures
+    dots_last (view_of args.h args.image.now) _ (position_of args.w) (part args.w.path args.a (args.e - args.a)) (rest_from args.w args.e) (sym c.before.before.is-bare.ensures ∙ c.before.if1.true) c.refuse.ensures
 
 sub-is-dot : tie.Need-overflow-sub-is-dot
 sub-is-dot c = search rules
@@ -62,7 +62,7 @@ returns-2 c =
     let args = c.before.before.before.before.before.before.before.before.before.before.before.args in
     let is-bare = c.before.before.before.before.before.before.is-bare in
     let if1 = c.before.before.before.before.before.if1 in
-    dots-stay (view_of args.h args.image.now) _ (position_of args.w) (part args.w.path args.a (args.e - args.a)) (restFrom args.w args.e)
+    dots_stay (view_of args.h args.image.now) _ (position_of args.w) (part args.w.path args.a (args.e - args.a)) (rest_from args.w args.e)
     (sym is-bare.ensures ∙ if1.false) (sym c.before.before.is-dot.ensures ∙ c.before.if2.true) c.advance.ensures
 
 inode-requires : tie.Need-inode-requires
@@ -86,8 +86,8 @@ returns-3 c =
     let if1 = c.before.before.before.before.before.before.before.if1 in
     let is-dot = c.before.before.before.before.is-dot in
     let if2 = c.before.before.before.if2 in
-    dots-up (view_of args.h args.image.now) _ (position_of args.w) (part args.w.path args.a (args.e - args.a)) (restFrom args.w args.e) _
-    (sym is-bare.ensures ∙ if1.false) (sym is-dot.ensures ∙ if2.false) (field_of inodeField c.before.before.inode.ensures c.before.field.ensures.0) c.advance2.ensures
+    dots_up (view_of args.h args.image.now) _ (position_of args.w) (part args.w.path args.a (args.e - args.a)) (rest_from args.w args.e) _
+    (sym is-bare.ensures ∙ if1.false) (sym is-dot.ensures ∙ if2.false) (field_of inode_field c.before.before.inode.ensures c.before.field.ensures.0) c.advance2.ensures
 
 pub dots-spec : {M : Type 1} → statement M
 dots-spec =

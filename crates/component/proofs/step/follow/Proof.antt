@@ -3,9 +3,9 @@ use mathlib.Core.Path.{sym, ap}
 use Prim.Native.Nat.{◌+◌}
 use lib.ListN.{length}
 use borrow.Author.Rules.{rules}
-use Rattle.component.specs.Splice.{rest-length}
-use Rattle.component.specs.State.{position_of, restFrom}
-use Rattle.component.specs.Turns.{follows-many, follows-long, follows-short}
+use Rattle.component.specs.Splice.{rest_length}
+use Rattle.component.specs.State.{position_of, rest_from}
+use Rattle.component.specs.Turns.{follows_many, follows_long, follows_short}
 use Rattle.component.proofs.step.follow.Statement.{statement}
 use Rattle.component.proofs.step.follow.Tie as tie
 
@@ -15,7 +15,7 @@ refuse-requires c κs = search rules
 returns : tie.Need-returns
 returns c =
     let args = c.before.before.before.before.args in
-    follows-many _ (position_of args.w) args.text.now (restFrom args.w args.e) c.before.if1.true c.refuse.ensures
+    follows_many _ (position_of args.w) args.text.now (rest_from args.w args.e) c.before.if1.true c.refuse.ensures
 
 sub-len : tie.Need-overflow-sub-len
 sub-len c = search rules
@@ -31,8 +31,8 @@ returns-2 c =
     let args = c.before.before.before.before.before.before.args in
     let pre = c.before.before.before.before.before.before.requires in
     let if1 = c.before.before.before.if1 in
-    let l = ap (λ n. length args.text.now + n) (sym (rest-length args.w args.e pre.0)) in
-    follows-long _ (position_of args.w) args.text.now (restFrom args.w args.e) if1.false _ l c.before.if2.true c.refuse2.ensures
+    let l = ap (λ n. length args.text.now + n) (sym (rest_length args.w args.e pre.0)) in
+    follows_long _ (position_of args.w) args.text.now (rest_from args.w args.e) if1.false _ l c.before.if2.true c.refuse2.ensures
 
 join-requires : tie.Need-join-requires
 join-requires c κs = search rules
@@ -42,8 +42,8 @@ returns-3 c =
     let args = c.before.before.before.before.before.before.args in
     let pre = c.before.before.before.before.before.before.requires in
     let if1 = c.before.before.before.if1 in
-    let l = ap (λ n. length args.text.now + n) (sym (rest-length args.w args.e pre.0)) in
-    follows-short _ (position_of args.w) args.text.now (restFrom args.w args.e) if1.false _ l c.before.if2.false c.join.ensures
+    let l = ap (λ n. length args.text.now + n) (sym (rest_length args.w args.e pre.0)) in
+    follows_short _ (position_of args.w) args.text.now (rest_from args.w args.e) if1.false _ l c.before.if2.false c.join.ensures
 
 pub follow-spec : {M : Type 1} → statement M
 follow-spec =

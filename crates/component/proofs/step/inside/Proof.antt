@@ -8,9 +8,9 @@ use Rattle.seq.specs.Bytes.{part}
 use Rattle.seq.specs.BytesLaws.{part_length}
 use Rattle.seq.specs.Truth.{fails, holds}
 use Rattle.layout.specs.View.{view_of}
-use Rattle.paths.specs.Permission.{searchBit, allows}
+use Rattle.paths.specs.Permission.{search_bit, allows}
 use Rattle.component.specs.State.{ReadUpTo, position_of}
-use Rattle.component.specs.Turns.{inside-denied, inside-reads, component-range, behind-range}
+use Rattle.component.specs.Turns.{inside_denied, inside_reads, component_range, behind_range}
 use Rattle.component.proofs.step.inside.Statement.{statement}
 use Rattle.component.proofs.step.inside.Tie as tie
 
@@ -23,8 +23,8 @@ refuse-requires c κs = search rules
 returns : tie.Need-returns
 returns c =
     let args = c.before.before.before.before.args in
-    inside-denied (view_of args.h args.image.now) args.who args.last _ (position_of args.w)
-    (fails {x = args.w.waived || allows (view_of args.h args.image.now) args.who args.w.directory searchBit} c.before.before.may-search.ensures c.before.if1.true) c.refuse.ensures
+    inside_denied (view_of args.h args.image.now) args.who args.last _ (position_of args.w)
+    (fails {x = args.w.waived || allows (view_of args.h args.image.now) args.who args.w.directory search_bit} c.before.before.may-search.ensures c.before.if1.true) c.refuse.ensures
 
 sub-slashes : tie.Need-overflow-sub-slashes
 sub-slashes c = search rules
@@ -92,10 +92,10 @@ returns-2 c =
     let more = name-bytes.ensures.1 in
     let start = ap (λ n. args.w.at + n) slashes.ensures.0 in
     let end = ap (λ n. a + n) name-bytes.ensures.0 in
-    inside-reads (view_of args.h args.image.now) args.who args.last _ (position_of args.w) _ _
-    (holds {x = args.w.waived || allows (view_of args.h args.image.now) args.who args.w.directory searchBit} may-search.ensures if1.false)
-    (component-range args.w.path args.w.at args.w.len a (a + name-bytes.result) fit.within start end (omega (arith, fit.within)))
-    (behind-range args.w.path args.w.at args.w.len a (a + name-bytes.result) fit.within start end) c.component.ensures
+    inside_reads (view_of args.h args.image.now) args.who args.last _ (position_of args.w) _ _
+    (holds {x = args.w.waived || allows (view_of args.h args.image.now) args.who args.w.directory search_bit} may-search.ensures if1.false)
+    (component_range args.w.path args.w.at args.w.len a (a + name-bytes.result) fit.within start end (omega (arith, fit.within)))
+    (behind_range args.w.path args.w.at args.w.len a (a + name-bytes.result) fit.within start end) c.component.ensures
 
 pub inside-spec : {M : Type 1} → statement M
 inside-spec =

@@ -4,8 +4,8 @@ use Prim.Native.Nat.{◌-◌}
 use native.Mathlib.Omega.{arith}
 use borrow.Author.Rules.{rules}
 use Rattle.seq.specs.Bytes.{part}
-use Rattle.component.specs.State.{position_of, restFrom}
-use Rattle.component.specs.Turns.{misses-last, misses_more}
+use Rattle.component.specs.State.{position_of, rest_from}
+use Rattle.component.specs.Turns.{misses_last, misses_more}
 use Rattle.component.proofs.step.miss.Statement.{statement}
 use Rattle.component.proofs.step.miss.Tie as tie
 
@@ -30,7 +30,7 @@ returns : tie.Need-returns
 unfolding part
 returns c =
     let args = c.before.before.before.before.before.before.args in
-    misses-last _ (position_of args.w) args.last (part args.w.path args.a (args.e - args.a)) (restFrom args.w args.e)
+    misses_last _ (position_of args.w) args.last (part args.w.path args.a (args.e - args.a)) (rest_from args.w args.e)
     (sym c.before.before.is-bare.ensures ∙ c.before.if1.true) c.lack.ensures
 
 refuse-requires : tie.Need-refuse-requires
@@ -40,7 +40,7 @@ returns-2 : tie.Need-returns-2
 unfolding part
 returns-2 c =
     let args = c.before.before.before.before.before.before.args in
-    misses_more _ (position_of args.w) args.last (part args.w.path args.a (args.e - args.a)) (restFrom args.w args.e)
+    misses_more _ (position_of args.w) args.last (part args.w.path args.a (args.e - args.a)) (rest_from args.w args.e)
     (sym c.before.before.is-bare.ensures ∙ c.before.if1.false) c.refuse.ensures
 
 pub miss-spec : {M : Type 1} → statement M

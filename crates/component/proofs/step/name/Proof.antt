@@ -4,8 +4,8 @@ use Prim.Native.Nat.{◌-◌}
 use borrow.Author.Rules.{rules}
 use Rattle.seq.specs.Bytes.{part}
 use Rattle.layout.specs.View.{view_of}
-use Rattle.component.specs.State.{position_of, restFrom}
-use Rattle.component.specs.Turns.{named-refused, named-sought}
+use Rattle.component.specs.State.{position_of, rest_from}
+use Rattle.component.specs.Turns.{named_refused, named_sought}
 use Rattle.component.proofs.step.name.Statement.{statement}
 use Rattle.component.proofs.step.name.Tie as tie
 
@@ -18,7 +18,7 @@ refuse-requires c κs = search rules
 returns : tie.Need-returns
 returns c =
     let args = c.before.before.before.before.args in
-    named-refused (view_of args.h args.image.now) _ (position_of args.w) args.last (part args.w.path args.a (args.e - args.a)) (restFrom args.w args.e)
+    named_refused (view_of args.h args.image.now) _ (position_of args.w) args.last (part args.w.path args.a (args.e - args.a)) (rest_from args.w args.e)
     (sym c.before.before.is-barred.ensures ∙ c.before.if1.true) c.refuse.ensures
 
 seek-requires : tie.Need-seek-requires
@@ -27,7 +27,7 @@ seek-requires c κs = search rules
 returns-2 : tie.Need-returns-2
 returns-2 c =
     let args = c.before.before.before.before.args in
-    named-sought (view_of args.h args.image.now) _ (position_of args.w) args.last (part args.w.path args.a (args.e - args.a)) (restFrom args.w args.e)
+    named_sought (view_of args.h args.image.now) _ (position_of args.w) args.last (part args.w.path args.a (args.e - args.a)) (rest_from args.w args.e)
     (sym c.before.before.is-barred.ensures ∙ c.before.if1.false) c.seek.ensures
 
 pub name-spec : {M : Type 1} → statement M

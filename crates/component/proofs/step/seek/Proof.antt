@@ -4,9 +4,9 @@ use native.Mathlib.Omega.{arith}
 use borrow.Author.Rules.{rules}
 use Rattle.seq.specs.Bytes.{part}
 use Rattle.layout.specs.View.{view_of}
-use Rattle.paths.specs.LookupLaws.{lookup-used}
-use Rattle.component.specs.State.{position_of, restFrom}
-use Rattle.component.specs.Turns.{seeks-hit, seeks-miss}
+use Rattle.paths.specs.LookupLaws.{lookup_used}
+use Rattle.component.specs.State.{position_of, rest_from}
+use Rattle.component.specs.Turns.{seeks_hit, seeks_miss}
 use Rattle.component.proofs.step.seek.Statement.{statement}
 use Rattle.component.proofs.step.seek.Tie as tie
 
@@ -29,14 +29,14 @@ unfolding part view_of
 hit-requires c κs =
     let args = c.before.before.before.before.before.before.before.args in
     let j = c.before.before.find.ensures.0 in
-    (search rules, search rules, c.if1.true, lookup-used (view_of args.h args.image.now) args.w.directory (part args.w.path args.a (args.e - args.a)) _ j c.if1.true)
+    (search rules, search rules, c.if1.true, lookup_used (view_of args.h args.image.now) args.w.directory (part args.w.path args.a (args.e - args.a)) _ j c.if1.true)
 
 returns : tie.Need-returns
 unfolding part view_of
 returns c =
     let args = c.before.before.before.before.before.before.before.before.args in
     let find = c.before.before.before.find in
-    seeks-hit (view_of args.h args.image.now) _ (position_of args.w) args.last (part args.w.path args.a (args.e - args.a)) (restFrom args.w args.e) find.result find.ensures.0 c.before.if1.true c.hit.ensures
+    seeks_hit (view_of args.h args.image.now) _ (position_of args.w) args.last (part args.w.path args.a (args.e - args.a)) (rest_from args.w args.e) find.result find.ensures.0 c.before.if1.true c.hit.ensures
 
 miss-requires : tie.Need-miss-requires
 miss-requires c κs = search rules
@@ -46,7 +46,7 @@ unfolding part view_of
 returns-2 c =
     let args = c.before.before.before.before.before.before.before.before.args in
     let find = c.before.before.before.find in
-    seeks-miss (view_of args.h args.image.now) _ (position_of args.w) args.last (part args.w.path args.a (args.e - args.a)) (restFrom args.w args.e) find.result find.ensures.0 c.before.if1.false c.miss.ensures
+    seeks_miss (view_of args.h args.image.now) _ (position_of args.w) args.last (part args.w.path args.a (args.e - args.a)) (rest_from args.w args.e) find.result find.ensures.0 c.before.if1.false c.miss.ensures
 
 pub seek-spec : {M : Type 1} → statement M
 seek-spec =

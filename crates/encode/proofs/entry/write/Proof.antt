@@ -4,8 +4,8 @@ use lib.ListN.{length}
 use borrow.Author.Rules.{rules}
 use Rattle.seq.specs.Bytes.{put}
 use Rattle.seq.specs.Number.{bytes_of}
-use Rattle.encode.specs.Entry.{entryHead}
-use Rattle.encode.specs.EntryLaws.{entry-put}
+use Rattle.encode.specs.Entry.{entry_head}
+use Rattle.encode.specs.EntryLaws.{entry_put}
 use Rattle.encode.proofs.entry.write.Statement.{statement}
 use Rattle.encode.proofs.entry.write.Tie as tie
 
@@ -46,10 +46,10 @@ returns c =
     let cleared = copied.before.before.before.before.before in
     let start = cleared.before.before.before.before in
     let args = start.args in
-    let head = entryHead args.parent args.target (length args.name.now) in
+    let head = entry_head args.parent args.target (length args.name.now) in
     c.before.before.copy2.ensures
     ∙ ap (λ l. put l 8 args.name.now) (copied.copy.ensures ∙ ap (λ l. put l 0 head) cleared.clear.ensures)
-    ∙ entry-put (length args.r.now) args.parent args.target args.name.now start.requires.0
+    ∙ entry_put (length args.r.now) args.parent args.target args.name.now start.requires.0
 
 pub write_spec : {M : Type 1} → statement M
 write_spec =

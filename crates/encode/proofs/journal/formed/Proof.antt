@@ -3,7 +3,7 @@ use mathlib.Core.Bool.{and-false}
 use borrow.Author.Rules.{rules}
 use borrow.Author.Tests.{eq-eqb, ne_eqb}
 use Rattle.seq.specs.Truth.{fails, holds}
-use Rattle.encode.specs.Journal.{journalFormed}
+use Rattle.encode.specs.Journal.{journal_formed}
 use Rattle.encode.proofs.journal.formed.Statement.{statement}
 use Rattle.encode.proofs.journal.formed.Tie as tie
 
@@ -11,21 +11,21 @@ shared-slice-read-if1 : tie.Need-shared-slice-read-if1
 shared-slice-read-if1 c = search rules
 
 returns : tie.Need-returns
-unfolding journalFormed
+unfolding journal_formed
 returns c = simp (ne_eqb _ _ c.if1.true)
 
 all-zero-requires : tie.Need-all-zero-requires
 all-zero-requires c κs = search rules
 
 returns-2 : tie.Need-returns-2
-unfolding journalFormed
+unfolding journal_formed
 returns-2 c = simp (and-false, fails c.before.all-zero.ensures c.if2.true)
 
 all-zero-requires-2 : tie.Need-all-zero-requires-2
 all-zero-requires-2 c κs = search rules
 
 returns-3 : tie.Need-returns-3
-unfolding journalFormed
+unfolding journal_formed
 returns-3 c =
     simp (
       eq-eqb _ _ c.before.before.before.if1.false,

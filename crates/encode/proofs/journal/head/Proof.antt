@@ -2,7 +2,7 @@
 use mathlib.Core.Path.{refl}
 use borrow.Author.Rules.{rules}
 use Rattle.seq.specs.Number.{bytes_of}
-use Rattle.encode.specs.Journal.{journalHead}
+use Rattle.encode.specs.Journal.{journal_head}
 use Rattle.encode.proofs.journal.head.Statement.{statement}
 use Rattle.encode.proofs.journal.head.Tie as tie
 
@@ -43,7 +43,7 @@ cast-t31 : tie.Need-overflow-cast-t31
 cast-t31 c = search rules
 
 returns : tie.Need-returns
-unfolding journalHead bytes_of
+unfolding journal_head bytes_of
 returns c = refl
 
 pub head_spec : {M : Type 1} → statement M

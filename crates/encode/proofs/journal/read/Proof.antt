@@ -2,7 +2,7 @@
 use native.Mathlib.Omega.{arith}
 use lib.ListN.{get_or}
 use borrow.Author.Rules.{rules}
-use Rattle.encode.specs.Journal.{journalOf}
+use Rattle.encode.specs.Journal.{journal_of}
 use Rattle.encode.proofs.journal.read.Statement.{statement}
 use Rattle.encode.proofs.journal.read.Tie as tie
 
@@ -31,7 +31,7 @@ get64-requires : tie.Need-get64-requires
 get64-requires c κs = search rules
 
 returns : tie.Need-returns
-unfolding journalOf
+unfolding journal_of
 returns c =
     let first = c.before.before.before.before.before.before in
     let known = first.before.before in

@@ -4,7 +4,7 @@ use lib.ListN.{replicate}
 use borrow.Author.Rules.{rules}
 use Rattle.seq.specs.Bytes.{put}
 use Rattle.seq.specs.Number.{bytes_of}
-use Rattle.encode.specs.JournalLaws.{journal-put}
+use Rattle.encode.specs.JournalLaws.{journal_put}
 use Rattle.encode.proofs.journal.write.Statement.{statement}
 use Rattle.encode.proofs.journal.write.Tie as tie
 
@@ -36,7 +36,7 @@ returns c =
     let zeros = cleared.clear.ensures ∙ ap (λ n. replicate n 0) start.requires in
     c.before.before.put64.ensures
     ∙ ap (λ l. put l 16 (bytes_of 8 args.j.time)) (copied.copy.ensures ∙ ap₂ (λ l x. put l 0 x) zeros made.head.ensures)
-    ∙ journal-put args.j
+    ∙ journal_put args.j
 
 pub write_spec : {M : Type 1} → statement M
 write_spec =

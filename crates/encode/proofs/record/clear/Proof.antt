@@ -6,7 +6,7 @@ use native.Mathlib.Omega.{arith}
 use lib.ListN.{length, length-set, replicate, length-replicate}
 use borrow.Author.Rules.{rules}
 use Rattle.seq.specs.Bytes.{put}
-use Rattle.seq.specs.BytesLaws.{put-none, put-zero, put_whole}
+use Rattle.seq.specs.BytesLaws.{put_none, put_zero, put_whole}
 use Rattle.encode.proofs.record.clear.Statement.{statement}
 use Rattle.encode.proofs.record.clear.Tie as tie
 
@@ -17,7 +17,7 @@ abbrev decreases-loop : tie.decreases-loop
 decreases-loop r₀ k₀ r k = length r₀ - k
 
 loop-holds : tie.Need-loop-init invariant-loop decreases-loop
-loop-holds c = (search rules, sym (put-none _ _), refl)
+loop-holds c = (search rules, sym (put_none _ _), refl)
 
 slice-write-r : tie.Need-slice-write-r invariant-loop decreases-loop
 slice-write-r c = search rules
@@ -29,7 +29,7 @@ loop-less : tie.Need-loop-smaller invariant-loop decreases-loop
 loop-less c = search rules
 
 loop-again : tie.Need-loop-preserved invariant-loop decreases-loop
-loop-again c = (search rules, rw c.before.loop.invariant.1 (put-zero _ c.before.loop.k), simp length-set c.before.loop.invariant.2)
+loop-again c = (search rules, rw c.before.loop.invariant.1 (put_zero _ c.before.loop.k), simp length-set c.before.loop.invariant.2)
 
 same_length : tie.Need-same-length invariant-loop decreases-loop
 same_length c = search rules

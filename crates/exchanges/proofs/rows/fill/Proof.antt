@@ -1,7 +1,7 @@
 -- `exchanges::rows::fill` meets its contract. Assumes nothing.
 use native.Mathlib.Omega.{arith}
 use borrow.Author.Rules.{rules}
-use Rattle.exchanges.specs.ExchangeRows.{exchange-below, exchange-planned}
+use Rattle.exchanges.specs.ExchangeRows.{exchange_below, exchange_planned_lem}
 use Rattle.exchanges.proofs.rows.fill.Statement.{statement}
 use Rattle.exchanges.proofs.rows.fill.Tie as tie
 
@@ -17,12 +17,12 @@ put-requires c κs = search rules
 put-clear-requires : tie.Need-put-clear-requires
 put-clear-requires c κs =
     let args = c.before.before.before.before.before.before.before.before.before.before.before.before.before.before.before.args in
-    (search rules, exchange-below args.h args.image.now args.m c.before.before.before.put.ensures, search rules)
+    (search rules, exchange_below args.h args.image.now args.m c.before.before.before.put.ensures, search rules)
 
 add-result : tie.Need-overflow-add-result
 add-result c =
     let args = c.before.before.before.before.before.before.before.before.before.before.before.before.before.before.before.before.before.before.args in
-    let l = exchange-below args.h args.image.now args.m c.before.before.before.before.before.before.put.ensures in
+    let l = exchange_below args.h args.image.now args.m c.before.before.before.before.before.before.put.ensures in
     omega arith
 
 same_length : tie.Need-same-length
@@ -31,7 +31,7 @@ same_length c = search rules
 returns : tie.Need-returns
 returns c =
     let args = c.before.before.before.before.before.before.before.before.before.before.before.before.before.before.before.before.before.before.args in
-    exchange-planned args.h args.image.now args.m args.plan.now c.before.before.before.before.before.before.before.before.before.before.before.before.before.before.clear.ensures c.before.before.before.before.before.before.before.before.before.before.put-start.ensures c.before.before.before.before.before.before.put.ensures
+    exchange_planned_lem args.h args.image.now args.m args.plan.now c.before.before.before.before.before.before.before.before.before.before.before.before.before.before.clear.ensures c.before.before.before.before.before.before.before.before.before.before.put-start.ensures c.before.before.before.before.before.before.put.ensures
     c.before.before.put-clear.ensures
 
 pub fill_spec : {M : Type 1} → statement M

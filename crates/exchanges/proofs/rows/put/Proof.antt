@@ -1,6 +1,6 @@
 -- `exchanges::rows::put` meets its contract. Assumes nothing.
 use borrow.Author.Rules.{rules}
-use Rattle.exchanges.specs.ExchangeRows.{exchange-filled}
+use Rattle.exchanges.specs.ExchangeRows.{exchange_filled}
 use Rattle.exchanges.proofs.rows.put.Statement.{statement}
 use Rattle.exchanges.proofs.rows.put.Tie as tie
 
@@ -19,7 +19,7 @@ same_length c = search rules
 returns : tie.Need-returns
 returns c =
     let args = c.before.before.before.before.before.before.before.before.before.before.args in
-    exchange-filled args.h args.image.now args.m c.before.before.before.before.before.before.put-slots.ensures c.before.before.put-inodes.ensures
+    exchange_filled args.h args.image.now args.m c.before.before.before.before.before.before.put-slots.ensures c.before.before.put-inodes.ensures
 
 pub put_spec : {M : Type 1} → statement M
 put_spec =

@@ -2,8 +2,8 @@
 use Prim.Native.Nat.{◌<◌}
 use native.Mathlib.Omega.{arith}
 use borrow.Author.Rules.{rules}
-use Rattle.plan.specs.Form.{planRows}
-use Rattle.exchanges.specs.ExchangeRows.{parents-le, inodes-filled}
+use Rattle.plan.specs.Form.{plan_rows}
+use Rattle.exchanges.specs.ExchangeRows.{parents_le, inodes_filled}
 use Rattle.exchanges.proofs.rows.put_inodes.Statement.{statement}
 use Rattle.exchanges.proofs.rows.put_inodes.Tie as tie
 
@@ -22,14 +22,14 @@ back-requires c κs = search rules
 put-moved-requires-2 : tie.Need-put-moved-requires-2
 put-moved-requires-2 c κs =
     let start = c.before.before.before.before.before.before.before.before.before.before.before.before in
-    let below : c.before.before.before.before.put-parents.result < planRows = omega (arith, c.before.before.before.before.put-parents.ensures.next, parents-le start.args.h start.args.image.now start.args.m, start.requires.1) in
+    let below : c.before.before.before.before.put-parents.result < plan_rows = omega (arith, c.before.before.before.before.put-parents.ensures.next, parents_le start.args.h start.args.image.now start.args.m, start.requires.1) in
     let moved : c.back.result.moved < start.args.h.inodes = rw c.back.ensures start.requires.3.replaced in
     (search rules, below, search rules, moved)
 
 add-result : tie.Need-overflow-add-result
 add-result c =
     let start = c.before.before.before.before.before.before.before.before.before.before.before.before.before.before.before in
-    let below : c.before.before.before.before.before.before.before.put-parents.result < planRows = omega (arith, c.before.before.before.before.before.before.before.put-parents.ensures.next, parents-le start.args.h start.args.image.now start.args.m, start.requires.1) in
+    let below : c.before.before.before.before.before.before.before.put-parents.result < plan_rows = omega (arith, c.before.before.before.before.before.before.before.put-parents.ensures.next, parents_le start.args.h start.args.image.now start.args.m, start.requires.1) in
     search rules
 
 same_length : tie.Need-same-length
@@ -38,7 +38,7 @@ same_length c = search rules
 returns : tie.Need-returns
 returns c =
     let args = c.before.before.before.before.before.before.before.before.before.before.before.before.before.before.before.args in
-    inodes-filled args.h args.image.now args.m _ c.before.before.before.back.ensures c.before.before.before.before.before.before.before.before.before.before.before.put-moved.ensures c.before.before.before.before.before.before.before.put-parents.ensures
+    inodes_filled args.h args.image.now args.m _ c.before.before.before.back.ensures c.before.before.before.before.before.before.before.before.before.before.before.put-moved.ensures c.before.before.before.before.before.before.before.put-parents.ensures
     c.before.before.put-moved2.ensures
 
 pub put-inodes-spec : {M : Type 1} → statement M

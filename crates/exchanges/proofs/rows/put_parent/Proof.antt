@@ -1,7 +1,7 @@
 -- `exchanges::rows::put_parent` meets its contract. Assumes nothing.
 use borrow.Author.Rules.{rules}
 use Rattle.plan.specs.WriteLaws.{row_put}
-use Rattle.exchanges.specs.Exchange.{parentRow}
+use Rattle.exchanges.specs.Exchange.{parent_row}
 use Rattle.exchanges.proofs.rows.put_parent.Statement.{statement}
 use Rattle.exchanges.proofs.rows.put_parent.Tie as tie
 
@@ -25,7 +25,7 @@ returns c =
     let row = c.before.before in
     let made = row.before.before.before.before in
     let args = made.before.before.before.args in
-    row_put args.h (parentRow args.h args.image.now args.m args.i) _ _ row.put-row.ensures row.before.before.inode.ensures
+    row_put args.h (parent_row args.h args.image.now args.m args.i) _ _ row.put-row.ensures row.before.before.inode.ensures
     made.parent.ensures
 
 pub put-parent-spec : {M : Type 1} → statement M

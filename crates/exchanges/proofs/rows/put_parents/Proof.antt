@@ -1,6 +1,6 @@
 -- `exchanges::rows::put_parents` meets its contract. Assumes nothing.
 use borrow.Author.Rules.{rules}
-use Rattle.exchanges.specs.ExchangeRows.{parents-one, parents-two}
+use Rattle.exchanges.specs.ExchangeRows.{parents_one, parents_two}
 use Rattle.exchanges.proofs.rows.put_parents.Statement.{statement}
 use Rattle.exchanges.proofs.rows.put_parents.Tie as tie
 
@@ -17,7 +17,7 @@ returns : tie.Need-returns
 returns c =
     let first = c.before.before.before.before in
     let args = first.before.before.before.before.args in
-    parents-one args.h args.image.now args.m c.if1.true first.put-parent.ensures
+    parents_one args.h args.image.now args.m c.if1.true first.put-parent.ensures
 
 add-put-parent : tie.Need-overflow-add-put-parent
 add-put-parent c = search rules
@@ -36,7 +36,7 @@ returns-2 c =
     let second = c.before.before in
     let first = second.before.before.before.before.before.before in
     let args = first.before.before.before.before.args in
-    parents-two args.h args.image.now args.m second.before.before.if1.false first.put-parent.ensures second.put-parent2.ensures
+    parents_two args.h args.image.now args.m second.before.before.if1.false first.put-parent.ensures second.put-parent2.ensures
 
 pub put-parents-spec : {M : Type 1} → statement M
 put-parents-spec =

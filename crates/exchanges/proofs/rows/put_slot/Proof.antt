@@ -12,13 +12,13 @@ array-borrow-prefix-bytes : tie.Need-array-borrow-prefix-bytes
 array-borrow-prefix-bytes c = search rules
 
 slice-aggregate-put-taken : tie.Need-slice-aggregate-put-taken
-slice-aggregate-put-taken c = sym (length-take-le _ _ (omega (arith, c.before.before.before.before.requires.2.width-most)))
+slice-aggregate-put-taken c = sym (length-take-le _ _ (omega (arith, c.before.before.before.before.requires.2.width_most)))
 
 put-taken-requires : tie.Need-put-taken-requires
 put-taken-requires c κs =
     let args = c.before.before.before.before.args in
     let laid = c.before.before.before.before.requires.2 in
-    (search rules, search rules, search rules, search rules, length-take-le args.h.width (replicate {A = ℕ} 64 0) (omega (arith, laid.width-most)))
+    (search rules, search rules, search rules, search rules, length-take-le args.h.width (replicate {A = ℕ} 64 0) (omega (arith, laid.width_most)))
 
 same_length : tie.Need-same-length
 same_length c = search rules

@@ -1,7 +1,7 @@
 -- `exchanges::rows::put_taken` meets its contract. Assumes nothing.
 use borrow.Author.Rules.{rules}
 use Rattle.plan.specs.WriteLaws.{row_put}
-use Rattle.exchanges.specs.Exchange.{slotRow}
+use Rattle.exchanges.specs.Exchange.{slot_row}
 use Rattle.exchanges.proofs.rows.put_taken.Statement.{statement}
 use Rattle.exchanges.proofs.rows.put_taken.Tie as tie
 
@@ -23,7 +23,7 @@ same-length-2 c = search rules
 returns : tie.Need-returns
 returns c =
     let args = c.before.before.before.before.before.before.before.before.before.before.before.before.before.args in
-    row_put args.h (slotRow args.h args.image.now args.m) _ _ c.before.before.put-row.ensures c.before.before.before.before.entry.ensures
+    row_put args.h (slot_row args.h args.image.now args.m) _ _ c.before.before.put-row.ensures c.before.before.before.before.entry.ensures
     c.before.before.before.before.before.before.before.before.retarget.ensures
 
 pub put-taken-spec : {M : Type 1} → statement M

@@ -6,7 +6,7 @@ use Prim.Native.Nat.{◌≤◌, ◌-◌}
 use borrow.Author.Rules.{rules}
 use borrow.Author.Tests.{eq-eqb, ne_eqb}
 use Rattle.seq.specs.Bytes.{zeros}
-use Rattle.seq.specs.SearchLaws.{all_none, all_more, all-not, all-out}
+use Rattle.seq.specs.SearchLaws.{all_none, all_more, all_not, all_out}
 use Rattle.layout.proofs.bytes.bytes_zero.Statement.{statement}
 use Rattle.layout.proofs.bytes.bytes_zero.Tie as tie
 
@@ -28,7 +28,7 @@ shared-slice-read-if1 c = search rules
 
 returns : tie.Need-returns invariant-loop decreases-loop
 unfolding zeros
-returns c = sym (all-not _ _ _ c.before.before.loop-test.true (ne_eqb _ _ c.if1.true))
+returns c = sym (all_not _ _ _ c.before.before.loop-test.true (ne_eqb _ _ c.if1.true))
 
 add-k : tie.Need-overflow-add-k invariant-loop decreases-loop
 add-k c = search rules
@@ -42,7 +42,7 @@ loop-again c = (search rules, all_more _ _ c.before.before.before.loop.invariant
 
 returns-2 : tie.Need-returns-2 invariant-loop decreases-loop
 unfolding zeros
-returns-2 c = all-out _ _ _ c.before.loop.invariant.0 c.loop-test.false c.before.loop.invariant.1
+returns-2 c = all_out _ _ _ c.before.loop.invariant.0 c.loop-test.false c.before.loop.invariant.1
 
 pub bytes-zero-spec : {M : Type 1} → statement M
 bytes-zero-spec =

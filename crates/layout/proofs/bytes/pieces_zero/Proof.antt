@@ -7,7 +7,7 @@ use native.Mathlib.Omega.{arith}
 use borrow.Author.Rules.{rules}
 use Rattle.seq.specs.Bytes.{zeros}
 use Rattle.seq.specs.SearchLaws.{all_none}
-use Rattle.seq.specs.ZeroLaws.{piece-zero, piece-other}
+use Rattle.seq.specs.ZeroLaws.{piece_zero, piece_other}
 use Rattle.layout.proofs.bytes.pieces_zero.Statement.{statement}
 use Rattle.layout.proofs.bytes.pieces_zero.Tie as tie
 
@@ -33,7 +33,7 @@ get64-requires c κs = search rules
 returns : tie.Need-returns invariant-loop decreases-loop
 returns c =
     let args = c.before.before.before.before.before.args in
-    piece-other args.s.now args.at c.before.before.before.loop.k args.n c.before.before.loop-test.true (λ z. c.if1.true (c.before.get64.ensures ∙ z))
+    piece_other args.s.now args.at c.before.before.before.loop.k args.n c.before.before.loop-test.true (λ z. c.if1.true (c.before.get64.ensures ∙ z))
 
 add-k : tie.Need-overflow-add-k invariant-loop decreases-loop
 add-k c = search rules
@@ -42,7 +42,7 @@ loop-less : tie.Need-loop-smaller invariant-loop decreases-loop
 loop-less c = search rules
 
 loop-again : tie.Need-loop-preserved invariant-loop decreases-loop
-loop-again c = (search rules, piece-zero _ _ _ c.before.before.before.loop.invariant.1 (sym c.before.get64.ensures ∙ c.if1.false))
+loop-again c = (search rules, piece_zero _ _ _ c.before.before.before.loop.invariant.1 (sym c.before.get64.ensures ∙ c.if1.false))
 
 returns-2 : tie.Need-returns-2 invariant-loop decreases-loop
 returns-2 c =

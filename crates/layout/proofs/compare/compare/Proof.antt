@@ -7,14 +7,14 @@ use native.Mathlib.Omega.{arith}
 use borrow.Author.Rules.{rules}
 use Rattle.seq.specs.Truth.{fails, holds}
 use Rattle.seq.specs.Search.{any}
-use Rattle.seq.specs.SearchLaws.{any_none, any-miss}
-use Rattle.seq.specs.Compare.{pieceDiffers}
-use Rattle.seq.specs.CompareLaws.{lengths_differ, piece-differs}
+use Rattle.seq.specs.SearchLaws.{any_none, any_miss}
+use Rattle.seq.specs.Compare.{piece_differs}
+use Rattle.seq.specs.CompareLaws.{lengths_differ, piece_differs_lem}
 use Rattle.layout.proofs.compare.compare.Statement.{statement}
 use Rattle.layout.proofs.compare.compare.Tie as tie
 
 abbrev invariant-loop : tie.invariant-loop
-invariant-loop a b whole k₀ k = (k ≤ whole) × (any (pieceDiffers a b) k ≡ false)
+invariant-loop a b whole k₀ k = (k ≤ whole) × (any (piece_differs a b) k ≡ false)
 
 abbrev decreases-loop : tie.decreases-loop
 decreases-loop a b whole k₀ k = whole - k
@@ -38,7 +38,7 @@ returns-2 : tie.Need-returns-2 invariant-loop decreases-loop
 returns-2 c =
     let args = c.before.before.before.before.before.before.before.args in
     let loop' = c.before.before.before.loop in
-    piece-differs args.a.now args.b.now c.before.before.before.before.if1.false loop'.k (omega arith) loop'.invariant.1
+    piece_differs_lem args.a.now args.b.now c.before.before.before.before.if1.false loop'.k (omega arith) loop'.invariant.1
     (rw (fails c.before.same-piece.ensures c.if2.true))
 
 add-k : tie.Need-overflow-add-k invariant-loop decreases-loop
@@ -50,7 +50,7 @@ loop-less c = search rules
 loop-again : tie.Need-loop-preserved invariant-loop decreases-loop
 loop-again c =
     let loop' = c.before.before.before.loop in
-    (search rules, any-miss _ _ loop'.invariant.1 (rw (holds c.before.same-piece.ensures c.if2.false)))
+    (search rules, any_miss _ _ loop'.invariant.1 (rw (holds c.before.same-piece.ensures c.if2.false)))
 
 last-requires : tie.Need-last-requires invariant-loop decreases-loop
 last-requires c κs = (c.before.before.if1.false, omega arith, c.before.loop.invariant.1)

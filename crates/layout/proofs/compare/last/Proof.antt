@@ -2,7 +2,7 @@
 use native.Mathlib.Omega.{arith}
 use borrow.Author.Rules.{rules}
 use Rattle.seq.specs.Bytes.{part}
-use Rattle.seq.specs.CompareLaws.{nothing_left, last-decides}
+use Rattle.seq.specs.CompareLaws.{nothing_left, last_decides}
 use Rattle.layout.proofs.compare.last.Statement.{statement}
 use Rattle.layout.proofs.compare.last.Tie as tie
 
@@ -26,7 +26,7 @@ unfolding part
 returns-2 c =
     let args = c.before.before.before.before.args in
     let pre = c.before.before.before.before.requires in
-    last-decides args.a.now args.b.now pre.0 args.whole pre.1 pre.2 c.same-short.result c.before.if1.false c.same-short.ensures
+    last_decides args.a.now args.b.now pre.0 args.whole pre.1 pre.2 c.same-short.result c.before.if1.false c.same-short.ensures
 
 pub last-spec : {M : Type 1} → statement M
 last-spec =

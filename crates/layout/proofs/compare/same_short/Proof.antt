@@ -4,7 +4,7 @@ use native.Mathlib.Omega.{arith}
 use borrow.Author.Rules.{rules}
 use Rattle.seq.specs.Truth.{fails, holds}
 use Rattle.seq.specs.Bytes.{part}
-use Rattle.seq.specs.CompareLaws.{ends-differ, ends-decide}
+use Rattle.seq.specs.CompareLaws.{ends_differ, ends_decide}
 use Rattle.layout.proofs.compare.same_short.Statement.{statement}
 use Rattle.layout.proofs.compare.same_short.Tie as tie
 
@@ -17,7 +17,7 @@ same-four-requires c κs = search rules
 returns : tie.Need-returns
 returns c =
     let args = c.before.before.before.before.before.args in
-    sym (ends-differ args.a.now args.b.now args.at args.n 4 (omega arith) (fails c.before.same-four.ensures c.if2.true))
+    sym (ends_differ args.a.now args.b.now args.at args.n 4 (omega arith) (fails c.before.same-four.ensures c.if2.true))
 
 sub-same-four : tie.Need-overflow-sub-same-four
 sub-same-four c = search rules
@@ -29,7 +29,7 @@ returns-2 : tie.Need-returns-2
 returns-2 c =
     let args = c.before.before.before.before.before.before.args in
     let pre = c.before.before.before.before.before.before.requires in
-    c.same-four2.ensures ∙ ends-decide args.a.now args.b.now args.at args.n 4 (omega arith) (omega arith) pre.2 pre.3 (holds c.before.before.same-four.ensures c.before.if2.false)
+    c.same-four2.ensures ∙ ends_decide args.a.now args.b.now args.at args.n 4 (omega arith) (omega arith) pre.2 pre.3 (holds c.before.before.same-four.ensures c.before.if2.false)
 
 sub-if3 : tie.Need-overflow-sub-if3
 sub-if3 c = search rules
@@ -40,7 +40,7 @@ same-two-requires c κs = search rules
 returns-3 : tie.Need-returns-3
 returns-3 c =
     let args = c.before.before.before.before.before.before.args in
-    sym (ends-differ args.a.now args.b.now args.at args.n 2 (omega arith) (fails c.before.same-two.ensures c.if4.true))
+    sym (ends_differ args.a.now args.b.now args.at args.n 2 (omega arith) (fails c.before.same-two.ensures c.if4.true))
 
 sub-same-two : tie.Need-overflow-sub-same-two
 sub-same-two c = search rules
@@ -52,7 +52,7 @@ returns-4 : tie.Need-returns-4
 returns-4 c =
     let args = c.before.before.before.before.before.before.before.args in
     let pre = c.before.before.before.before.before.before.before.requires in
-    c.same-two2.ensures ∙ ends-decide args.a.now args.b.now args.at args.n 2 (omega arith) (omega arith) pre.2 pre.3 (holds c.before.before.same-two.ensures c.before.if4.false)
+    c.same-two2.ensures ∙ ends_decide args.a.now args.b.now args.at args.n 2 (omega arith) (omega arith) pre.2 pre.3 (holds c.before.before.same-two.ensures c.before.if4.false)
 
 sub_same : tie.Need-overflow-sub-same
 sub_same c = search rules

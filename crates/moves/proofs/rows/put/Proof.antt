@@ -1,6 +1,6 @@
 -- `moves::rows::put` meets its contract. Assumes nothing.
 use native.Mathlib.Omega.{arith}
-use Rattle.moves.specs.Filled.{rename-results-below, rename-filled, planned-filled}
+use Rattle.moves.specs.Filled.{rename_results_below, rename_filled, planned_filled}
 use borrow.Author.Rules.{rules}
 use Rattle.moves.proofs.rows.put.Statement.{statement}
 use Rattle.moves.proofs.rows.put.Tie as tie
@@ -20,12 +20,12 @@ put-requires c κs = search rules
 put-clear-requires : tie.Need-put-clear-requires
 put-clear-requires c κs =
     let args = c.before.before.before.before.before.before.before.before.before.before.before.before.before.before.before.before.before.before.before.before.args in
-    (search rules, rename-results-below args.h args.image.now args.m args.called.now c.before.before.before.put.ensures, search rules)
+    (search rules, rename_results_below args.h args.image.now args.m args.called.now c.before.before.before.put.ensures, search rules)
 
 add-result : tie.Need-overflow-add-result
 add-result c =
     let args = c.before.before.before.before.before.before.before.before.before.before.before.before.before.before.before.before.before.before.before.before.before.before.before.args in
-    let l = rename-results-below args.h args.image.now args.m args.called.now c.before.before.before.before.before.before.put.ensures in
+    let l = rename_results_below args.h args.image.now args.m args.called.now c.before.before.before.before.before.before.put.ensures in
     omega arith
 
 same_length : tie.Need-same-length
@@ -38,8 +38,8 @@ returns c =
     let journal = c.before.before.before.before.before.before.before.before.before.before.before.before.before.before.put-start.ensures in
     let entry = c.before.before.before.before.before.before.before.before.before.before.put-entry.ensures in
     let results = c.before.before.before.before.before.before.put.ensures in
-    planned-filled args.h args.image.now args.m args.called.now args.plan.now cleared
-    (rename-filled args.h args.image.now args.m args.called.now journal entry results c.before.before.put-clear.ensures)
+    planned_filled args.h args.image.now args.m args.called.now args.plan.now cleared
+    (rename_filled args.h args.image.now args.m args.called.now journal entry results c.before.before.put-clear.ensures)
 
 pub put_spec : {M : Type 1} → statement M
 put_spec =

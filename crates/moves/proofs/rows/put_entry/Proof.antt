@@ -12,13 +12,13 @@ array-borrow-prefix-bytes : tie.Need-array-borrow-prefix-bytes
 array-borrow-prefix-bytes c = search rules
 
 slice-aggregate-put-made : tie.Need-slice-aggregate-put-made
-slice-aggregate-put-made c = sym (length-take-le _ _ (omega (arith, c.before.before.before.before.before.requires.1.width-most)))
+slice-aggregate-put-made c = sym (length-take-le _ _ (omega (arith, c.before.before.before.before.before.requires.1.width_most)))
 
 put-made-requires : tie.Need-put-made-requires
 put-made-requires c κs =
     let args = c.before.before.before.before.before.args in
     let laid = c.before.before.before.before.before.requires.1 in
-    (search rules, search rules, search rules, length-take-le args.h.width (replicate {A = ℕ} 64 0) (omega (arith, laid.width-most)), search rules)
+    (search rules, search rules, search rules, length-take-le args.h.width (replicate {A = ℕ} 64 0) (omega (arith, laid.width_most)), search rules)
 
 same_length : tie.Need-same-length
 same_length c = search rules

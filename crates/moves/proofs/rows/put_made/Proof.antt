@@ -1,6 +1,6 @@
 -- `moves::rows::put_made` meets its contract. Assumes nothing.
 use Rattle.plan.specs.WriteLaws.{row_put}
-use Rattle.moves.specs.Plan.{entryRow}
+use Rattle.moves.specs.Plan.{entry_row}
 use borrow.Author.Rules.{rules}
 use Rattle.moves.proofs.rows.put_made.Statement.{statement}
 use Rattle.moves.proofs.rows.put_made.Tie as tie
@@ -23,7 +23,7 @@ same-length-2 c = search rules
 returns : tie.Need-returns
 returns c =
     let args = c.before.before.before.before.before.before.before.before.before.before.before.before.before.before.args in
-    row_put args.h (entryRow args.h args.image.now args.m args.called.now) _ _ c.before.before.put-row.ensures c.before.before.before.before.entry.ensures
+    row_put args.h (entry_row args.h args.image.now args.m args.called.now) _ _ c.before.before.put-row.ensures c.before.before.before.before.entry.ensures
     c.before.before.before.before.before.before.before.before.make-entry.ensures
 
 pub put-made-spec : {M : Type 1} → statement M

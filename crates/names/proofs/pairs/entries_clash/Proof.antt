@@ -4,7 +4,7 @@ use mathlib.Core.Bool.{and-false}
 use native.Mathlib.Omega.{arith}
 use borrow.Author.Rules.{rules}
 use borrow.Author.Tests.{eq-eqb, ne_eqb}
-use Rattle.layout.specs.Fields.{entryNameLength, entryParent, entryName}
+use Rattle.layout.specs.Fields.{entry_name_length, entry_parent, entry_name}
 use Rattle.layout.specs.RecordLaws.{field_of}
 use Rattle.layout.specs.View.{view_of}
 use Rattle.names.specs.Name.{clash}
@@ -19,7 +19,7 @@ name-length-requires c κs = search rules
 
 returns : tie.Need-returns
 unfolding clash view_of
-returns c = simp (eq-eqb _ _ (sym (field_of entryNameLength c.before.before.entry.ensures c.before.name-length.ensures.0) ∙ c.if1.true))
+returns c = simp (eq-eqb _ _ (sym (field_of entry_name_length c.before.before.entry.ensures c.before.name-length.ensures.0) ∙ c.if1.true))
 
 entry-requires-2 : tie.Need-entry-requires-2
 entry-requires-2 c κs = search rules
@@ -29,7 +29,7 @@ name-length-requires-2 c κs = search rules
 
 returns-2 : tie.Need-returns-2
 unfolding clash view_of
-returns-2 c = simp (and-false, eq-eqb _ _ (sym (field_of entryNameLength c.before.before.entry2.ensures c.before.name-length2.ensures.0) ∙ c.if2.true))
+returns-2 c = simp (and-false, eq-eqb _ _ (sym (field_of entry_name_length c.before.before.entry2.ensures c.before.name-length2.ensures.0) ∙ c.if2.true))
 
 parent-requires : tie.Need-parent-requires
 parent-requires c κs = search rules
@@ -40,8 +40,8 @@ parent-requires-2 c κs = search rules
 returns-3 : tie.Need-returns-3
 unfolding clash view_of
 returns-3 c =
-    let a = field_of entryParent c.before.before.before.before.before.before.before.before.entry.ensures c.before.before.parent.ensures.0 in
-    let b = field_of entryParent c.before.before.before.before.before.entry2.ensures c.before.parent2.ensures.0 in
+    let a = field_of entry_parent c.before.before.before.before.before.before.before.before.entry.ensures c.before.before.parent.ensures.0 in
+    let b = field_of entry_parent c.before.before.before.before.before.entry2.ensures c.before.parent2.ensures.0 in
     simp (and-false, ne_eqb _ _ (λ e. c.if3.true (a ∙ e ∙ sym b)))
 
 name-requires : tie.Need-name-requires
@@ -50,8 +50,8 @@ name-requires c κs =
     let args = c.before.before.before.before.before.before.before.before.before.before.args in
     let pre = c.before.before.before.before.before.before.before.before.before.before.requires in
     let entry = c.before.before.before.before.before.before.before.before.entry in
-    let n = ap entryNameLength entry.ensures.is in
-    omega (arith, pre.1.fits args.i pre.2, entry.ensures.long, pre.0.width-least)
+    let n = ap entry_name_length entry.ensures.is in
+    omega (arith, pre.1.fits args.i pre.2, entry.ensures.long, pre.0.width_least)
 
 name-requires-2 : tie.Need-name-requires-2
 unfolding view_of
@@ -59,8 +59,8 @@ name-requires-2 c κs =
     let args = c.before.before.before.before.before.before.before.before.before.before.before.args in
     let pre = c.before.before.before.before.before.before.before.before.before.before.before.requires in
     let entry2 = c.before.before.before.before.before.before.entry2 in
-    let n = ap entryNameLength entry2.ensures.is in
-    omega (arith, pre.1.fits args.j pre.3, entry2.ensures.long, pre.0.width-least)
+    let n = ap entry_name_length entry2.ensures.is in
+    omega (arith, pre.1.fits args.j pre.3, entry2.ensures.long, pre.0.width_least)
 
 compare-requires : tie.Need-compare-requires
 compare-requires c κs = search rules
@@ -69,7 +69,7 @@ returns-4 : tie.Need-returns-4
 unfolding clash view_of
 returns-4 c =
     let entry = c.before.before.before.before.before.before.before.before.before.before.before.entry in
-    let name-length = c.before.before.before.before.before.before.before.before.before.before.name-length in
+    let name_length_lem = c.before.before.before.before.before.before.before.before.before.before.name-length in
     let if1 = c.before.before.before.before.before.before.before.before.before.if1 in
     let entry2 = c.before.before.before.before.before.before.before.before.entry2 in
     let name-length2 = c.before.before.before.before.before.before.before.name-length2 in
@@ -77,12 +77,12 @@ returns-4 c =
     let parent = c.before.before.before.before.before.parent in
     let parent2 = c.before.before.before.before.parent2 in
     let if3 = c.before.before.before.if3 in
-    let a = c.before.before.name.ensures ∙ ap entryName entry.ensures.is in
-    let b = c.before.name2.ensures ∙ ap entryName entry2.ensures.is in
+    let a = c.before.before.name.ensures ∙ ap entry_name entry.ensures.is in
+    let b = c.before.name2.ensures ∙ ap entry_name entry2.ensures.is in
     simp (
-      ne_eqb _ _ (λ e. if1.false (field_of entryNameLength entry.ensures name-length.ensures.0 ∙ e)),
-      ne_eqb _ _ (λ e. if2.false (field_of entryNameLength entry2.ensures name-length2.ensures.0 ∙ e)),
-      eq-eqb _ _ (sym (field_of entryParent entry.ensures parent.ensures.0) ∙ if3.false ∙ field_of entryParent entry2.ensures parent2.ensures.0),
+      ne_eqb _ _ (λ e. if1.false (field_of entry_name_length entry.ensures name_length_lem.ensures.0 ∙ e)),
+      ne_eqb _ _ (λ e. if2.false (field_of entry_name_length entry2.ensures name-length2.ensures.0 ∙ e)),
+      eq-eqb _ _ (sym (field_of entry_parent entry.ensures parent.ensures.0) ∙ if3.false ∙ field_of entry_parent entry2.ensures parent2.ensures.0),
       c.compare.ensures.0,
       a,
       b,

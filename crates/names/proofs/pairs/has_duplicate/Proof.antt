@@ -5,10 +5,10 @@ use mathlib.Core.Bool.{false}
 use Prim.Native.Nat.{◌≤◌, ◌-◌}
 use borrow.Author.Rules.{rules}
 use Rattle.seq.specs.Search.{any}
-use Rattle.seq.specs.SearchLaws.{any_none, any-miss, any-hit, any-turn, any_out}
+use Rattle.seq.specs.SearchLaws.{any_none, any_miss, any_hit, any_turn, any_out}
 use Rattle.layout.specs.View.{view_of}
 use Rattle.names.specs.Name.{clash}
-use Rattle.names.specs.NameTests.{hasDuplicate}
+use Rattle.names.specs.NameTests.{has_duplicate}
 use Rattle.names.proofs.pairs.has_duplicate.Statement.{statement}
 use Rattle.names.proofs.pairs.has_duplicate.Tie as tie
 
@@ -42,7 +42,7 @@ loop-less c = search rules
 loop-again : tie.Need-loop-preserved invariant-loop decreases-loop invariant-pairs decreases-pairs
 loop-again c =
     let loop' = c.before.before.before.loop in
-    let turn = any-turn _ _ _ c.before.before.loop-test.true loop'.invariant.2 c.before.entries-clash.ensures c.if1.false in
+    let turn = any_turn _ _ _ c.before.before.loop-test.true loop'.invariant.2 c.before.entries-clash.ensures c.if1.false in
     (turn.0, loop'.invariant.1, turn.1)
 
 add-j : tie.Need-overflow-add-j invariant-loop decreases-loop invariant-pairs decreases-pairs
@@ -54,17 +54,17 @@ pairs-less c = search rules
 pairs-again : tie.Need-pairs-preserved invariant-loop decreases-loop invariant-pairs decreases-pairs
 pairs-again c =
     let none = any_out _ _ _ c.before.loop.invariant.0 c.loop-test.false c.before.loop.invariant.2 in
-    (search rules, search rules, any-miss _ _ c.before.before.before.pairs.invariant.2 (sym none))
+    (search rules, search rules, any_miss _ _ c.before.before.before.pairs.invariant.2 (sym none))
 
 returns : tie.Need-returns invariant-loop decreases-loop invariant-pairs decreases-pairs
-unfolding hasDuplicate view_of
+unfolding has_duplicate view_of
 returns c = c.before.pairs.invariant.1 ∙ any_out _ _ _ c.before.pairs.invariant.0 c.pairs-test.false c.before.pairs.invariant.2
 
 returns-2 : tie.Need-returns-2 invariant-loop decreases-loop invariant-pairs decreases-pairs
-unfolding hasDuplicate view_of
+unfolding has_duplicate view_of
 returns-2 c =
     let pairs-test = c.before.before.before.before.pairs-test in
-    sym (any-hit _ _ _ pairs-test.true (any-hit _ _ _ c.before.before.loop-test.true (sym c.before.entries-clash.ensures ∙ c.if1.true)))
+    sym (any_hit _ _ _ pairs-test.true (any_hit _ _ _ c.before.before.loop-test.true (sym c.before.entries-clash.ensures ∙ c.if1.true)))
 
 pub has-duplicate-spec : {M : Type 1} → statement M
 has-duplicate-spec =

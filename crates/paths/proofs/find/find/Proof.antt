@@ -6,14 +6,14 @@ use Prim.Native.Nat.{◌≤◌, ◌-◌}
 use native.Mathlib.Omega.{arith}
 use borrow.Author.Rules.{rules}
 use Rattle.seq.specs.Search.{any}
-use Rattle.seq.specs.SearchLaws.{any_none, any-miss, first-hit, first_out}
+use Rattle.seq.specs.SearchLaws.{any_none, any_miss, first_hit, first_out}
 use Rattle.layout.specs.View.{view_of}
-use Rattle.paths.specs.Lookup.{isNamed, lookup}
+use Rattle.paths.specs.Lookup.{is_named, lookup}
 use Rattle.paths.proofs.find.find.Statement.{statement}
 use Rattle.paths.proofs.find.find.Tie as tie
 
 abbrev invariant-loop : tie.invariant-loop
-invariant-loop s h d name n j₀ j = (j ≤ n) × (any (isNamed (view_of h s) d name) j ≡ false)
+invariant-loop s h d name n j₀ j = (j ≤ n) × (any (is_named (view_of h s) d name) j ≡ false)
 
 abbrev decreases-loop : tie.decreases-loop
 decreases-loop s h d name n j₀ j = n - j
@@ -37,7 +37,7 @@ returns-2 : tie.Need-returns-2 invariant-loop decreases-loop
 unfolding lookup view_of
 returns-2 c =
     let run = c.before.before.before.run-from.ensures in
-    (sym (first-hit _ _ _ (omega (arith, c.before.before.if1.false, run.1)) run.2 (sym c.before.is-named.ensures ∙ c.if2.true)), search rules)
+    (sym (first_hit _ _ _ (omega (arith, c.before.before.if1.false, run.1)) run.2 (sym c.before.is-named.ensures ∙ c.if2.true)), search rules)
 
 add-held-from : tie.Need-overflow-add-held-from invariant-loop decreases-loop
 add-held-from c = search rules
@@ -51,7 +51,7 @@ loop-less c = search rules
 loop-again : tie.Need-loop-preserved invariant-loop decreases-loop
 loop-again c =
     let run = c.before.before.before.before.run-from.ensures in
-    (search rules, c.held-from.ensures.2.onward _ (any-miss _ _ run.2 (sym c.before.before.is-named.ensures ∙ c.before.if2.false)))
+    (search rules, c.held-from.ensures.2.onward _ (any_miss _ _ run.2 (sym c.before.before.is-named.ensures ∙ c.before.if2.false)))
 
 returns-3 : tie.Need-returns-3 invariant-loop decreases-loop
 unfolding lookup view_of

@@ -5,7 +5,7 @@ use Prim.Native.Nat.{◌≤◌, ◌-◌}
 use borrow.Author.Rules.{rules}
 use Rattle.layout.specs.View.{view_of}
 use Rattle.paths.specs.LookupFacts.{Skips}
-use Rattle.paths.specs.LookupLaws.{skip-more}
+use Rattle.paths.specs.LookupLaws.{skip_more}
 use Rattle.paths.proofs.find.held_from.Statement.{statement}
 use Rattle.paths.proofs.find.held_from.Tie as tie
 
@@ -35,7 +35,7 @@ loop-less c = search rules
 
 loop-again : tie.Need-loop-preserved invariant-loop decreases-loop
 loop-again c =
-    (search rules, search rules, skip-more _ _ _ _ c.before.before.before.loop.invariant.2 (sym c.before.lies_in.ensures ∙ c.if1.false) refl)
+    (search rules, search rules, skip_more _ _ _ _ c.before.before.before.loop.invariant.2 (sym c.before.lies_in.ensures ∙ c.if1.false) refl)
 
 returns-2 : tie.Need-returns-2 invariant-loop decreases-loop
 returns-2 c = search rules

@@ -2,7 +2,7 @@
 use mathlib.Core.Path.{sym, ◌∙◌}
 use mathlib.Core.Bool.{false≢true}
 use borrow.Author.Rules.{rules}
-use Rattle.paths.specs.LookupLaws.{skip-four}
+use Rattle.paths.specs.LookupLaws.{skip_four}
 use Rattle.paths.proofs.find.one_of_four.Statement.{statement}
 use Rattle.paths.proofs.find.one_of_four.Tie as tie
 
@@ -41,7 +41,7 @@ returns-4 c e =
     let third = c.before.before in
     let second = third.before.before in
     let first = second.before.before in
-    skip-four _ _ _ (sym first.lies_in.ensures ∙ second.before.if1.false)
+    skip_four _ _ _ (sym first.lies_in.ensures ∙ second.before.if1.false)
     (sym second.lies-in2.ensures ∙ third.before.if2.false)
     (sym third.lies-in3.ensures ∙ c.before.if3.false)
     (sym c.lies-in4.ensures ∙ e)

@@ -4,7 +4,7 @@ use Prim.Native.Nat.{◌≤◌, ◌-◌}
 use borrow.Author.Rules.{rules}
 use Rattle.layout.specs.View.{view_of}
 use Rattle.paths.specs.LookupFacts.{Skips}
-use Rattle.paths.specs.LookupLaws.{skip-none, skip-join}
+use Rattle.paths.specs.LookupLaws.{skip_none, skip_join}
 use Rattle.paths.proofs.find.past_fours.Statement.{statement}
 use Rattle.paths.proofs.find.past_fours.Tie as tie
 
@@ -15,7 +15,7 @@ abbrev decreases-loop : tie.decreases-loop
 decreases-loop s h d from n j₀ j = n - j
 
 loop-holds : tie.Need-loop-init invariant-loop decreases-loop
-loop-holds c = (search rules, search rules, skip-none _ _ _)
+loop-holds c = (search rules, search rules, skip_none _ _ _)
 
 add-loop : tie.Need-overflow-add-loop invariant-loop decreases-loop
 add-loop c = search rules
@@ -33,7 +33,7 @@ loop-less : tie.Need-loop-smaller invariant-loop decreases-loop
 loop-less c = search rules
 
 loop-again : tie.Need-loop-preserved invariant-loop decreases-loop
-loop-again c = (search rules, search rules, skip-join _ _ c.before.before.before.loop.invariant.2 (c.before.one-of-four.ensures c.if1.false))
+loop-again c = (search rules, search rules, skip_join _ _ c.before.before.before.loop.invariant.2 (c.before.one-of-four.ensures c.if1.false))
 
 returns-2 : tie.Need-returns-2 invariant-loop decreases-loop
 returns-2 c = search rules

@@ -5,14 +5,14 @@ use mathlib.Core.Bool.{false}
 use Prim.Native.Nat.{◌≤◌, ◌-◌}
 use borrow.Author.Rules.{rules}
 use Rattle.seq.specs.Search.{any}
-use Rattle.seq.specs.SearchLaws.{any-miss}
+use Rattle.seq.specs.SearchLaws.{any_miss}
 use Rattle.layout.specs.View.{view_of}
-use Rattle.paths.specs.Lookup.{isNamed}
+use Rattle.paths.specs.Lookup.{is_named}
 use Rattle.paths.proofs.find.run_from.Statement.{statement}
 use Rattle.paths.proofs.find.run_from.Tie as tie
 
 abbrev invariant-loop : tie.invariant-loop
-invariant-loop s h d name from n j₀ j = (from ≤ j) × (j ≤ n) × (any (isNamed (view_of h s) d name) j ≡ false)
+invariant-loop s h d name from n j₀ j = (from ≤ j) × (j ≤ n) × (any (is_named (view_of h s) d name) j ≡ false)
 
 abbrev decreases-loop : tie.decreases-loop
 decreases-loop s h d name from n j₀ j = n - j
@@ -41,7 +41,7 @@ loop-less c = search rules
 loop-again : tie.Need-loop-preserved invariant-loop decreases-loop
 loop-again c =
     let loop' = c.before.before.before.before.before.loop in
-    (search rules, search rules, any-miss _ _ loop'.invariant.2 (sym c.before.is-named.ensures ∙ c.if2.false))
+    (search rules, search rules, any_miss _ _ loop'.invariant.2 (sym c.before.is-named.ensures ∙ c.if2.false))
 
 returns-3 : tie.Need-returns-3 invariant-loop decreases-loop
 returns-3 c = search rules

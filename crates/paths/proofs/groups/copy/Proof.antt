@@ -8,7 +8,7 @@ use lib.ListN.{length-set, length, take}
 use lib.Seq.{take-length}
 use borrow.Author.Rules.{rules}
 use Rattle.seq.specs.Bytes.{put}
-use Rattle.seq.specs.BytesLaws.{put-none, put-more}
+use Rattle.seq.specs.BytesLaws.{put_none, put_more}
 use Rattle.paths.proofs.groups.copy.Statement.{statement}
 use Rattle.paths.proofs.groups.copy.Tie as tie
 
@@ -19,7 +19,7 @@ abbrev decreases-loop : tie.decreases-loop
 decreases-loop groups₀ list k₀ groups k = length list - k
 
 loop-holds : tie.Need-loop-init invariant-loop decreases-loop
-loop-holds c = (search rules, sym (put-none _ _), refl)
+loop-holds c = (search rules, sym (put_none _ _), refl)
 
 mul-groups : tie.Need-overflow-mul-groups invariant-loop decreases-loop
 mul-groups c = search rules
@@ -42,7 +42,7 @@ loop-less c = search rules
 loop-again : tie.Need-loop-preserved invariant-loop decreases-loop
 loop-again c =
     let at = c.before.before in
-    let more = put-more at.before.args.groups.now 0 at.before.args.list.now at.loop.k c.before.loop-test.true in
+    let more = put_more at.before.args.groups.now 0 at.before.args.list.now at.loop.k c.before.loop-test.true in
     (search rules, rw at.loop.invariant.1 (rw zero-add at more), simp length-set at.loop.invariant.2)
 
 same_length : tie.Need-same-length invariant-loop decreases-loop

@@ -7,13 +7,13 @@ use lib.ListN.{length, get_or}
 use borrow.Author.Rules.{rules}
 use borrow.Author.Tests.{eq-eqb, ne_eqb}
 use Rattle.seq.specs.Search.{any}
-use Rattle.seq.specs.SearchLaws.{any_none, any-miss, first-hit, first_out}
-use Rattle.paths.specs.Path.{isSlash, slashes}
+use Rattle.seq.specs.SearchLaws.{any_none, any_miss, first_hit, first_out}
+use Rattle.paths.specs.Path.{is_slash, slashes}
 use Rattle.paths.proofs.path.slashes.Statement.{statement}
 use Rattle.paths.proofs.path.slashes.Tie as tie
 
 abbrev invariant-loop : tie.invariant-loop
-invariant-loop p k₀ k = (k ≤ length p) × (any (λ i. not (isSlash (get_or p i 0))) k ≡ false)
+invariant-loop p k₀ k = (k ≤ length p) × (any (λ i. not (is_slash (get_or p i 0))) k ≡ false)
 
 abbrev decreases-loop : tie.decreases-loop
 decreases-loop p k₀ k = length p - k
@@ -28,7 +28,7 @@ returns : tie.Need-returns invariant-loop decreases-loop
 unfolding slashes
 returns c =
     let loop' = c.before.before.before.loop in
-    (sym (first-hit _ _ _ c.before.before.loop-test.true loop'.invariant.1 (simp (ne_eqb _ _ c.if1.true))), search rules)
+    (sym (first_hit _ _ _ c.before.before.loop-test.true loop'.invariant.1 (simp (ne_eqb _ _ c.if1.true))), search rules)
 
 add-k : tie.Need-overflow-add-k invariant-loop decreases-loop
 add-k c = search rules
@@ -37,7 +37,7 @@ loop-less : tie.Need-loop-smaller invariant-loop decreases-loop
 loop-less c = search rules
 
 loop-again : tie.Need-loop-preserved invariant-loop decreases-loop
-loop-again c = (search rules, any-miss _ _ c.before.before.before.loop.invariant.1 (simp (eq-eqb _ _ c.if1.false)))
+loop-again c = (search rules, any_miss _ _ c.before.before.before.loop.invariant.1 (simp (eq-eqb _ _ c.if1.false)))
 
 returns-2 : tie.Need-returns-2 invariant-loop decreases-loop
 unfolding slashes

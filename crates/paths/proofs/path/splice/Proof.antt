@@ -5,7 +5,7 @@ use lib.ListN.{length}
 use borrow.Author.Rules.{rules}
 use Rattle.seq.specs.Bytes.{put}
 use Rattle.paths.specs.WorkingPathLaws.{twice}
-use Rattle.paths.specs.WorkingPath.{workingPath}
+use Rattle.paths.specs.WorkingPath.{working_path}
 use Rattle.paths.proofs.path.splice.Statement.{statement}
 use Rattle.paths.proofs.path.splice.Tie as tie
 
@@ -22,7 +22,7 @@ copy-requires-2 : tie.Need-copy-requires-2
 copy-requires-2 c κs = search rules
 
 returns : tie.Need-returns
-unfolding workingPath
+unfolding working_path
 returns c =
     let args = c.before.before.before.before.before.before.before.before.args in
     let pre = c.before.before.before.before.before.before.before.before.requires in

@@ -2,11 +2,11 @@
 use mathlib.Core.Path.{sym, ◌∙◌}
 use borrow.Author.Rules.{rules}
 use borrow.Author.Tests.{eq-eqb}
-use Rattle.layout.specs.Fields.{inodeMode, inodeOwner, inodeGroup}
+use Rattle.layout.specs.Fields.{inode_mode, inode_owner, inode_group}
 use Rattle.layout.specs.RecordLaws.{field_of}
 use Rattle.layout.specs.View.{view_of}
 use Rattle.paths.specs.Permission.{allows}
-use Rattle.paths.specs.PermissionLaws.{by-owner, by-group, by-others}
+use Rattle.paths.specs.PermissionLaws.{by_owner, by_group, by_others}
 use Rattle.paths.proofs.permission.allows.Statement.{statement}
 use Rattle.paths.proofs.permission.allows.Tie as tie
 
@@ -33,9 +33,9 @@ returns-2 : tie.Need-returns-2
 unfolding view_of
 returns-2 c =
     let reads = c.before.before.before.before.inode.ensures in
-    let mode = field_of inodeMode reads c.before.before.before.mode.ensures.0 in
-    let owner = field_of inodeOwner reads c.before.before.owner.ensures in
-    by-owner _ _ _ _ c.before.before.before.before.before.if1.false mode owner c.if2.true
+    let mode = field_of inode_mode reads c.before.before.before.mode.ensures.0 in
+    let owner = field_of inode_owner reads c.before.before.owner.ensures in
+    by_owner _ _ _ _ c.before.before.before.before.before.if1.false mode owner c.if2.true
 
 group-requires : tie.Need-group-requires
 group-requires c κs = search rules
@@ -53,9 +53,9 @@ returns-3 : tie.Need-returns-3
 unfolding view_of
 returns-3 c =
     let reads = c.before.before.before.before.before.before.before.inode.ensures in
-    let mode = field_of inodeMode reads c.before.before.before.before.before.before.mode.ensures.0 in
-    let owner = field_of inodeOwner reads c.before.before.before.before.before.owner.ensures in
-    by-group _ _ _ _ c.before.before.before.before.before.before.before.before.if1.false mode owner c.before.before.before.if2.false (field_of inodeGroup reads c.before.before.group.ensures) (sym c.before.in_group.ensures ∙ c.if3.true)
+    let mode = field_of inode_mode reads c.before.before.before.before.before.before.mode.ensures.0 in
+    let owner = field_of inode_owner reads c.before.before.before.before.before.owner.ensures in
+    by_group _ _ _ _ c.before.before.before.before.before.before.before.before.if1.false mode owner c.before.before.before.if2.false (field_of inode_group reads c.before.before.group.ensures) (sym c.before.in_group.ensures ∙ c.if3.true)
 
 div-result-3 : tie.Need-nonzero-div-result-3
 div-result-3 c = search rules
@@ -64,9 +64,9 @@ returns-4 : tie.Need-returns-4
 unfolding view_of
 returns-4 c =
     let reads = c.before.before.before.before.before.before.before.inode.ensures in
-    let mode = field_of inodeMode reads c.before.before.before.before.before.before.mode.ensures.0 in
-    let owner = field_of inodeOwner reads c.before.before.before.before.before.owner.ensures in
-    by-others _ _ _ _ c.before.before.before.before.before.before.before.before.if1.false mode owner c.before.before.before.if2.false (field_of inodeGroup reads c.before.before.group.ensures) (sym c.before.in_group.ensures ∙ c.if3.false)
+    let mode = field_of inode_mode reads c.before.before.before.before.before.before.mode.ensures.0 in
+    let owner = field_of inode_owner reads c.before.before.before.before.before.owner.ensures in
+    by_others _ _ _ _ c.before.before.before.before.before.before.before.before.if1.false mode owner c.before.before.before.if2.false (field_of inode_group reads c.before.before.group.ensures) (sym c.before.in_group.ensures ∙ c.if3.false)
 
 pub allows-spec : {M : Type 1} → statement M
 allows-spec =

@@ -7,13 +7,13 @@ use lib.ListN.{length, get_or}
 use borrow.Author.Rules.{rules}
 use Rattle.seq.specs.Truth.{fails, holds}
 use Rattle.seq.specs.Search.{all}
-use Rattle.seq.specs.SearchLaws.{all_none, all_more, all-not, all-out}
-use Rattle.paths.specs.Portable.{isPortableByte, isPortable}
+use Rattle.seq.specs.SearchLaws.{all_none, all_more, all_not, all_out}
+use Rattle.paths.specs.Portable.{is_portable_byte, is_portable}
 use Rattle.paths.proofs.portable.is_portable.Statement.{statement}
 use Rattle.paths.proofs.portable.is_portable.Tie as tie
 
 abbrev invariant-loop : tie.invariant-loop
-invariant-loop name k₀ k = (k ≤ length name) × (all (λ i. isPortableByte (get_or name i 0)) k ≡ true)
+invariant-loop name k₀ k = (k ≤ length name) × (all (λ i. is_portable_byte (get_or name i 0)) k ≡ true)
 
 abbrev decreases-loop : tie.decreases-loop
 decreases-loop name k₀ k = length name - k
@@ -28,8 +28,8 @@ is-portable-byte-requires : tie.Need-is-portable-byte-requires invariant-loop de
 is-portable-byte-requires c κs = search rules
 
 returns : tie.Need-returns invariant-loop decreases-loop
-unfolding isPortable
-returns c = sym (all-not _ _ _ c.before.before.before.loop-test.true (fails c.before.is-portable-byte.ensures c.if1.true))
+unfolding is_portable
+returns c = sym (all_not _ _ _ c.before.before.before.loop-test.true (fails c.before.is-portable-byte.ensures c.if1.true))
 
 add-k : tie.Need-overflow-add-k invariant-loop decreases-loop
 add-k c = search rules
@@ -44,8 +44,8 @@ loop-again c = (
 )
 
 returns-2 : tie.Need-returns-2 invariant-loop decreases-loop
-unfolding isPortable
-returns-2 c = all-out _ _ _ c.before.loop.invariant.0 c.loop-test.false c.before.loop.invariant.1
+unfolding is_portable
+returns-2 c = all_out _ _ _ c.before.loop.invariant.0 c.loop-test.false c.before.loop.invariant.1
 
 pub is-portable-spec : {M : Type 1} → statement M
 is-portable-spec =

@@ -5,13 +5,13 @@ use mathlib.Core.List.{List}
 use Prim.Native.Nat.{ℕ, ◌+◌, ◌-◌, ◌≤◌}
 use lib.ListN.{length}
 use borrow.Author.Rules.{rules}
-use Rattle.recover.specs.Outcome.{appliedFrom}
-use Rattle.recover.specs.OutcomeLaws.{applied-first, applied-turn, applied-end}
+use Rattle.recover.specs.Outcome.{applied_from}
+use Rattle.recover.specs.OutcomeLaws.{applied_first, applied_turn, applied_end}
 use Rattle.recover.proofs.outcome.apply.Statement.{statement}
 use Rattle.recover.proofs.outcome.apply.Tie as tie
 
 abbrev invariant-loop : tie.invariant-loop
-invariant-loop image₀ plan n i₀ image i = (i ≤ n) × (length image ≡ length image₀) × (appliedFrom image plan i (n - i) ≡ appliedFrom image₀ plan 0 n)
+invariant-loop image₀ plan n i₀ image i = (i ≤ n) × (length image ≡ length image₀) × (applied_from image plan i (n - i) ≡ applied_from image₀ plan 0 n)
 
 abbrev decreases-loop : tie.decreases-loop
 decreases-loop image₀ plan n i₀ image i = n - i
@@ -19,7 +19,7 @@ decreases-loop image₀ plan n i₀ image i = n - i
 loop-holds : tie.Need-loop-init invariant-loop decreases-loop
 loop-holds c =
     let args = c.before.before.args in
-    (search rules, search rules, applied-first args.image.now args.plan.now args.n)
+    (search rules, search rules, applied_first args.image.now args.plan.now args.n)
 
 land-requires : tie.Need-land-requires invariant-loop decreases-loop
 land-requires c κs = search rules
@@ -37,8 +37,8 @@ loop-again c =
     let i = loop.i in (
       search rules,
       search rules,
-      ap (λ (x : List ℕ). appliedFrom x args.plan.now (i + 1) (args.n - (i + 1))) c.before.before.land.ensures.1
-          ∙ sym (applied-turn loop.image args.plan.now i args.n (search rules)) ∙ loop.invariant.2,
+      ap (λ (x : List ℕ). applied_from x args.plan.now (i + 1) (args.n - (i + 1))) c.before.before.land.ensures.1
+          ∙ sym (applied_turn loop.image args.plan.now i args.n (search rules)) ∙ loop.invariant.2,
     )
 
 same_length : tie.Need-same-length invariant-loop decreases-loop
@@ -48,7 +48,7 @@ returns : tie.Need-returns invariant-loop decreases-loop
 returns c =
     let args = c.before.before.before.before.args in
     let loop = c.before.loop in
-    sym (applied-end loop.image args.plan.now loop.i args.n (search rules)) ∙ loop.invariant.2
+    sym (applied_end loop.image args.plan.now loop.i args.n (search rules)) ∙ loop.invariant.2
 
 pub apply-spec : {M : Type 1} → statement M
 apply-spec =

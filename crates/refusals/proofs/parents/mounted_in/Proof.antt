@@ -1,7 +1,7 @@
 -- `refusals::parents::mounted_in` meets its contract. Assumes nothing.
 use borrow.Author.Rules.{rules}
 use Rattle.seq.specs.Truth.{fails, holds}
-use Rattle.layout.specs.ViewLaws.{isKind-below}
+use Rattle.layout.specs.ViewLaws.{is_kind_below}
 use Rattle.refusals.proofs.parents.mounted_in.Statement.{statement}
 use Rattle.refusals.proofs.parents.mounted_in.Tie as tie
 
@@ -12,7 +12,7 @@ returns : tie.Need-returns
 returns c = simp (fails c.before.is-directory.ensures c.if1.true)
 
 system-requires : tie.Need-system-requires
-system-requires c κs = (c.before.before.before.requires.0, isKind-below _ _ _ 2 (holds c.before.is-directory.ensures c.if1.false))
+system-requires c κs = (c.before.before.before.requires.0, is_kind_below _ _ _ 2 (holds c.before.is-directory.ensures c.if1.false))
 
 system-requires-2 : tie.Need-system-requires-2
 system-requires-2 c κs = search rules

@@ -4,7 +4,7 @@ use mathlib.Core.List.{List}
 use lib.ListN.{drop}
 use borrow.Author.Rules.{rules}
 use Rattle.layout.specs.View.{View, view_of}
-use Rattle.refusals.specs.Rules.{Rule, decide, parentRules}
+use Rattle.refusals.specs.Rules.{Rule, decide, parent_rules}
 use Rattle.refusals.proofs.parents.number.Statement.{statement}
 use Rattle.refusals.proofs.parents.number.Tie as tie
 
@@ -12,7 +12,7 @@ abbrev view : tie.Start → View
 view start = view_of start.args.h start.args.image.now
 
 abbrev rules : tie.Start → List Rule
-rules start = parentRules (view start) start.args.c
+rules start = parent_rules (view start) start.args.c
 
 -- behind each test that failed, the rules behind it decide
 abbrev start-1 : tie.Else1 → tie.Start

@@ -6,16 +6,16 @@ use Prim.Native.Nat.{◌≤◌, ◌-◌}
 use borrow.Author.Rules.{rules}
 use borrow.Author.Tests.{eq-eqb, ne_eqb}
 use Rattle.seq.specs.Search.{any}
-use Rattle.seq.specs.SearchLaws.{any_none, any-miss, first-hit, first_out}
-use Rattle.layout.specs.Fields.{entryNameLength}
+use Rattle.seq.specs.SearchLaws.{any_none, any_miss, first_hit, first_out}
+use Rattle.layout.specs.Fields.{entry_name_length}
 use Rattle.layout.specs.RecordLaws.{field_of}
-use Rattle.layout.specs.View.{view_of, entryUsed}
-use Rattle.rename.specs.Order.{freeSlot}
+use Rattle.layout.specs.View.{view_of, entry_used}
+use Rattle.rename.specs.Order.{free_slot}
 use Rattle.rename.proofs.found.free_slot.Statement.{statement}
 use Rattle.rename.proofs.found.free_slot.Tie as tie
 
 abbrev invariant-loop : tie.invariant-loop
-invariant-loop s h n j₀ j = (j ≤ n) × (any (λ k. not (entryUsed (view_of h s) k)) j ≡ false)
+invariant-loop s h n j₀ j = (j ≤ n) × (any (λ k. not (entry_used (view_of h s) k)) j ≡ false)
 
 abbrev decreases-loop : tie.decreases-loop
 decreases-loop s h n j₀ j = n - j
@@ -30,11 +30,11 @@ name-length-requires : tie.Need-name-length-requires invariant-loop decreases-lo
 name-length-requires c κs = search rules
 
 returns : tie.Need-returns invariant-loop decreases-loop
-unfolding freeSlot view_of
+unfolding free_slot view_of
 returns c =
     let loop' = c.before.before.before.before.loop in
-    let free = sym (field_of entryNameLength c.before.before.entry.ensures c.before.name-length.ensures.0) ∙ c.if1.true in
-    (sym (first-hit _ _ _ c.before.before.before.loop-test.true loop'.invariant.1 (rw (eq-eqb _ _ free))), search rules)
+    let free = sym (field_of entry_name_length c.before.before.entry.ensures c.before.name-length.ensures.0) ∙ c.if1.true in
+    (sym (first_hit _ _ _ c.before.before.before.loop-test.true loop'.invariant.1 (rw (eq-eqb _ _ free))), search rules)
 
 add-j : tie.Need-overflow-add-j invariant-loop decreases-loop
 add-j c = search rules
@@ -46,11 +46,11 @@ loop-again : tie.Need-loop-preserved invariant-loop decreases-loop
 unfolding view_of
 loop-again c =
     let loop' = c.before.before.before.before.loop in
-    let is = field_of entryNameLength c.before.before.entry.ensures c.before.name-length.ensures.0 in
-    (search rules, any-miss _ _ loop'.invariant.1 (rw (ne_eqb _ _ (λ e. c.if1.false (is ∙ e)))))
+    let is = field_of entry_name_length c.before.before.entry.ensures c.before.name-length.ensures.0 in
+    (search rules, any_miss _ _ loop'.invariant.1 (rw (ne_eqb _ _ (λ e. c.if1.false (is ∙ e)))))
 
 returns-2 : tie.Need-returns-2 invariant-loop decreases-loop
-unfolding freeSlot view_of
+unfolding free_slot view_of
 returns-2 c = (first_out _ _ _ c.before.loop.invariant.0 c.loop-test.false c.before.loop.invariant.1, search rules)
 
 pub free-slot-spec : {M : Type 1} → statement M

@@ -1,7 +1,7 @@
 -- `rename::found::slot_of` meets its contract. Assumes nothing.
 use mathlib.Core.Path.{sym, ap, ◌∙◌}
 use Rattle.layout.specs.View.{view_of}
-use Rattle.component.specs.State.{findingOf}
+use Rattle.component.specs.State.{finding_of}
 use Rattle.rename.specs.Order.{slot_of}
 use borrow.Author.Rules.{rules}
 use Rattle.rename.proofs.found.slot_of.Statement.{statement}
@@ -22,12 +22,12 @@ enum-told-2 c = search rules
 returns : tie.Need-returns
 returns c =
     let args = c.before.before.before.before.args in
-    sym (ap (λ x. slot_of (view_of args.h args.image.now) (findingOf args.w.path x)) c.before.found.given.1)
+    sym (ap (λ x. slot_of (view_of args.h args.image.now) (finding_of args.w.path x)) c.before.found.given.1)
 
 returns-2 : tie.Need-returns-2
 returns-2 c =
     let args = c.before.before.before.before.args in
-    c.free-slot.ensures.0 ∙ sym (ap (λ x. slot_of (view_of args.h args.image.now) (findingOf args.w.path x)) c.before.enum_told.given.1)
+    c.free-slot.ensures.0 ∙ sym (ap (λ x. slot_of (view_of args.h args.image.now) (finding_of args.w.path x)) c.before.enum_told.given.1)
 
 returns-3 : tie.Need-returns-3
 returns-3 c = search rules

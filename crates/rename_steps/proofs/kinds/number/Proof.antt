@@ -2,7 +2,7 @@
 use mathlib.Core.Path.{sym, ◌∙◌}
 use native.Mathlib.Omega.{arith}
 use borrow.Author.Rules.{rules}
-use Rattle.layout.specs.ViewLaws.{kind-of, other-kind}
+use Rattle.layout.specs.ViewLaws.{kind_of_lem, other_kind}
 use Rattle.rename_steps.proofs.kinds.number.Statement.{statement}
 use Rattle.rename_steps.proofs.kinds.number.Tie as tie
 
@@ -12,12 +12,12 @@ kind-requires c κs = search rules
 of-directory-requires : tie.Need-of-directory-requires
 of-directory-requires c κs =
     let pre = c.before.before.before.requires in
-    (pre.0, pre.1, kind-of _ _ 2 (sym c.before.kind.ensures ∙ c.match.keys1) (omega arith))
+    (pre.0, pre.1, kind_of_lem _ _ 2 (sym c.before.kind.ensures ∙ c.match.keys1) (omega arith))
 
 of-other-requires : tie.Need-of-other-requires
 of-other-requires c κs =
     let pre = c.before.before.before.requires in
-    (pre.0, pre.1, other-kind _ _ 2 (λ e. c.match.rest.1 (c.before.kind.ensures ∙ e)))
+    (pre.0, pre.1, other_kind _ _ 2 (λ e. c.match.rest.1 (c.before.kind.ensures ∙ e)))
 
 returns : tie.Need-returns
 returns c = search rules

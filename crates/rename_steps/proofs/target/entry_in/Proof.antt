@@ -4,7 +4,7 @@ use mathlib.Core.Bool.{and-true, and-false}
 use borrow.Author.Tests.{eq-eqb, ne_eqb}
 use borrow.Author.Rules.{rules}
 use Rattle.layout.specs.View.{view_of}
-use Rattle.layout.specs.Fields.{entryNameLength, entryParent}
+use Rattle.layout.specs.Fields.{entry_name_length, entry_parent}
 use Rattle.layout.specs.RecordLaws.{field_of}
 use Rattle.rename_steps.proofs.target.entry_in.Statement.{statement}
 use Rattle.rename_steps.proofs.target.entry_in.Tie as tie
@@ -17,7 +17,7 @@ parent-requires c κs = search rules
 
 returns : tie.Need-returns
 unfolding view_of
-returns c = simp (and-false, ne_eqb _ _ (λ e. c.if1.true (field_of entryParent c.before.before.entry.ensures c.before.parent.ensures.0 ∙ e)))
+returns c = simp (and-false, ne_eqb _ _ (λ e. c.if1.true (field_of entry_parent c.before.before.entry.ensures c.before.parent.ensures.0 ∙ e)))
 
 name-length-requires : tie.Need-name-length-requires
 name-length-requires c κs = search rules
@@ -26,8 +26,8 @@ returns-2 : tie.Need-returns-2
 unfolding view_of
 returns-2 c =
     let entry = c.before.before.before.entry in
-    let p = field_of entryParent entry.ensures c.before.before.parent.ensures.0 in
-    simp (eq-eqb _ _ (sym p ∙ c.before.if1.false), and-true, field_of entryNameLength entry.ensures c.name-length.ensures.0)
+    let p = field_of entry_parent entry.ensures c.before.before.parent.ensures.0 in
+    simp (eq-eqb _ _ (sym p ∙ c.before.if1.false), and-true, field_of entry_name_length entry.ensures c.name-length.ensures.0)
 
 pub entry-in-spec : {M : Type 1} → statement M
 entry-in-spec =

@@ -4,7 +4,7 @@ use borrow.Author.Tests.{eq-eqb, ne_eqb}
 use borrow.Author.Rules.{rules}
 use Rattle.seq.specs.Truth.{fails, holds}
 use Rattle.layout.specs.View.{view_of}
-use Rattle.layout.specs.Fields.{inodeLinks}
+use Rattle.layout.specs.Fields.{inode_links}
 use Rattle.layout.specs.RecordLaws.{field_of}
 use Rattle.rename_steps.proofs.target.full_parent.Statement.{statement}
 use Rattle.rename_steps.proofs.target.full_parent.Tie as tie
@@ -34,7 +34,7 @@ returns-4 c =
       holds c.before.before.before.before.before.before.before.is-directory.ensures c.before.before.before.before.before.before.if1.false,
       ne_eqb _ _ c.before.before.before.before.if2.false,
       eq-eqb _ _ c.before.before.if3.false,
-      field_of inodeLinks c.before.inode.ensures c.links.ensures.0,
+      field_of inode_links c.before.inode.ensures c.links.ensures.0,
     )
 
 pub full-parent-spec : {M : Type 1} → statement M

@@ -1,8 +1,8 @@
 -- `results::records::counted` meets its contract. Assumes nothing.
 use mathlib.Core.Path.{ap, ◌∙◌}
 use borrow.Author.Rules.{rules}
-use Rattle.encode.specs.Inode.{withLinks, withModified, withChanged}
-use Rattle.results.specs.Results.{holderBytes}
+use Rattle.encode.specs.Inode.{with_links, with_modified, with_changed}
+use Rattle.results.specs.Results.{holder_bytes}
 use Rattle.results.proofs.records.counted.Statement.{statement}
 use Rattle.results.proofs.records.counted.Tie as tie
 
@@ -28,7 +28,7 @@ set-changed-requires : tie.Need-set-changed-requires
 set-changed-requires c κs = search rules
 
 returns : tie.Need-returns
-unfolding holderBytes
+unfolding holder_bytes
 returns c =
     let changed = c.before in
     let modified = changed.before.before.before in
@@ -36,8 +36,8 @@ returns c =
     let read = linked.before.before in
     let args = read.before.before.args in
     changed.set-changed.ensures
-    ∙ ap (λ x. withChanged args.time x) (modified.set-modified.ensures
-    ∙ ap (λ x. withModified args.time x) (linked.set-links.ensures ∙ ap (λ x. withLinks args.links x) read.inode.ensures))
+    ∙ ap (λ x. with_changed args.time x) (modified.set-modified.ensures
+    ∙ ap (λ x. with_modified args.time x) (linked.set-links.ensures ∙ ap (λ x. with_links args.links x) read.inode.ensures))
 
 pub counted_spec : {M : Type 1} → statement M
 counted_spec =

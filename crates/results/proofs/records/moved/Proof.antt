@@ -1,9 +1,9 @@
 -- `results::records::moved` meets its contract. Assumes nothing.
 use mathlib.Core.Path.{ap, sym, ◌∙◌}
 use borrow.Author.Rules.{rules}
-use Rattle.layout.specs.Fields.{inodeKind}
-use Rattle.encode.specs.Inode.{withField, withChanged}
-use Rattle.results.specs.Records.{moved-directory, moved_other}
+use Rattle.layout.specs.Fields.{inode_kind}
+use Rattle.encode.specs.Inode.{with_field, with_changed}
+use Rattle.results.specs.Records.{moved_directory, moved_other}
 use Rattle.results.proofs.records.moved.Statement.{statement}
 use Rattle.results.proofs.records.moved.Tie as tie
 
@@ -23,7 +23,7 @@ returns : tie.Need-returns
 returns c =
     let m = c.before.before.before.before.before.before.args.m in
     let r = c.before.before.before.before.inode.ensures in
-    c.before.before.set-changed.ensures ∙ ap (λ x. withChanged m.now x) r ∙ sym (moved_other m.into m.now _ (λ e. c.if1.true (ap inodeKind r ∙ e)))
+    c.before.before.set-changed.ensures ∙ ap (λ x. with_changed m.now x) r ∙ sym (moved_other m.into m.now _ (λ e. c.if1.true (ap inode_kind r ∙ e)))
 
 slice-aggregate-set-field : tie.Need-slice-aggregate-set-field
 slice-aggregate-set-field c = search rules
@@ -36,8 +36,8 @@ returns-2 c =
     let test = c.before.before.before in
     let m = test.before.before.before.before.before.before.args.m in
     let r = test.before.before.before.before.inode.ensures in
-    c.before.set-field.ensures ∙ ap (λ x. withField m.into x) (test.before.before.set-changed.ensures ∙ ap (λ x. withChanged m.now x) r)
-    ∙ sym (moved-directory m.into m.now _ (sym (ap inodeKind r) ∙ test.if1.false))
+    c.before.set-field.ensures ∙ ap (λ x. with_field m.into x) (test.before.before.set-changed.ensures ∙ ap (λ x. with_changed m.now x) r)
+    ∙ sym (moved_directory m.into m.now _ (sym (ap inode_kind r) ∙ test.if1.false))
 
 pub moved-spec : {M : Type 1} → statement M
 moved-spec =

@@ -3,8 +3,8 @@ use mathlib.Core.Path.{ap, ap₂, sym, ◌∙◌}
 use mathlib.Core.List.{List}
 use Prim.Native.Nat.{ℕ}
 use borrow.Author.Rules.{rules}
-use Rattle.encode.specs.Inode.{withLinks, withChanged}
-use Rattle.results.specs.Records.{replaced-freed, replaced-kept}
+use Rattle.encode.specs.Inode.{with_links, with_changed}
+use Rattle.results.specs.Records.{replaced_freed, replaced_kept}
 use Rattle.results.proofs.records.replaced.Statement.{statement}
 use Rattle.results.proofs.records.replaced.Tie as tie
 
@@ -12,7 +12,7 @@ entries-after-requires : tie.Need-entries-after-requires
 entries-after-requires c κs = search rules
 
 returns : tie.Need-returns
-returns c = sym (replaced-freed _ _ _ _ _ (sym c.before.entries-after.ensures.0 ∙ c.if1.true))
+returns c = sym (replaced_freed _ _ _ _ _ (sym c.before.entries-after.ensures.0 ∙ c.if1.true))
 
 links-after-requires : tie.Need-links-after-requires
 links-after-requires c κs = search rules
@@ -41,8 +41,8 @@ returns-2 c =
     let m = test.before.before.before.args.m in
     let counted = read.before.links-after.ensures.0 in
     changed.set-changed.ensures
-    ∙ ap (λ x. withChanged m.now x) (linked.set-links.ensures ∙ ap₂ (λ (n : ℕ) (x : List ℕ). withLinks n x) counted read.inode.ensures)
-    ∙ sym (replaced-kept _ _ _ m.now _ (λ e. test.if1.false (test.before.entries-after.ensures.0 ∙ e)))
+    ∙ ap (λ x. with_changed m.now x) (linked.set-links.ensures ∙ ap₂ (λ (n : ℕ) (x : List ℕ). with_links n x) counted read.inode.ensures)
+    ∙ sym (replaced_kept _ _ _ m.now _ (λ e. test.if1.false (test.before.entries-after.ensures.0 ∙ e)))
 
 pub replaced-spec : {M : Type 1} → statement M
 replaced-spec =

@@ -3,8 +3,8 @@ use mathlib.Core.Path.{refl}
 use native.Mathlib.Omega.{arith}
 use borrow.Author.Rules.{rules}
 use Rattle.plan.specs.WriteLaws.{row_put}
-use Rattle.results.specs.Results.{textRow}
-use Rattle.results.specs.ResultRows.{into-le, replaced-le, text-one, text-none, results-filled}
+use Rattle.results.specs.Results.{text_row}
+use Rattle.results.specs.ResultRows.{into_le, replaced_le, text_one, text_none, results_filled}
 use Rattle.results.proofs.rows.put.Statement.{statement}
 use Rattle.results.proofs.rows.put.Tie as tie
 
@@ -17,7 +17,7 @@ put-into-requires c κs = search rules
 put-replaced-requires : tie.Need-put-replaced-requires
 put-replaced-requires c κs =
     let args = c.before.before.before.before.before.before.before.before.before.before.before.args in
-    (search rules, omega (arith, into-le args.h args.image.now args.m), search rules, search rules)
+    (search rules, omega (arith, into_le args.h args.image.now args.m), search rules, search rules)
 
 same_length : tie.Need-same-length
 same_length c = search rules
@@ -28,8 +28,8 @@ returns c =
     let second = third.before.before.before.before in
     let first = second.before.before.before.before in
     let args = first.before.before.before.before.args in
-    results-filled args.h args.image.now args.m first.put-always.ensures second.put-into.ensures third.put-replaced.ensures
-    (text-none args.h args.image.now args.m c.if1.true)
+    results_filled args.h args.image.now args.m first.put-always.ensures second.put-into.ensures third.put-replaced.ensures
+    (text_none args.h args.image.now args.m c.if1.true)
 
 text-requires : tie.Need-text-requires
 text-requires c κs = (search rules, c.before.before.before.before.before.before.before.before.before.before.before.before.before.before.before.before.before.requires.3.text c.before.if1.false)
@@ -37,12 +37,12 @@ text-requires c κs = (search rules, c.before.before.before.before.before.before
 put-clearing-requires : tie.Need-put-clearing-requires
 put-clearing-requires c κs =
     let args = c.before.before.before.before.before.before.before.before.before.before.before.before.before.before.before.before.before.before.args in
-    (search rules, omega (arith, into-le args.h args.image.now args.m, replaced-le args.h args.image.now args.m), search rules)
+    (search rules, omega (arith, into_le args.h args.image.now args.m, replaced_le args.h args.image.now args.m), search rules)
 
 add-result : tie.Need-overflow-add-result
 add-result c =
     let args = c.before.before.before.before.before.before.before.before.before.before.before.before.before.before.before.before.before.before.before.before.before.args in
-    omega (arith, into-le args.h args.image.now args.m, replaced-le args.h args.image.now args.m)
+    omega (arith, into_le args.h args.image.now args.m, replaced_le args.h args.image.now args.m)
 
 same-length-2 : tie.Need-same-length-2
 same-length-2 c = search rules
@@ -54,9 +54,9 @@ returns-2 c =
     let second = third.before.before.before.before in
     let first = second.before.before.before.before in
     let args = first.before.before.before.before.args in
-    let cleared = row_put args.h (textRow args.h args.image.now args.m) _ _ row.put-clearing.ensures row.before.text.ensures refl in
-    results-filled args.h args.image.now args.m first.put-always.ensures second.put-into.ensures third.put-replaced.ensures
-    (text-one args.h args.image.now args.m row.before.before.before.if1.false cleared)
+    let cleared = row_put args.h (text_row args.h args.image.now args.m) _ _ row.put-clearing.ensures row.before.text.ensures refl in
+    results_filled args.h args.image.now args.m first.put-always.ensures second.put-into.ensures third.put-replaced.ensures
+    (text_one args.h args.image.now args.m row.before.before.before.if1.false cleared)
 
 pub put_spec : {M : Type 1} → statement M
 put_spec =

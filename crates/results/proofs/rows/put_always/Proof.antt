@@ -2,8 +2,8 @@
 use mathlib.Core.Path.{refl}
 use borrow.Author.Rules.{rules}
 use Rattle.plan.specs.WriteLaws.{row_put}
-use Rattle.results.specs.Results.{oldRow}
-use Rattle.results.specs.ResultRows.{always-filled}
+use Rattle.results.specs.Results.{old_row}
+use Rattle.results.specs.ResultRows.{always_filled}
 use Rattle.results.proofs.rows.put_always.Statement.{statement}
 use Rattle.results.proofs.rows.put_always.Tie as tie
 
@@ -38,8 +38,8 @@ returns c =
     let first = second.before.before.before.before in
     let args = first.before.before.before.before.before.args in
     let cleared =
-    row_put args.h (oldRow args.h args.image.now args.m) _ _ first.put-clearing.ensures first.before.entry.ensures refl in
-    always-filled args.h args.image.now args.m cleared second.put-moved.ensures third.put-holder.ensures
+    row_put args.h (old_row args.h args.image.now args.m) _ _ first.put-clearing.ensures first.before.entry.ensures refl in
+    always_filled args.h args.image.now args.m cleared second.put-moved.ensures third.put-holder.ensures
 
 pub put-always-spec : {M : Type 1} → statement M
 put-always-spec =

@@ -1,7 +1,7 @@
 -- `results::rows::put_holder` meets its contract. Assumes nothing.
 use borrow.Author.Rules.{rules}
 use Rattle.plan.specs.WriteLaws.{row_put}
-use Rattle.results.specs.Results.{holderRow}
+use Rattle.results.specs.Results.{holder_row}
 use Rattle.results.proofs.rows.put_holder.Statement.{statement}
 use Rattle.results.proofs.rows.put_holder.Tie as tie
 
@@ -25,7 +25,7 @@ returns c =
     let row = c.before.before in
     let made = row.before.before.before.before in
     let args = made.before.before.before.args in
-    row_put args.h (holderRow args.h args.image.now args.m args.i) _ _ row.put-row.ensures row.before.before.inode.ensures
+    row_put args.h (holder_row args.h args.image.now args.m args.i) _ _ row.put-row.ensures row.before.before.inode.ensures
     made.holder.ensures
 
 pub put-holder-spec : {M : Type 1} → statement M

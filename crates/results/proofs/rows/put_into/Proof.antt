@@ -1,13 +1,13 @@
 -- `results::rows::put_into` meets its contract. Assumes nothing.
 use borrow.Author.Rules.{rules}
-use Rattle.results.specs.ResultRows.{into_one, into-none}
+use Rattle.results.specs.ResultRows.{into_one, into_none}
 use Rattle.results.proofs.rows.put_into.Statement.{statement}
 use Rattle.results.proofs.rows.put_into.Tie as tie
 
 returns : tie.Need-returns
 returns c =
     let args = c.before.before.before.before.args in
-    into-none args.h args.image.now args.m c.if1.true
+    into_none args.h args.image.now args.m c.if1.true
 
 put-holder-requires : tie.Need-put-holder-requires
 put-holder-requires c κs = search rules

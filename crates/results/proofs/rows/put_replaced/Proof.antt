@@ -1,15 +1,15 @@
 -- `results::rows::put_replaced` meets its contract. Assumes nothing.
 use borrow.Author.Rules.{rules}
 use Rattle.plan.specs.WriteLaws.{row_put}
-use Rattle.results.specs.Results.{replacedRow}
-use Rattle.results.specs.ResultRows.{replaced-one, replaced-none}
+use Rattle.results.specs.Results.{replaced_row}
+use Rattle.results.specs.ResultRows.{replaced_one, replaced_none}
 use Rattle.results.proofs.rows.put_replaced.Statement.{statement}
 use Rattle.results.proofs.rows.put_replaced.Tie as tie
 
 returns : tie.Need-returns
 returns c =
     let args = c.before.before.before.before.args in
-    replaced-none args.h args.image.now args.m c.if1.true
+    replaced_none args.h args.image.now args.m c.if1.true
 
 replaced-requires : tie.Need-replaced-requires
 replaced-requires c κs = (search rules, c.before.before.before.before.requires.3.replaced c.if1.false)
@@ -34,8 +34,8 @@ returns-2 c =
     let row = c.before.before in
     let made = row.before.before.before.before in
     let args = made.before.before.before.before.before.args in
-    replaced-one args.h args.image.now args.m made.before.if1.false
-    (row_put args.h (replacedRow args.h args.image.now args.m) _ _ row.put-row.ensures row.before.before.inode.ensures
+    replaced_one args.h args.image.now args.m made.before.if1.false
+    (row_put args.h (replaced_row args.h args.image.now args.m) _ _ row.put-row.ensures row.before.before.inode.ensures
     made.replaced.ensures)
 
 pub put-replaced-spec : {M : Type 1} → statement M

@@ -1,7 +1,7 @@
 -- `results::rows::put_start` meets its contract. Assumes nothing.
 use borrow.Author.Rules.{rules}
 use Rattle.plan.specs.WriteLaws.{row_put}
-use Rattle.results.specs.Start.{startRow}
+use Rattle.results.specs.Start.{start_row}
 use Rattle.results.proofs.rows.put_start.Statement.{statement}
 use Rattle.results.proofs.rows.put_start.Tie as tie
 
@@ -23,7 +23,7 @@ same_length c = search rules
 returns : tie.Need-returns
 returns c =
     let args = c.before.before.before.before.before.before.before.before.before.args in
-    row_put args.h (startRow args.kind args.m) _ _ c.before.before.put-row.ensures c.before.before.before.before.journal2.ensures
+    row_put args.h (start_row args.kind args.m) _ _ c.before.before.put-row.ensures c.before.before.before.before.journal2.ensures
     c.before.before.before.before.before.before.journal.ensures
 
 pub put-start-spec : {M : Type 1} → statement M

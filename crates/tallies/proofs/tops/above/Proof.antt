@@ -4,11 +4,11 @@ use Prim.Native.Nat.{ℕ}
 use native.Mathlib.Omega.{arith}
 use borrow.Author.Rules.{rules}
 use Rattle.seq.specs.Truth.{fails, holds}
-use Rattle.layout.specs.Fields.{inodeField}
+use Rattle.layout.specs.Fields.{inode_field}
 use Rattle.layout.specs.RecordLaws.{field_of}
-use Rattle.layout.specs.View.{view_of, isDirectory}
-use Rattle.layout.specs.ViewLaws.{isKind-below}
-use Rattle.tallies.specs.TopsLaws.{above_root, above-none, above_on, above-out}
+use Rattle.layout.specs.View.{view_of, is_directory}
+use Rattle.layout.specs.ViewLaws.{is_kind_below}
+use Rattle.tallies.specs.TopsLaws.{above_root, above_none, above_on, above_out}
 use Rattle.tallies.proofs.tops.above.Statement.{statement}
 use Rattle.tallies.proofs.tops.above.Tie as tie
 
@@ -19,7 +19,7 @@ is-directory-requires : tie.Need-is-directory-requires
 is-directory-requires c κs = search rules
 
 returns-2 : tie.Need-returns-2
-returns-2 c = (sym (above-none _ _ (fails c.before.is-directory.ensures c.if2.true)), omega arith)
+returns-2 c = (sym (above_none _ _ (fails c.before.is-directory.ensures c.if2.true)), omega arith)
 
 inode-requires : tie.Need-inode-requires
 inode-requires c κs = search rules
@@ -35,21 +35,21 @@ unfolding view_of
 returns-3 c =
     let args = c.before.before.before.before.before.before.before.before.args in
     let v = view_of args.h args.image.now in
-    let f = field_of inodeField c.before.before.before.inode.ensures c.before.before.field.ensures.0 in
+    let f = field_of inode_field c.before.before.before.inode.ensures c.before.before.field.ensures.0 in
     let here = holds c.before.before.before.before.before.is-directory.ensures c.before.before.before.before.if2.false in
-    let d = ap (λ (x : ℕ). isDirectory v x) (sym f) ∙ fails c.before.is-directory2.ensures c.if3.true in
-    (sym (above-out v args.i c.before.before.before.before.before.before.if1.false here d), search rules)
+    let d = ap (λ (x : ℕ). is_directory v x) (sym f) ∙ fails c.before.is-directory2.ensures c.if3.true in
+    (sym (above_out v args.i c.before.before.before.before.before.before.if1.false here d), search rules)
 
 returns-4 : tie.Need-returns-4
 unfolding view_of
 returns-4 c =
     let args = c.before.before.before.before.before.before.before.before.args in
     let v = view_of args.h args.image.now in
-    let f = field_of inodeField c.before.before.before.inode.ensures c.before.before.field.ensures.0 in
+    let f = field_of inode_field c.before.before.before.inode.ensures c.before.before.field.ensures.0 in
     let here = holds c.before.before.before.before.before.is-directory.ensures c.before.before.before.before.if2.false in
     let d = holds c.before.is-directory2.ensures c.if3.false in
-    let e = ap (λ (x : ℕ). isDirectory v x) (sym f) ∙ d in
-    (f ∙ sym (above_on v args.i c.before.before.before.before.before.before.if1.false here e), isKind-below args.h args.image.now _ 2 d)
+    let e = ap (λ (x : ℕ). is_directory v x) (sym f) ∙ d in
+    (f ∙ sym (above_on v args.i c.before.before.before.before.before.before.if1.false here e), is_kind_below args.h args.image.now _ 2 d)
 
 pub above-spec : {M : Type 1} → statement M
 above-spec =

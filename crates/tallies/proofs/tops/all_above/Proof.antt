@@ -5,7 +5,7 @@ use lib.ListN.{length}
 use borrow.Author.Rules.{rules}
 use Rattle.layout.specs.View.{view_of}
 use Rattle.tables.specs.Table.{Table}
-use Rattle.tables.specs.TableLaws.{table_none, table-turn}
+use Rattle.tables.specs.TableLaws.{table_none, table_turn}
 use Rattle.tallies.specs.Tallies.{above}
 use Rattle.tallies.proofs.tops.all_above.Statement.{statement}
 use Rattle.tallies.proofs.tops.all_above.Tie as tie
@@ -43,7 +43,7 @@ loop-less c = search rules
 loop-again : tie.Need-loop-preserved invariant-loop decreases-loop
 loop-again c =
     let e = c.above.ensures.0 in
-    (search rules, search rules, rw e (table-turn _ _ _ c.before.before.loop.invariant.2 (omega arith)))
+    (search rules, search rules, rw e (table_turn _ _ _ c.before.before.loop.invariant.2 (omega arith)))
 
 returns : tie.Need-returns invariant-loop decreases-loop
 returns c =

@@ -5,7 +5,7 @@ use lib.ListN.{get_or}
 use borrow.Author.Rules.{rules}
 use Rattle.tables.specs.Table.{Within}
 use Rattle.tallies.specs.Rounds.{round, Rooted}
-use Rattle.tallies.specs.RoundsLaws.{round-none, round-turn, rooted-turn, within-turn}
+use Rattle.tallies.specs.RoundsLaws.{round_none, round_turn, rooted_turn, within_turn}
 use Rattle.tallies.proofs.tops.climb.Statement.{statement}
 use Rattle.tallies.proofs.tops.climb.Tie as tie
 
@@ -19,7 +19,7 @@ abbrev decreases-loop : tie.decreases-loop
 decreases-loop to₀ n sum₀ i₀ to sum i = n - i
 
 loop-holds : tie.Need-loop-init invariant-loop decreases-loop
-loop-holds c = (search rules, c.requires.1, round-none _, search rules, λ z i l. absurd (omega arith))
+loop-holds c = (search rules, c.requires.1, round_none _, search rules, λ z i l. absurd (omega arith))
 
 mul_wide : tie.Need-overflow-mul-wide invariant-loop decreases-loop
 mul_wide c = search rules
@@ -65,10 +65,10 @@ loop-again c =
     let n = c.before.before.before.before.before.before.args.n in
     let below : get_or to c.before.before.wide.result 0 < n = rw k (inv.1.at (get_or to i 0) (inv.1.at i l)) in (
       search rules,
-      rw k (within-turn n i to l inv.1),
-      rw k (round-turn i _ to inv.2),
+      rw k (within_turn n i to l inv.1),
+      rw k (round_turn i _ to inv.2),
       omega arith,
-      λ z. rooted-turn i _ to (omega (arith, inv.1.long)) (omega arith) (inv.4 (omega arith)),
+      λ z. rooted_turn i _ to (omega (arith, inv.1.long)) (omega arith) (inv.4 (omega arith)),
     )
 
 returns : tie.Need-returns invariant-loop decreases-loop

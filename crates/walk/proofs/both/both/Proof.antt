@@ -2,7 +2,7 @@
 use borrow.Author.Rules.{rules}
 use Rattle.layout.specs.View.{view_of}
 use Rattle.paths.specs.RequestLaws.{good_old, good_new}
-use Rattle.walk.specs.BothLaws.{both-refused, both-walked}
+use Rattle.walk.specs.BothLaws.{both_refused, both_walked}
 use Rattle.walk.proofs.both.both.Statement.{statement}
 use Rattle.walk.proofs.both.both.Tie as tie
 
@@ -24,7 +24,7 @@ stop-requires c κs = search rules
 returns : tie.Need-returns
 returns c =
     let args = c.before.before.before.before.before.before.before.before.args in
-    both-refused (view_of args.h args.image.now) args.q args.old.now args.new.now _ c.stop.result c.before.before.walk.ensures
+    both_refused (view_of args.h args.image.now) args.q args.old.now args.new.now _ c.stop.result c.before.before.walk.ensures
     c.before.if1.true c.stop.ensures
 
 cast-walk-2 : tie.Need-overflow-cast-walk-2
@@ -39,7 +39,7 @@ walk-requires-2 c κs =
 returns-2 : tie.Need-returns-2
 returns-2 c =
     let args = c.before.before.before.before.before.before.before.before.before.args in
-    both-walked (view_of args.h args.image.now) args.q args.old.now args.new.now _ c.walk2.result c.before.before.before.walk.ensures
+    both_walked (view_of args.h args.image.now) args.q args.old.now args.new.now _ c.walk2.result c.before.before.before.walk.ensures
     c.before.before.if1.false c.walk2.ensures
 
 pub both-spec : {M : Type 1} → statement M

@@ -3,8 +3,8 @@ use mathlib.Core.Path.{sym, ◌∙◌, ap}
 use borrow.Author.Rules.{rules}
 use Rattle.layout.specs.View.{view_of}
 use Rattle.walk.specs.Walk.{begun}
-use Rattle.walk.specs.WalkLaws.{walk-empty, walk-long, walk_begins}
-use Rattle.walk.specs.AnswerLaws.{ended-as}
+use Rattle.walk.specs.WalkLaws.{walk_empty, walk_long, walk_begins}
+use Rattle.walk.specs.AnswerLaws.{ended_as}
 use Rattle.walk.proofs.resolve.resolve.Statement.{statement}
 use Rattle.walk.proofs.resolve.resolve.Tie as tie
 
@@ -14,7 +14,7 @@ stop-requires c κs = search rules
 returns : tie.Need-returns
 returns c =
     let args = c.before.before.before.before.args in
-    ended-as _ _ _ c.stop.ensures (walk-empty (view_of args.h args.image.now) args.who args.last args.current args.start args.path.now c.before.if1.true)
+    ended_as _ _ _ c.stop.ensures (walk_empty (view_of args.h args.image.now) args.who args.last args.current args.start args.path.now c.before.if1.true)
 
 stop-requires-2 : tie.Need-stop-requires-2
 stop-requires-2 c κs = search rules
@@ -22,8 +22,8 @@ stop-requires-2 c κs = search rules
 returns-2 : tie.Need-returns-2
 returns-2 c =
     let args = c.before.before.before.before.before.args in
-    ended-as _ _ _ c.stop2.ensures
-    (walk-long (view_of args.h args.image.now) args.who args.last args.current args.start args.path.now c.before.before.if1.false c.before.if2.true)
+    ended_as _ _ _ c.stop2.ensures
+    (walk_long (view_of args.h args.image.now) args.who args.last args.current args.start args.path.now c.before.before.if1.false c.before.if2.true)
 
 locate-requires : tie.Need-locate-requires
 locate-requires c κs = search rules
@@ -35,7 +35,7 @@ returns-3 : tie.Need-returns-3
 returns-3 c =
     let args = c.before.before.before.before.before.before.args in
     let v = view_of args.h args.image.now in
-    ended-as _ _ _ c.from_start.ensures
+    ended_as _ _ _ c.from_start.ensures
     (walk_begins (view_of args.h args.image.now) args.who args.last args.current args.start args.path.now c.before.before.before.if1.false c.before.before.if2.false
     ∙ sym (ap (λ x. begun v args.who args.last x args.path.now) c.before.locate.ensures))
 

@@ -2,7 +2,7 @@
 use mathlib.Core.Path.{sym, ◌∙◌}
 use borrow.Author.Rules.{rules}
 use borrow.Author.Tests.{eq-eqb, ne_eqb, lt-ltb, le-ltb}
-use Rattle.layout.specs.Fields.{handleState, handleInode}
+use Rattle.layout.specs.Fields.{handle_state, handle_inode}
 use Rattle.layout.specs.RecordLaws.{field_of}
 use Rattle.layout.specs.View.{view_of}
 use Rattle.walk.proofs.start.locate.Statement.{statement}
@@ -39,7 +39,7 @@ returns-4 c =
       sym c.before.before.before.before.before.before.before.is-absolute.ensures ∙ c.before.before.before.before.before.before.if1.false,
       ne_eqb _ _ c.before.before.before.before.before.if2.false,
       lt-ltb _ _ c.before.before.before.if3.false,
-      sym (field_of handleState c.before.before.handle.ensures c.before.state.ensures),
+      sym (field_of handle_state c.before.before.handle.ensures c.before.state.ensures),
       eq-eqb _ _ c.if4.true,
     )
 
@@ -53,9 +53,9 @@ returns-5 c =
       sym c.before.before.before.before.before.before.before.before.is-absolute.ensures ∙ c.before.before.before.before.before.before.before.if1.false,
       ne_eqb _ _ c.before.before.before.before.before.before.if2.false,
       lt-ltb _ _ c.before.before.before.before.if3.false,
-      sym (field_of handleState c.before.before.before.handle.ensures c.before.before.state.ensures),
+      sym (field_of handle_state c.before.before.before.handle.ensures c.before.before.state.ensures),
       ne_eqb _ _ c.before.if4.false,
-      sym (field_of handleInode c.before.before.before.handle.ensures c.inode.ensures.0),
+      sym (field_of handle_inode c.before.before.before.handle.ensures c.inode.ensures.0),
     )
 
 pub locate-spec : {M : Type 1} → statement M
