@@ -1,4 +1,6 @@
 // Applying one row of a plan to an image: the job land.
+#![tactic(auto)]
+
 ghost use Rattle.std.specs.Prelude.{◌≡◌, ◌<◌, ◌≤◌, length};
 ghost use Rattle.layout.specs.Facts.{Laid};
 ghost use Rattle.plan.specs.Form.{plan_bytes, plan_rows, row_at};

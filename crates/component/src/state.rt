@@ -9,7 +9,7 @@ use layout::limits;
 
 // Where a walk stands: the working path, of which the bytes from at up to len are unread; the directory that they are read from; the
 // symlinks followed; the component checks begun; whether search permission is waived for the next component.
-#[derive(Drop)]
+#[derive(Clone, Copy)]
 pub struct Walk {
     pub path: [u8; limits::PATH_BYTES],
     pub len: usize,
@@ -21,7 +21,7 @@ pub struct Walk {
 }
 
 // What the last name of a path must be: whether a missing one is refused, and whether one that is not portable is.
-#[derive(Drop)]
+#[derive(Clone, Copy)]
 pub struct Final {
     pub present: bool,
     pub portable: bool,
@@ -29,7 +29,7 @@ pub struct Final {
 
 // What a path names: an entry, or a name that its directory lacks, or nothing where the walk was refused. A missing name is a range of
 // the working path, since an enum holds no array. The flag says whether the path ends in a slash.
-#[derive(Drop)]
+#[derive(Clone, Copy)]
 pub enum Found {
     Existing {
         directory: usize,
@@ -47,7 +47,7 @@ pub enum Found {
 }
 
 // How one component leaves the walk: with more to read, refused by a number, or with what the path names.
-#[derive(Drop)]
+#[derive(Clone, Copy)]
 pub enum Leave {
     Goes,
     Refuses(u8),
@@ -55,7 +55,7 @@ pub enum Leave {
 }
 
 // The walk behind one component, and how that left it.
-#[derive(Drop)]
+#[derive(Clone, Copy)]
 pub struct Turn {
     pub walk: Walk,
     pub leave: Leave,

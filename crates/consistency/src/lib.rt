@@ -1,4 +1,6 @@
 // The consistency of an image, and the job check.
+#![tactic(auto)]
+
 ghost use Rattle.std.specs.Prelude.{◌≡◌};
 ghost use Rattle.layout.specs.Facts.{Laid};
 ghost use Rattle.consistency.specs.Sound.{journal_clear, bodies_good};

@@ -1,4 +1,6 @@
 // The draft of a recovery: the rows that a journal record leads to, by the kind of its operation, before their outcome is checked.
+#![tactic(auto)]
+
 ghost use Rattle.std.specs.Prelude.{◌≤◌, length};
 ghost use Rattle.layout.specs.Facts.{Laid};
 ghost use Rattle.plan.specs.Form.{plan_bytes};

@@ -1,4 +1,6 @@
 // Duplicate names: whether two entries share parent and name. A search over pairs, but only of entries whose parent and name have the same hash.
+#![tactic(auto)]
+
 ghost use Rattle.std.specs.Prelude.{◌≡◌, ◌<◌, ◌≤◌, length};
 ghost use Rattle.layout.specs.Facts.{Laid};
 ghost use Rattle.layout.specs.View.{view_of};

@@ -10,7 +10,7 @@ pub const RENAME: u8 = 0;
 pub const EXCHANGE: u8 = 7;
 
 // What a pending operation is recovered from. A number of 65,535 names no replaced inode, and no text.
-#[derive(Drop)]
+#[derive(Clone, Copy)]
 pub struct Journal {
     pub kind: u8,
     // the slots of the old and of the new entry

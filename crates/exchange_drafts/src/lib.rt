@@ -1,5 +1,7 @@
 // A pending exchange: whether its journal record fits, and the rows that finish it. Either slot may target either inode, since the two rows that exchange the
 // targets may each have been applied or not; what is written comes from the record and from the slots' parents.
+#![tactic(auto)]
+
 ghost use Rattle.std.specs.Prelude.{◌≡◌, ◌≤◌, ◌<◌, length};
 ghost use Rattle.layout.specs.Facts.{Laid};
 ghost use Rattle.layout.specs.View.{view_of};

@@ -1,1 +1,2 @@
 // Laws only: what the rows of an exchange leave, applied whole. The subject stands in specs/.
+#![tactic(auto)]

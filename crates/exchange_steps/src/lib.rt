@@ -1,4 +1,6 @@
 // The order of refusal of an exchange once both walks are whole: steps 1 to 7, 9 and 12.
+#![tactic(auto)]
+
 ghost use Rattle.std.specs.Prelude.{◌≡◌, true, ◌&&◌, not, ◌<◌, eqb};
 ghost use Rattle.layout.specs.Facts.{Laid, Readable};
 ghost use Rattle.layout.specs.Limits.{link_limit};

@@ -1,4 +1,6 @@
 // What an exchange leaves in the parents, by recount of the entries as it edits them, and its rows.
+#![tactic(auto)]
+
 ghost use Rattle.std.specs.Prelude.{◌≡◌, ◌+◌, ◌≤◌, ◌<◌};
 ghost use Rattle.layout.specs.Limits.{entry_limit};
 ghost use Rattle.layout.specs.Facts.{Laid};

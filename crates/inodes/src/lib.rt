@@ -1,4 +1,6 @@
 // Consistent inodes: what the type number asks of each. What has to be counted or looked for comes in tables, filled for all inodes at once.
+#![tactic(auto)]
+
 ghost use Rattle.std.specs.Prelude.{◌≡◌, true, ◌<◌};
 ghost use Rattle.seq.specs.Search.{all};
 ghost use Rattle.layout.specs.Facts.{Laid};

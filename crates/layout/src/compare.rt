@@ -10,7 +10,7 @@ use crate::{bytes, number};
 const PIECE_SIZE: usize = 8;
 
 // Whether two strings are the same, and how many pieces were read to tell.
-#[derive(Drop)]
+#[derive(Clone, Copy)]
 pub struct Compared {
     pub same: bool,
     pub pieces: usize,

@@ -1,4 +1,6 @@
 // The C interface: include/mirepillar.h declares these functions.
+#![tactic(auto)]
+
 ghost use Rattle.std.specs.Prelude.{◌≡◌};
 ghost use Rattle.consistency.specs.Consistent.{check_number};
 ghost use Rattle.apply.specs.Apply.{apply_number, applied_image};

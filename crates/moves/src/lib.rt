@@ -1,4 +1,6 @@
 // The move that a rename or an exchange makes: what is taken from where to where, the text that goes with what is replaced; a rename's rows in a plan.
+#![tactic(auto)]
+
 ghost use Rattle.std.specs.Prelude.{◌≡◌};
 ghost use Rattle.layout.specs.Facts.{Laid};
 ghost use Rattle.layout.specs.View.{view_of};

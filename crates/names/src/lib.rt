@@ -1,4 +1,6 @@
 // Names of directory entries: the bytes of one, and two that share it.
+#![tactic(auto)]
+
 ghost use Rattle.std.specs.Prelude.{◌≡◌, ◌+◌, ◌≤◌, length};
 ghost use Rattle.names.specs.Name.{plain_name, is_dots};
 ghost use Rattle.names.specs.NameTests.{front_bytes, front_good, name_spelled};

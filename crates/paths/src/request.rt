@@ -7,7 +7,7 @@ ghost use Rattle.paths.specs.Request.{request_good};
 use layout::{Shape, limits};
 
 // Who asks: the effective user and group, and further groups, of which the first `count` are the caller's.
-#[derive(Drop)]
+#[derive(Clone, Copy)]
 pub struct Credentials {
     pub user: u32,
     pub group: u32,
@@ -16,14 +16,14 @@ pub struct Credentials {
 }
 
 // Where relative paths begin, old and new: a handle's number, or 255 for the current directory.
-#[derive(Drop)]
+#[derive(Clone, Copy)]
 pub struct Starts {
     pub old: u8,
     pub new: u8,
 }
 
 // A request but for its two paths, which are handed over beside it.
-#[derive(Drop)]
+#[derive(Clone, Copy)]
 pub struct Request {
     pub who: Credentials,
     pub current: u16,

@@ -1,4 +1,6 @@
 // The plan's rows: written one at a time, and read field by field.
+#![tactic(auto)]
+
 ghost use Rattle.std.specs.Prelude.{◌≡◌, ◌+◌, ◌*◌, ◌<◌, ◌≤◌, length, replicate};
 ghost use Rattle.layout.specs.Facts.{Reads};
 ghost use Rattle.plan.specs.Form.{plan_bytes, plan_rows, body_bytes, row_of, row_stored, row_group, row_blank, row_length, row_offset, row_position, row_at, cleared};

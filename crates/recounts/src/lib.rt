@@ -1,4 +1,6 @@
 // A move, and entries counted as it edits them, on the image as it stands.
+#![tactic(auto)]
+
 ghost use Rattle.std.specs.Prelude.{◌≡◌, ◌&&◌, not, ◌+◌, ◌≤◌, ◌<◌, eqb, ltb};
 ghost use Rattle.seq.specs.Count.{bit};
 ghost use Rattle.layout.specs.Limits.{entry_limit};
@@ -10,7 +12,7 @@ use layout::Shape;
 
 // Inode moved goes from slot old of directory from to slot new of directory into. A number of 65,535 names no replaced inode, and no text
 // that is freed.
-#[derive(Drop)]
+#[derive(Clone, Copy)]
 pub struct Move {
     pub old: usize,
     pub new: usize,

@@ -1,4 +1,6 @@
 // The job that recovers an image after a crash (the papers' repair): a plan that finishes or takes back what was interrupted.
+#![tactic(auto)]
+
 ghost use Rattle.std.specs.Prelude.{◌≡◌, ◌≤◌, length};
 ghost use Rattle.layout.specs.Facts.{Read};
 ghost use Rattle.plan.specs.Form.{plan_bytes};
@@ -13,7 +15,7 @@ use rename_drafts::drafted::Draft;
 pub mod outcome;
 
 // How the job is answered: its number, and how many rows the plan has.
-#[derive(Drop)]
+#[derive(Clone, Copy)]
 pub struct Answer {
     pub number: u8,
     pub rows: usize,

@@ -4,7 +4,7 @@ use paths::request::Credentials;
 // What both walks have found, and who asks: the inode that moves, from slot old of directory from to slot new of directory into; the inode
 // that it replaces there, or limits::ABSENT, and then new is the lowest free slot, or the number of slots where none is free; whether new's path
 // ends in a slash; the caller and the current directory.
-#[derive(Drop)]
+#[derive(Clone, Copy)]
 pub struct Case {
     pub old: usize,
     pub new: usize,
@@ -18,7 +18,7 @@ pub struct Case {
 }
 
 // How a call is answered: refused by a number, nothing to do since both names are of one file, planned as a rename, or as an exchange.
-#[derive(Drop)]
+#[derive(Clone, Copy)]
 pub enum Answer {
     Refused(u8),
     Same,

@@ -1,4 +1,6 @@
 // The job rename, which is also asked for an exchange: judged in the order of refusal, and planned row by row.
+#![tactic(auto)]
+
 ghost use Rattle.std.specs.Prelude.{◌≡◌, true, ◌+◌, ◌≤◌, length};
 ghost use Rattle.layout.specs.Facts.{Laid, Read};
 ghost use Rattle.layout.specs.View.{view_of};
@@ -26,7 +28,7 @@ pub mod flagged;
 pub mod found;
 
 // How the job is answered: its number, how many rows the plan has, and the component checks that the walks of old and new began.
-#[derive(Drop)]
+#[derive(Clone, Copy)]
 pub struct Renamed {
     pub number: u8,
     pub rows: usize,

@@ -1,7 +1,7 @@
 // The draft of a recovery, as it is answered.
 
 // The journal record does not fit, or so many rows stand in the plan.
-#[derive(Drop)]
+#[derive(Clone, Copy)]
 pub enum Draft {
     Unfit,
     Rows(usize),

@@ -1,4 +1,6 @@
 // The order of refusal of a rename once both walks are whole: steps 1 to 13.
+#![tactic(auto)]
+
 ghost use Rattle.std.specs.Prelude.{◌≡◌};
 ghost use Rattle.layout.specs.View.{view_of};
 ghost use Rattle.layout.specs.Facts.{Readable};

@@ -1,5 +1,7 @@
 // What check asks of every inode at once, each in one pass: how many entries and child directories it has, which symlink has a text, and where the way up
 // leads.
+#![tactic(auto)]
+
 ghost use Rattle.std.specs.Prelude.{◌≡◌, ◌≤◌, ◌<◌};
 ghost use Rattle.layout.specs.Facts.{Laid};
 ghost use Rattle.layout.specs.Limits.{inode_limit, text_limit};

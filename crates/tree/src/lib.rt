@@ -1,4 +1,6 @@
 // The directory tree: the entries of a file, child directories, and the way up.
+#![tactic(auto)]
+
 ghost use Rattle.std.specs.Prelude.{◌≡◌, ◌≤◌, ◌<◌};
 ghost use Rattle.layout.specs.Limits.{entry_limit};
 ghost use Rattle.layout.specs.Facts.{Laid};

@@ -2,7 +2,7 @@
 use crate::reader::Number;
 use crate::{check, image, land, reader, renames, repairs, request};
 
-#[derive(Drop)]
+#[derive(Clone, Copy)]
 pub enum Job {
     Check,
     Land,

@@ -1,4 +1,6 @@
 // Prints the library's answers to the stored cases. docs/VECTORS.md has the form of the files.
+#![tactic(auto)]
+
 use case::Job;
 use libc::STDERR_FILENO;
 use reader::Tag;

@@ -12,7 +12,7 @@ use component::state::Final;
 use layout::Shape;
 use paths::request::Request;
 
-#[derive(Drop)]
+#[derive(Clone, Copy)]
 pub struct Walks {
     pub old: Walked,
     pub new: Walked,

@@ -18,7 +18,7 @@ use paths::request::Credentials;
 
 // How a walk ended: the number it is answered with, 0 unless it was refused; the component checks begun; what the path names; and the
 // working path, which a missing name is a range of.
-#[derive(Drop)]
+#[derive(Clone, Copy)]
 pub struct Walked {
     pub number: u8,
     pub steps: usize,

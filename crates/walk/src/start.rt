@@ -8,7 +8,7 @@ use layout::{Shape, limits};
 use paths::path;
 
 // A relative path from a handle that is closed, or does not exist, begins nowhere.
-#[derive(Drop)]
+#[derive(Clone, Copy)]
 pub enum Start {
     Closed,
     At { directory: usize, waived: bool },
