@@ -1,0 +1,8 @@
+-- `apply::sections::coverable` meets its contract. Assumes nothing.
+use mathlib.Core.Path.{sym}
+use Rattle.apply.specs.FindLaws.{coverable_else}
+use borrow.Author.Rules.{rules}
+use Rattle.apply.proofs.sections.coverable.Goals as goal
+
+pub returns-in_default : goal.returns-in_default
+returns-in_default c = sym (coverable_else _ c.in_default.rest.1)

@@ -1,0 +1,9 @@
+-- `apply::sections::record_bytes` meets its contract. Assumes nothing.
+use mathlib.Core.Path.{sym}
+use native.Mathlib.Omega.{arith}
+use Rattle.apply.specs.FindLaws.{bytes_last}
+use borrow.Author.Rules.{rules}
+use Rattle.apply.proofs.sections.record_bytes.Goals as goal
+
+pub returns-in_default : goal.returns-in_default
+returns-in_default c = sym (bytes_last c.args.h c.args.k (omega (arith, c.in_default.rest)))

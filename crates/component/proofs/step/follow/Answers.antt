@@ -1,0 +1,30 @@
+-- `component::step::follow` meets its contract. Assumes nothing.
+use mathlib.Core.Path.{sym, ap}
+use Prim.Native.Nat.{◌+◌}
+use lib.ListN.{length}
+use borrow.Author.Rules.{rules}
+use Rattle.component.specs.Splice.{rest_length}
+use Rattle.component.specs.State.{position_of, rest_from}
+use Rattle.component.specs.Turns.{follows_many, follows_long, follows_short}
+use Rattle.component.proofs.step.follow.Goals as goal
+
+pub returns-then-w-ge-SYMLINK_LIMIT : goal.returns-then-w-ge-SYMLINK_LIMIT
+returns-then-w-ge-SYMLINK_LIMIT c =
+    let args = c.args in
+    follows_many _ (position_of args.w) args.text.now (rest_from args.w args.e) c.if-w-ge-SYMLINK_LIMIT.true c.refuse.ensures
+
+pub returns-then-len-gt-PATH_LIMIT : goal.returns-then-len-gt-PATH_LIMIT
+returns-then-len-gt-PATH_LIMIT c =
+    let args = c.args in
+    let pre = c.requires in
+    let if1 = c.if-w-ge-SYMLINK_LIMIT in
+    let l = ap (λ n. length args.text.now + n) (sym (rest_length args.w args.e pre.0)) in
+    follows_long _ (position_of args.w) args.text.now (rest_from args.w args.e) if1.false _ l c.if-len-gt-PATH_LIMIT.true c.refuse-then-len-gt-PATH_LIMIT.ensures
+
+pub returns : goal.returns
+returns c =
+    let args = c.args in
+    let pre = c.requires in
+    let if1 = c.if-w-ge-SYMLINK_LIMIT in
+    let l = ap (λ n. length args.text.now + n) (sym (rest_length args.w args.e pre.0)) in
+    follows_short _ (position_of args.w) args.text.now (rest_from args.w args.e) if1.false _ l c.if-len-gt-PATH_LIMIT.false c.join.ensures

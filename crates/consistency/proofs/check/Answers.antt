@@ -1,0 +1,17 @@
+-- `consistency::check` meets its contract. Assumes nothing.
+use mathlib.Core.Path.{sym, ◌∙◌}
+use borrow.Author.Rules.{rules}
+use Rattle.layout.specs.ContentsLaws.{contents_good, contents_bad}
+use Rattle.consistency.specs.ConsistentLaws.{check_bad, check_read}
+use Rattle.consistency.proofs.check.Goals as goal
+
+pub records_number-requires : goal.records_number-requires
+records_number-requires c = (contents_good _ _ (sym c.read-found.ensures ∙ c.found-1.given.1)).laid
+
+pub returns-in-Bad : goal.returns-in-Bad
+returns-in-Bad c = sym (check_bad _ (contents_bad _ (sym c.read-found.ensures ∙ c.enum_told-1.given.1)))
+
+pub returns-in-Good : goal.returns-in-Good
+returns-in-Good c =
+    let read = c.read-found in
+    c.records_number.ensures ∙ sym (check_read _ _ (contents_good _ _ (sym read.ensures ∙ c.found-1.given.1)))

@@ -1,0 +1,25 @@
+-- `duplicates::bucket` meets its contract. Assumes nothing.
+use mathlib.Core.Path.{sym, ap, ◌∙◌}
+use borrow.Author.Rules.{rules}
+use Rattle.layout.specs.Fields.{entry_name_length}
+use Rattle.layout.specs.RecordLaws.{field_of}
+use Rattle.layout.specs.View.{view_of}
+use Rattle.duplicates.specs.Bucket.{mixed_of}
+use Rattle.duplicates.specs.BucketLaws.{bucket_free, bucket_mixed}
+use Rattle.duplicates.proofs.bucket.Goals as goal
+
+pub returns-then-name_length-eq0 : goal.returns-then-name_length-eq0
+unfolding view_of
+returns-then-name_length-eq0 c =
+    let free = sym (field_of entry_name_length c.entry-e.ensures c.name_length.ensures.0) ∙ c.if-name_length-eq0.true in
+    (sym (bucket_free _ _ free), search rules)
+
+pub returns : goal.returns
+unfolding view_of
+returns c =
+    let args = c.args in
+    let pre = c.requires in
+    let entry = c.entry-e.ensures in
+    let length = field_of entry_name_length entry c.name_length.ensures.0 in
+    let read = bucket_mixed args.h args.image.now args.j pre.0 pre.1 pre.2 (λ e. c.if-name_length-eq0.false (length ∙ e)) in
+    (c.mixed.ensures.0 ∙ ap mixed_of entry.is ∙ read, search rules)

@@ -1,0 +1,9 @@
+-- `encode::number::put32` meets its contract. Assumes nothing.
+use borrow.Author.Rules.{rules}
+use Rattle.seq.specs.NumberLaws.{put_two}
+use Rattle.encode.proofs.number.put32.Goals as goal
+
+pub returns : goal.returns
+returns c =
+    let args = c.args in
+    cc (put_two args.d.now args.at args.v)

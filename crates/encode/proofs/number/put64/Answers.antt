@@ -1,0 +1,9 @@
+-- `encode::number::put64` meets its contract. Assumes nothing.
+use borrow.Author.Rules.{rules}
+use Rattle.seq.specs.NumberLaws.{put_four}
+use Rattle.encode.proofs.number.put64.Goals as goal
+
+pub returns : goal.returns
+returns c =
+    let args = c.args in
+    cc (put_four args.d.now args.at args.v)

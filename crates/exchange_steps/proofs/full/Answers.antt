@@ -1,0 +1,29 @@
+-- `exchange_steps::full` meets its contract. Assumes nothing.
+use mathlib.Core.Path.{sym, ◌∙◌}
+use mathlib.Core.Bool.{and-false}
+use borrow.Author.Tests.{eq-eqb, ne_eqb}
+use borrow.Author.Rules.{rules}
+use Rattle.seq.specs.Truth.{fails, holds}
+use Rattle.layout.specs.View.{view_of}
+use Rattle.layout.specs.Fields.{inode_links}
+use Rattle.layout.specs.RecordLaws.{field_of}
+use Rattle.exchange_steps.proofs.full.Goals as goal
+
+pub returns-then-not-is_directory : goal.returns-then-not-is_directory
+returns-then-not-is_directory c = simp (fails c.is_directory.ensures c.if-not-is_directory.true-raw)
+
+pub returns-then-c : goal.returns-then-c
+returns-then-c c = simp (and-false, eq-eqb _ _ c.if-c.true)
+
+pub returns-then-is_directory : goal.returns-then-is_directory
+returns-then-is_directory c = simp (and-false, sym c.is_directory-2.ensures ∙ c.if-is_directory.true)
+
+pub returns : goal.returns
+unfolding view_of
+returns c =
+    simp (
+      holds c.is_directory.ensures c.if-not-is_directory.false-raw,
+      ne_eqb _ _ c.if-c.false,
+      sym c.is_directory-2.ensures ∙ c.if-is_directory.false,
+      field_of inode_links c.inode-r.ensures c.links.ensures.0,
+    )

@@ -1,0 +1,18 @@
+-- `inodes::all_good` keeps this in its loops. Assumes nothing.
+-- Invariant: every inode before i is consistent. Measure: the inodes left.
+use mathlib.Core.Path.{◌≡◌}
+use mathlib.Core.Bool.{true}
+use Prim.Native.Nat.{◌≤◌, ◌-◌, ℕ}
+use lib.ListN.{length-replicate}
+use borrow.Author.Rules.{rules}
+use Rattle.seq.specs.Search.{all}
+use Rattle.seq.specs.SearchLaws.{all_none, all_turn, all_failed, all_out}
+use Rattle.tree.specs.Inode.{inode_good}
+use Rattle.tallies.specs.TalliesLaws.{blank}
+use Rattle.inodes.proofs.all_good.Given as goal
+
+abbrev pub invariant-loop-i : goal.invariant-loop-i
+invariant-loop-i l = (l.i ≤ l.n) × (all (inode_good l.h l.image) l.i ≡ true)
+
+abbrev pub decreases-loop-i : goal.decreases-loop-i
+decreases-loop-i l = l.n - l.i

@@ -1,0 +1,19 @@
+-- `layout::bytes::same` keeps this in its loops. Assumes nothing.
+-- Invariant: the two are equal before byte k. Measure: the bytes left.
+use mathlib.Core.Path.{◌≡◌, sym}
+use mathlib.Core.Bool.{false, true}
+use Prim.Native.Nat.{◌≤◌, ◌-◌}
+use lib.Dec.{eqb}
+use lib.ListN.{length, get_or}
+use borrow.Author.Rules.{rules}
+use borrow.Author.Tests.{eq-eqb, ne_eqb}
+use Rattle.seq.specs.Bytes.{equal_bytes}
+use Rattle.seq.specs.Search.{all}
+use Rattle.seq.specs.SearchLaws.{all_none, all_more, all_not, all_out}
+use Rattle.layout.proofs.bytes.same.Given as goal
+
+abbrev pub invariant-loop-k : goal.invariant-loop-k
+invariant-loop-k l = (l.k ≤ length l.a) × (all (λ i. eqb (get_or l.a i 0) (get_or l.b i 0)) l.k ≡ true)
+
+abbrev pub decreases-loop-k : goal.decreases-loop-k
+decreases-loop-k l = length l.a - l.k

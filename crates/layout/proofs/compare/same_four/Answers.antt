@@ -1,0 +1,15 @@
+-- `layout::compare::same_four` meets its contract. Assumes nothing.
+use mathlib.Core.Path.{ap₂, ◌∙◌}
+use native.Mathlib.Omega.{arith}
+use lib.Dec.{eqb}
+use borrow.Author.Rules.{rules}
+use Rattle.seq.specs.CompareLaws.{number_tells}
+use Rattle.layout.proofs.compare.same_four.Goals as goal
+
+pub returns : goal.returns
+returns c =
+    let args = c.args in
+    let pre = c.requires in
+    ap₂ eqb c.get32.ensures c.get32-2.ensures
+    ∙ number_tells 4 args.a.now args.b.now args.at pre.0 pre.1
+    (λ n. omega (arith, c.shared_slice_known-1.given n)) (λ n. omega (arith, c.shared_slice_known-2-1.given n))

@@ -1,0 +1,10 @@
+-- `layout::records::inode` meets its contract. Assumes nothing.
+use mathlib.Core.Path.{refl}
+use lib.Dec.{lit<}
+use borrow.Author.Rules.{rules}
+use Rattle.layout.specs.RecordLaws.{reads_record}
+use Rattle.layout.proofs.records.inode.Goals as goal
+
+pub returns : goal.returns
+returns c =
+    reads_record c.args.h c.args.image.now 0 c.args.i _ _ c.requires.0.long (lit< tt) c.requires.1 c.inode-at.ensures refl

@@ -1,0 +1,9 @@
+-- `layout::text::bytes` meets its contract. Assumes nothing.
+use mathlib.Core.Path.{◌∙◌, ap}
+use borrow.Author.Rules.{rules}
+use Rattle.seq.specs.Bytes.{part}
+use Rattle.seq.specs.BytesLaws.{part_range}
+use Rattle.layout.proofs.text.bytes.Goals as goal
+
+pub returns : goal.returns
+returns c = part_range _ 1 _ ∙ ap (λ n. part c.args.r.now 1 n) c.length-n.ensures.0

@@ -1,0 +1,16 @@
+-- `moves::rows::make_entry` meets its contract. Assumes nothing.
+use mathlib.Core.Path.{refl}
+use borrow.Author.Rules.{rules}
+use Rattle.moves.specs.Entries.{entry_made, entry_taken}
+use Rattle.moves.proofs.rows.make_entry.Goals as goal
+
+pub returns-then-m-eq-ABSENT : goal.returns-then-m-eq-ABSENT
+returns-then-m-eq-ABSENT c =
+    let args = c.args in
+    let pre = c.requires in
+    entry_made args.h args.image.now args.m args.called.now _ c.if-m-eq-ABSENT.true _ pre.2 c.write.ensures
+
+pub returns : goal.returns
+returns c =
+    let args = c.args in
+    entry_taken args.h args.image.now args.m args.called.now _ c.if-m-eq-ABSENT.false _ refl c.retarget.ensures

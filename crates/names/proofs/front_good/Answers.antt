@@ -1,0 +1,24 @@
+-- `names::front_good` meets its contract. Assumes nothing.
+use mathlib.Core.Path.{◌≡◌, refl, sym}
+use Prim.Native.Nat.{◌≤◌, ◌-◌}
+use native.Mathlib.Omega.{arith}
+use borrow.Author.Rules.{rules}
+use Rattle.seq.specs.Search.{any}
+use Rattle.seq.specs.SearchLaws.{any_none}
+use Rattle.names.specs.FrontLaws.{any_tells}
+use Rattle.names.specs.NameTests.{front_wrong, front_good}
+use Rattle.names.proofs.front_good.Goals as goal
+
+pub loop-k-init : goal.loop-k-init
+loop-k-init c = (search rules, sym (any_none _))
+
+pub loop-k-preserved : goal.loop-k-preserved
+loop-k-preserved c =
+    let args = c.args in
+    (search rules, any_tells (front_wrong args.e.now args.n) _ _ _ _ c.loop-k.invariant.1 refl)
+
+pub returns : goal.returns
+unfolding front_good
+returns c =
+    let e : c.loop-k.k ≡ 24 = omega arith in
+    rw (c.loop-k.invariant.1, e)

@@ -1,0 +1,35 @@
+-- `paths::find::find` meets its contract. Assumes nothing.
+use mathlib.Core.Path.{◌≡◌, sym, ◌∙◌}
+use mathlib.Core.Bool.{false}
+use Prim.Native.Nat.{◌≤◌, ◌-◌}
+use native.Mathlib.Omega.{arith}
+use borrow.Author.Rules.{rules}
+use Rattle.seq.specs.Search.{any}
+use Rattle.seq.specs.SearchLaws.{any_none, any_miss, first_hit, first_out}
+use Rattle.layout.specs.View.{view_of}
+use Rattle.paths.specs.Lookup.{is_named, lookup}
+use Rattle.paths.proofs.find.find.Goals as goal
+
+pub loop-j-init : goal.loop-j-init
+loop-j-init c = (search rules, any_none _)
+
+pub returns-then-k-n : goal.returns-then-k-n
+unfolding lookup view_of
+returns-then-k-n c =
+    let run = c.run_from-k.ensures in
+    (first_out _ _ _ run.1 (omega (arith, c.if-k-n.true)) run.2, search rules)
+
+pub returns-then-is_named : goal.returns-then-is_named
+unfolding lookup view_of
+returns-then-is_named c =
+    let run = c.run_from-k.ensures in
+    (sym (first_hit _ _ _ (omega (arith, c.if-k-n.false, run.1)) run.2 (sym c.is_named.ensures ∙ c.if-is_named.true)), search rules)
+
+pub loop-j-preserved : goal.loop-j-preserved
+loop-j-preserved c =
+    let run = c.run_from-k.ensures in
+    (search rules, c.held_from-j.ensures.2.onward _ (any_miss _ _ run.2 (sym c.is_named.ensures ∙ c.if-is_named.false)))
+
+pub returns : goal.returns
+unfolding lookup view_of
+returns c = (first_out _ _ _ c.loop-j.invariant.0 c.loop-j-test.false c.loop-j.invariant.1, search rules)

@@ -1,0 +1,18 @@
+-- `paths::find::find` keeps this in its loops. Assumes nothing.
+-- Invariant: no entry before j has the name in directory d. Measure: the entries left.
+use mathlib.Core.Path.{◌≡◌, sym, ◌∙◌}
+use mathlib.Core.Bool.{false}
+use Prim.Native.Nat.{◌≤◌, ◌-◌}
+use native.Mathlib.Omega.{arith}
+use borrow.Author.Rules.{rules}
+use Rattle.seq.specs.Search.{any}
+use Rattle.seq.specs.SearchLaws.{any_none, any_miss, first_hit, first_out}
+use Rattle.layout.specs.View.{view_of}
+use Rattle.paths.specs.Lookup.{is_named, lookup}
+use Rattle.paths.proofs.find.find.Given as goal
+
+abbrev pub invariant-loop-j : goal.invariant-loop-j
+invariant-loop-j l = (l.j ≤ l.n) × (any (is_named (view_of l.h l.image) l.d l.name) l.j ≡ false)
+
+abbrev pub decreases-loop-j : goal.decreases-loop-j
+decreases-loop-j l = l.n - l.j

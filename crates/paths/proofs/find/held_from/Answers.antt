@@ -1,0 +1,12 @@
+-- `paths::find::held_from` meets its contract. Assumes nothing.
+use mathlib.Core.Path.{refl, sym, ◌∙◌}
+use Prim.Native.Nat.{◌≤◌, ◌-◌}
+use borrow.Author.Rules.{rules}
+use Rattle.layout.specs.View.{view_of}
+use Rattle.paths.specs.LookupFacts.{Skips}
+use Rattle.paths.specs.LookupLaws.{skip_more}
+use Rattle.paths.proofs.find.held_from.Goals as goal
+
+pub loop-j-preserved : goal.loop-j-preserved
+loop-j-preserved c =
+    (search rules, search rules, skip_more _ _ _ _ c.loop-j.invariant.2 (sym c.lies_in.ensures ∙ c.if-lies_in.false) refl)

@@ -1,0 +1,23 @@
+-- `paths::groups::copy` meets its contract. Assumes nothing.
+use mathlib.Core.Path.{refl, ◌≡◌, sym}
+use Prim.Native.Nat.{◌≤◌, ◌-◌}
+use native.Mathlib.Nat.{zero-add}
+use native.Mathlib.Omega.{arith}
+use lib.ListN.{length-set, length, take}
+use lib.Seq.{take-length}
+use borrow.Author.Rules.{rules}
+use Rattle.seq.specs.Bytes.{put}
+use Rattle.seq.specs.BytesLaws.{put_none, put_more}
+use Rattle.paths.proofs.groups.copy.Goals as goal
+
+pub loop-k-init : goal.loop-k-init
+loop-k-init c = (search rules, sym (put_none _ _), refl)
+
+pub loop-k-preserved : goal.loop-k-preserved
+loop-k-preserved c =
+    let more = put_more c.args.groups.now 0 c.args.list.now c.loop-k.k c.loop-k-test.true in
+    (search rules, rw c.loop-k.invariant.1 (rw zero-add at more), simp length-set c.loop-k.invariant.2)
+
+pub returns : goal.returns
+returns c = let e : c.loop-k.k ≡ length c.args.list.now = omega arith in
+    rw (c.loop-k.invariant.1, e, take-length)

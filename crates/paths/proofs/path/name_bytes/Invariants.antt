@@ -1,0 +1,18 @@
+-- `paths::path::name_bytes` keeps this in its loops. Assumes nothing.
+-- Invariant: no byte before k is a slash. Measure: the bytes left.
+use mathlib.Core.Path.{◌≡◌, sym}
+use mathlib.Core.Bool.{false}
+use Prim.Native.Nat.{◌≤◌, ◌-◌}
+use lib.ListN.{length, get_or}
+use borrow.Author.Rules.{rules}
+use borrow.Author.Tests.{eq-eqb, ne_eqb}
+use Rattle.seq.specs.Search.{any}
+use Rattle.seq.specs.SearchLaws.{any_none, any_miss, first_hit, first_out}
+use Rattle.paths.specs.Path.{is_slash, until_slash}
+use Rattle.paths.proofs.path.name_bytes.Given as goal
+
+abbrev pub invariant-loop-k : goal.invariant-loop-k
+invariant-loop-k l = (l.k ≤ length l.p) × (any (λ i. is_slash (get_or l.p i 0)) l.k ≡ false)
+
+abbrev pub decreases-loop-k : goal.decreases-loop-k
+decreases-loop-k l = length l.p - l.k

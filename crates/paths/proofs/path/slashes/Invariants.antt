@@ -1,0 +1,18 @@
+-- `paths::path::slashes` keeps this in its loops. Assumes nothing.
+-- Invariant: every byte before k is a slash. Measure: the bytes left.
+use mathlib.Core.Path.{◌≡◌, sym}
+use mathlib.Core.Bool.{false, not}
+use Prim.Native.Nat.{◌≤◌, ◌-◌}
+use lib.ListN.{length, get_or}
+use borrow.Author.Rules.{rules}
+use borrow.Author.Tests.{eq-eqb, ne_eqb}
+use Rattle.seq.specs.Search.{any}
+use Rattle.seq.specs.SearchLaws.{any_none, any_miss, first_hit, first_out}
+use Rattle.paths.specs.Path.{is_slash, slashes}
+use Rattle.paths.proofs.path.slashes.Given as goal
+
+abbrev pub invariant-loop-k : goal.invariant-loop-k
+invariant-loop-k l = (l.k ≤ length l.p) × (any (λ i. not (is_slash (get_or l.p i 0))) l.k ≡ false)
+
+abbrev pub decreases-loop-k : goal.decreases-loop-k
+decreases-loop-k l = length l.p - l.k

@@ -1,0 +1,18 @@
+-- `paths::portable::is_portable` keeps this in its loops. Assumes nothing.
+-- Invariant: every byte before k is portable. Measure: the bytes left.
+use mathlib.Core.Path.{◌≡◌, sym}
+use mathlib.Core.Bool.{true}
+use Prim.Native.Nat.{◌≤◌, ◌-◌}
+use lib.ListN.{length, get_or}
+use borrow.Author.Rules.{rules}
+use Rattle.seq.specs.Truth.{fails, holds}
+use Rattle.seq.specs.Search.{all}
+use Rattle.seq.specs.SearchLaws.{all_none, all_more, all_not, all_out}
+use Rattle.paths.specs.Portable.{is_portable_byte, is_portable}
+use Rattle.paths.proofs.portable.is_portable.Given as goal
+
+abbrev pub invariant-loop-k : goal.invariant-loop-k
+invariant-loop-k l = (l.k ≤ length l.name) × (all (λ i. is_portable_byte (get_or l.name i 0)) l.k ≡ true)
+
+abbrev pub decreases-loop-k : goal.decreases-loop-k
+decreases-loop-k l = length l.name - l.k

@@ -1,0 +1,6 @@
+-- `refusals::parents::other_system` meets its contract. Assumes nothing.
+use borrow.Author.Rules.{rules}
+use Rattle.refusals.proofs.parents.other_system.Goals as goal
+
+pub returns : goal.returns
+returns c = simp (c.system.ensures, c.system-2.ensures)

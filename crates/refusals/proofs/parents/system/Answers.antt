@@ -1,0 +1,10 @@
+-- `refusals::parents::system` meets its contract. Assumes nothing.
+use borrow.Author.Rules.{rules}
+use Rattle.layout.specs.View.{view_of}
+use Rattle.layout.specs.Fields.{inode_system}
+use Rattle.layout.specs.RecordLaws.{field_of}
+use Rattle.refusals.proofs.parents.system.Goals as goal
+
+pub returns : goal.returns
+unfolding view_of
+returns c = field_of inode_system c.inode-r.ensures c.system.ensures

@@ -1,0 +1,19 @@
+-- `rename::exchange` meets its contract. Assumes nothing.
+use mathlib.Core.Path.{◌≡◌, sym, subst}
+use lib.ListN.{length}
+use borrow.Author.Rules.{rules}
+use Rattle.recounts.specs.declared.Move.{Move}
+use Rattle.exchanges.specs.Exchange.{exchange_rows, exchange_planned}
+use Rattle.exchanges.specs.InImage.{BothInImage}
+use Rattle.rename.proofs.exchange.Goals as goal
+
+pub fill-requires : goal.fill-requires
+fill-requires c =
+    (search rules, c.requires.1, subst (BothInImage c.args.h) (sym c.exchange_of.ensures) c.requires.2)
+
+pub returns : goal.returns
+returns c =
+    let args = c.args in
+    subst (λ (m : Move). (c.fill.new.0 ≡ exchange_planned args.h args.image.now m args.plan.now)
+    × (c.fill.result ≡ length (exchange_rows args.h args.image.now m)))
+    c.exchange_of.ensures c.fill.ensures

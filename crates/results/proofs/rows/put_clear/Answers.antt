@@ -1,0 +1,11 @@
+-- `results::rows::put_clear` meets its contract. Assumes nothing.
+use mathlib.Core.Path.{refl}
+use Rattle.plan.specs.WriteLaws.{row_put}
+use Rattle.results.specs.Results.{clear_row}
+use borrow.Author.Rules.{rules}
+use Rattle.results.proofs.rows.put_clear.Goals as goal
+
+pub returns : goal.returns
+returns c =
+    let args = c.args in
+    row_put args.h (clear_row args.h) _ _ c.put_row.ensures c.journal.ensures refl

@@ -1,0 +1,11 @@
+-- `results::rows::put_start` meets its contract. Assumes nothing.
+use borrow.Author.Rules.{rules}
+use Rattle.plan.specs.WriteLaws.{row_put}
+use Rattle.results.specs.Start.{start_row}
+use Rattle.results.proofs.rows.put_start.Goals as goal
+
+pub returns : goal.returns
+returns c =
+    let args = c.args in
+    row_put args.h (start_row args.kind args.m) _ _ c.put_row.ensures c.journal.ensures
+    c.journal-r.ensures

@@ -1,0 +1,19 @@
+-- `tallies::counts` keeps this in its loops. Assumes nothing.
+-- Invariant: the entries before slot j are counted in both tables. Measure: the slots left.
+use mathlib.Core.Path.{◌≡◌}
+use Prim.Native.Nat.{◌≤◌, ◌-◌}
+use native.Mathlib.Omega.{arith}
+use borrow.Author.Rules.{rules}
+use Rattle.layout.specs.View.{view_of}
+use Rattle.tables.specs.Table.{Table, tally}
+use Rattle.tables.specs.TableLaws.{tally_le, tally_turn}
+use Rattle.tallies.specs.Tallies.{target_slot, holder_slot}
+use Rattle.tallies.specs.TalliesLaws.{tally_blank, entry_counts_are, child_counts_are}
+use Rattle.tallies.proofs.counts.Given as goal
+
+abbrev pub invariant-loop-j : goal.invariant-loop-j
+invariant-loop-j l =
+    (l.j ≤ l.n) × Table (tally (target_slot (view_of l.h l.image)) l.j) 513 l.entries × Table (tally (holder_slot (view_of l.h l.image)) l.j) 513 l.children
+
+abbrev pub decreases-loop-j : goal.decreases-loop-j
+decreases-loop-j l = l.n - l.j

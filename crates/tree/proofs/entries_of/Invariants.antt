@@ -1,0 +1,17 @@
+-- `tree::entries_of` keeps this in its loops. Assumes nothing.
+-- Invariant: found is how many entries before j target inode i, so at most j. Measure: the entries left.
+use mathlib.Core.Path.{◌≡◌, sym}
+use mathlib.Core.Logic.{⊎_elim}
+use Prim.Native.Nat.{◌≤◌, ◌-◌}
+use borrow.Author.Rules.{rules}
+use Rattle.seq.specs.Search.{count}
+use Rattle.seq.specs.SearchLaws.{count_none, count_turn, count_pass, count_out}
+use Rattle.layout.specs.View.{view_of}
+use Rattle.tree.specs.Tree.{targets, entries_of}
+use Rattle.tree.proofs.entries_of.Given as goal
+
+abbrev pub invariant-loop-j : goal.invariant-loop-j
+invariant-loop-j l = (l.j ≤ l.n) × (l.found ≤ l.j) × (l.found ≡ count (targets (view_of l.h l.image) l.i) l.j)
+
+abbrev pub decreases-loop-j : goal.decreases-loop-j
+decreases-loop-j l = l.n - l.j

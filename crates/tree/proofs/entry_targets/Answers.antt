@@ -1,0 +1,23 @@
+-- `tree::entry_targets` meets its contract. Assumes nothing.
+use mathlib.Core.Path.{sym, ◌∙◌}
+use mathlib.Core.Bool.{and-true, and-false}
+use borrow.Author.Rules.{rules}
+use borrow.Author.Tests.{eq-eqb, ne_eqb}
+use Rattle.layout.specs.Fields.{entry_name_length, entry_target}
+use Rattle.layout.specs.RecordLaws.{field_of}
+use Rattle.layout.specs.View.{view_of}
+use Rattle.tree.proofs.entry_targets.Goals as goal
+
+pub returns-then-target-i : goal.returns-then-target-i
+unfolding view_of
+returns-then-target-i c = simp (and-false, ne_eqb _ _ (λ e. c.if-target-i.true (field_of entry_target c.entry-e.ensures c.target.ensures.0 ∙ e)))
+
+pub returns : goal.returns
+unfolding view_of
+returns c =
+    let entry = c.entry-e in
+    simp (
+      eq-eqb _ _ (sym (field_of entry_target entry.ensures c.target.ensures.0) ∙ c.if-target-i.false),
+      and-true,
+      field_of entry_name_length entry.ensures c.name_length.ensures.0,
+    )

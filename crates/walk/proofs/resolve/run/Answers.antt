@@ -1,0 +1,67 @@
+-- `walk::resolve::run` meets its contract. Assumes nothing.
+use mathlib.Core.Path.{◌≡◌, sym, ◌∙◌, refl}
+use native.Mathlib.Omega.{arith}
+use borrow.Author.Rules.{rules}
+use Rattle.layout.specs.View.{view_of}
+use Rattle.layout.specs.Limits.{step_limit}
+use Rattle.component.specs.State.{position_of, Fit}
+use Rattle.component.specs.StateLaws.{turned_goes, turned_fit, fit_short}
+use Rattle.walk.specs.Walk.{walk_from}
+use Rattle.walk.specs.Budget.{budget, Ready}
+use Rattle.walk.specs.Bound.{after_is, budget_falls, ready_new, ready_steps, ready_next, walk_goes, walk_ends}
+use Rattle.walk.specs.Answer.{end_of}
+use Rattle.walk.specs.AnswerLaws.{refused_closes, found_closes}
+use Rattle.walk.proofs.resolve.run.Goals as goal
+
+pub loop-w-init : goal.loop-w-init
+loop-w-init c =
+    let args = c.args in
+    let pre = c.requires in
+    (pre.1, ready_new (position_of args.w) pre.1.more (fit_short args.w pre.1) pre.2 pre.3, refl)
+
+pub step-r-requires : goal.step-r-requires
+step-r-requires c =
+    let l = ready_steps (position_of c.loop-w.w) c.loop-w.invariant.1 in
+    (c.requires.0, c.loop-w.invariant.0, omega arith)
+
+pub loop-w-smaller : goal.loop-w-smaller
+loop-w-smaller c =
+    let args = c.args in
+    let loop' = c.loop-w in
+    let step = c.step-r in
+    let e = turned_goes step.result _ step.ensures c.enum_told-1.given.1 in
+    budget_falls (position_of loop'.w) (position_of step.result.walk) loop'.invariant.0.more
+    (after_is (view_of args.h args.image.now) args.who args.last (position_of loop'.w) _ e)
+
+pub loop-w-preserved : goal.loop-w-preserved
+loop-w-preserved c =
+    let args = c.args in
+    let loop' = c.loop-w in
+    let step = c.step-r in
+    let e = turned_goes step.result _ step.ensures c.enum_told-1.given.1 in (
+      turned_fit step.result _ step.ensures c.enum_told-1.given.1,
+      ready_next (view_of args.h args.image.now) args.who args.last (position_of loop'.w) (position_of step.result.walk) loop'.invariant.1 e,
+      sym (walk_goes (view_of args.h args.image.now) args.who args.last (position_of loop'.w) (position_of step.result.walk) loop'.invariant.1 e) ∙ loop'.invariant.2,
+    )
+
+pub returns-in-Refuses : goal.returns-in-Refuses
+returns-in-Refuses c =
+    let args = c.args in
+    let loop' = c.loop-w in
+    let step = c.step-r in
+    let k = refused_closes step.result _ c.ended.result step.ensures _ c.leave-1.given.1 c.ended.ensures in
+    record {
+      is = sym (walk_ends (view_of args.h args.image.now) args.who args.last (position_of loop'.w) (end_of c.ended.result) loop'.invariant.1 k.is) ∙ loop'.invariant.2;
+      range = k.range;
+    }
+
+pub returns-in-Finds : goal.returns-in-Finds
+returns-in-Finds c =
+    let args = c.args in
+    let loop' = c.loop-w in
+    let step = c.step-r in
+    let k = found_closes step.result _ c.ended-in-Finds.result step.ensures _ c.leave-in-Finds-1.given.1 c.ended-in-Finds.ensures in
+    record {
+      is = sym (walk_ends (view_of args.h args.image.now) args.who args.last (position_of loop'.w) (end_of c.ended-in-Finds.result) loop'.invariant.1 k.is) ∙ loop'.invariant.2;
+      range = k.range;
+    }

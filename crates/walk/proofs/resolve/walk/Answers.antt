@@ -1,0 +1,13 @@
+-- `walk::resolve::walk` meets its contract: the definition's bound and the facts of its ends are the answer's. Assumes nothing.
+use borrow.Author.Rules.{rules}
+use Rattle.layout.specs.View.{view_of}
+use Rattle.layout.specs.ViewLaws.{readable_text}
+use Rattle.walk.specs.AnswerLaws.{walk_answered}
+use Rattle.walk.proofs.resolve.walk.Goals as goal
+
+pub returns : goal.returns
+returns c =
+    let args = c.args in
+    let pre = c.requires in
+    walk_answered (view_of args.h args.image.now) args.who args.last args.current args.start args.path.now c.resolve.result
+    (readable_text args.h args.image.now pre.0) pre.1 c.resolve.ensures
