@@ -13,7 +13,7 @@ import os
 import re
 
 SPLIT = re.compile(r"([\s(){}\[\].;,`]+)")
-HEAD = re.compile(r"^\s*((?:abbrev |unfoldable |pub |data |record )*)([a-z][\w'\-₀-₉]*) :( .*)?$")
+HEAD = re.compile(r"^\s*((?:abbrev |unfoldable |pub |data |record )*)([a-z][\w'\-₀-₉?]*) :( .*)?$")
 # A function whose law has its name already, or a fact whose name begins in lower case.
 BY_HAND = {
     "belowRoot": "is_below_root",

@@ -20,7 +20,7 @@ module _ {𝓢 : Store} (𝓒 : Change 𝓢) (𝓞 : Orderly 𝓒) where
   from_here end h = (whole 𝓒 𝓞 own [] tt h).1
   from_here {log} {X = X} (next {r} {W} {W'} p t o) h =
       let s : St 𝓒 = record { img = X; waiting = W; phase = own; applied = log; done = false } in
-      from_here o (took_inv 𝓒 𝓞 s (r, W', p) (lowest_low 𝓢.group r W' t) h)
+      from_here {log = r ∷ log} o (took_inv 𝓒 𝓞 s (r, W', p) (lowest_low 𝓢.group r W' t) h)
 
   -- any permitted order of the whole plan gives the image after
   pub any_order : {rs : Rows 𝓢} → Permitted 𝓢 (plan 𝓒) rs → put_all 𝓢 𝓒.before rs ≡ 𝓒.after

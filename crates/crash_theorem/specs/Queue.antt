@@ -42,7 +42,7 @@ module _ {𝓢 : Store} {recover : RecoverOf 𝓢} where
   abbrev pub image_of : {X : 𝓢.Img} → ℕ → Chain 𝓢 recover X → 𝓢.Img
   image_of {X} zero c = X
   image_of {X} (suc k) end = X
-  image_of {X} (suc k) (call 𝓒 o r e c) = image_of k c
+  image_of {X} (suc k) (call 𝓒 o r e c) = image_of {X = 𝓒.after} k c
 
   -- how many deciding rows were applied in the list of events
   abbrev pub decisions : Queue 𝓢 recover → ℕ

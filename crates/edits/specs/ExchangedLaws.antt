@@ -2,7 +2,7 @@
 -- An exchange looks the same from both sides: what is shown of the first side holds of the second, for the exchange mirrored.
 use Rattle.std.specs.Prelude.{◌≡◌, ◌≢◌, ◌⊎◌, List, [], ◌∷◌, ℕ, ◌+◌, ◌≤◌, ◌<◌}
 use Rattle.std.proofs.Common.{sym, ap, ◌∙◌, inl, inr, ⊎_elim, arith}
-use Rattle.std.proofs.Math.Logic.{Dec·and}
+use mathlib.Core.Logic.Dec as dec
 use Rattle.std.proofs.Math.Decide.{ℕ_discrete}
 use Rattle.seq.specs.Count.{On, bit}
 use Rattle.seq.specs.CountLaws.{bit_le, on_or_off}
@@ -98,7 +98,7 @@ module _ {v w : View} {old new moved from replaced into : ℕ} (good : Consisten
     edit = edit;
     gone? = λ _. no (λ z. z);
     made? = λ _. no (λ z. z);
-    reparented? = λ i. either? (Dec·and (ℕ_discrete i moved) (kind? v moved 2)) (Dec·and (ℕ_discrete i replaced) (kind? v replaced 2));
+    reparented? = λ i. either? (dec.and (ℕ_discrete i moved) (kind? v moved 2)) (dec.and (ℕ_discrete i replaced) (kind? v replaced 2));
     root = ((λ z. z), ⊎_elim (λ r. side_below_root good ok.first (sym r.0)) (λ r. side_below_root good ok.second (sym r.0)));
     gone = λ _ _ z. absurd z;
     unnamed = λ _ z. absurd z;

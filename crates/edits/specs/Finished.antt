@@ -2,7 +2,8 @@
 use Rattle.std.specs.Prelude.{◌≡◌, ◌≢◌, List, [], ◌∷◌, ℕ, ◌+◌, ◌≤◌, ◌<◌}
 use Rattle.std.proofs.Math.Path.{sym, ap}
 use Rattle.std.proofs.Common.{◌∙◌, inl, inr, arith}
-use Rattle.std.proofs.Math.Logic.{⊎_elim, Dec·and}
+use Rattle.std.proofs.Math.Logic.{⊎_elim}
+use mathlib.Core.Logic.Dec as dec
 use Rattle.std.proofs.Math.Decide.{ℕ_discrete}
 use Rattle.seq.specs.Count.{Off, On, bit}
 use Rattle.seq.specs.CountLaws.{bit_le, on_or_off, count_zero}
@@ -11,7 +12,7 @@ use Rattle.layout.specs.Limits.{link_limit}
 use Rattle.layout.specs.View.{View}
 use Rattle.tree.specs.Tree.{targets, entries_of, holds_directory, child_directories}
 use Rattle.edits.specs.Kinds.{IsDirectory, IsUsed, IsLeaf, EntryUsed, HandleOpen}
-use Rattle.edits.specs.KindsLaws.{directory_used, kind?, entry-used?}
+use Rattle.edits.specs.KindsLaws.{directory_used, kind?, entry_used?}
 use Rattle.edits.specs.Tests.{is_targets, no_targets, same_target, is_holds, no_holds}
 use Rattle.edits.specs.ConsistentView.{EntryLinked, ConsistentView}
 use Rattle.edits.specs.ConsistentViewLaws.{only_entry, not_own_parent, children_limit}
@@ -123,7 +124,7 @@ module _ {v : View} {old new moved from into : ℕ} {called : List ℕ} (good : 
       edit = edit;
       gone? = gone? v w new;
       made? = λ _. no (λ x. x);
-      reparented? = λ i. Dec·and (ℕ_discrete i moved) (kind? v moved 2);
+      reparented? = λ i. dec.and (ℕ_discrete i moved) (kind? v moved 2);
       root = ((λ g. (good.placed.entry new g.0.0).below_root g.0.1), λ r. moved_below_root (sym r.0));
       gone = m.freed;
       unnamed = unnamed;
@@ -182,7 +183,7 @@ module _ {v : View} {old new moved from into : ℕ} {called : List ℕ} (good : 
 
     -- and neither parent has more than the limit
     children_within : (d : ℕ) → IsDirectory w d → 2 + child_directories w d ≤ link_limit
-    children_within d h = go (ℕ_discrete d into) (kind? v moved 2) (ℕ_discrete from into) (entry-used? v new)
+    children_within d h = go (ℕ_discrete d into) (kind? v moved 2) (ℕ_discrete from into) (entry_used? v new)
       where
         counted : v.links d ≡ 2 + child_directories v d
         counted = good.counted.children d (directory_was d h)
@@ -241,7 +242,7 @@ module _ {v : View} {old new moved from into : ℕ} {called : List ℕ} (good : 
 
     -- the new name is that of no entry that stayed
     name_free : (j : ℕ) → Off j slots → EntryUsed v j → v.parent j ≡ into → v.name j ≢ called
-    name_free j off l ep en = go (entry-used? v new)
+    name_free j off l ep en = go (entry_used? v new)
       where
         go : Dec (EntryUsed v new) → ⊥
         go (yes u) = off.1.0 (good.distinct j new l u (ep ∙ sym (ok.new_parent u)) (en ∙ sym (ok.new_name_lem u)))

@@ -1,7 +1,7 @@
 -- What a number names in a view: one fact from another, and facts that can be decided. Assumes nothing.
 use Rattle.std.specs.Prelude.{◌⊎◌, ℕ}
 use Rattle.std.proofs.Common.{inl, inr, ⊎_elim, arith}
-use Rattle.std.proofs.Math.Logic.{Dec·and, Dec·not}
+use mathlib.Core.Logic.Dec as dec
 use Rattle.std.proofs.Math.Decide.{ℕ_discrete, dec_lt}
 use Rattle.layout.specs.View.{View}
 use Rattle.edits.specs.Kinds.{IsKind, IsDirectory, IsSymlink, IsUsed, EntryUsed}
@@ -15,10 +15,10 @@ symlink_used v i (l, e) = (l, λ z. omega arith)
 
 -- each is decided by the view
 pub kind? : (v : View) (i k : ℕ) → Dec (IsKind v i k)
-kind? v i k = Dec·and (dec_lt i v.inodes) (ℕ_discrete (v.kind i) k)
+kind? v i k = dec.and (dec_lt i v.inodes) (ℕ_discrete (v.kind i) k)
 
-pub entry-used? : (v : View) (j : ℕ) → Dec (EntryUsed v j)
-entry-used? v j = Dec·and (dec_lt j v.entries) (Dec·not (ℕ_discrete (v.name_length j) 0))
+pub entry_used? : (v : View) (j : ℕ) → Dec (EntryUsed v j)
+entry_used? v j = dec.and (dec_lt j v.entries) (dec.not (ℕ_discrete (v.name_length j) 0))
 
 pub either? : {A B : Type 0} → Dec A → Dec B → Dec (A ⊎ B)
 either? (yes a) d = yes (inl a)

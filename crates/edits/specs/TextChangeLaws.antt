@@ -20,8 +20,8 @@ module _ {v w : View} (Gone : ℕ → Type 0) (replaced : ℕ) (single : (i : �
   abbrev TextFreed : ℕ → Type 0
   TextFreed t = (i : ℕ) × Gone i × IsSymlink v i × (v.field i ≡ t)
 
-  text-freed? : (t : ℕ) → Dec (TextFreed t)
-  text-freed? t = go gone? (kind? v replaced 3) (ℕ_discrete (v.field replaced) t)
+  text_freed? : (t : ℕ) → Dec (TextFreed t)
+  text_freed? t = go gone? (kind? v replaced 3) (ℕ_discrete (v.field replaced) t)
     where
       go : Dec (Gone replaced) → Dec (IsSymlink v replaced) → Dec (v.field replaced ≡ t) → Dec (TextFreed t)
       go (yes g) (yes l) (yes e) = yes (replaced, g, l, e)
@@ -34,8 +34,8 @@ module _ {v w : View} (Gone : ℕ → Type 0) (replaced : ℕ) (single : (i : �
 
   pub texts_freed : TextChange v w Gone (λ _. ⊥)
   texts_freed = record {
-    before = λ t u. before t u (text-freed? t);
-    after = λ t u. inl (after t u (text-freed? t));
+    before = λ t u. before t u (text_freed? t);
+    after = λ t u. inl (after t u (text_freed? t));
     freed = λ i g l u. u.1 (freed i g l);
     fresh = λ _ z. absurd z;
     single = λ _ _ z. absurd z;
