@@ -17,9 +17,9 @@ use Rattle.exchanges.proofs.children.Goals as goal
 pub overflow_sub-result : goal.overflow_sub-result
 unfolding children_exchanged child_directories view_of
 overflow_sub-result c =
-    let wanted : ℕ = 
+    let wanted : ℕ =
     children_exchanged (view_of c.args.h c.args.image.now) c.args.m c.args.d in
-    let sum : wanted + (c.one_if-old.result + c.one_if-new.result) ≡ c.child_directories-stand.result + (c.one_if-second.result + c.one_if-first.result) = 
+    let sum : wanted + (c.one_if-old.result + c.one_if-new.result) ≡ c.child_directories-stand.result + (c.one_if-second.result + c.one_if-first.result) =
     let m = c.args.m in
     let v = view_of c.args.h c.args.image.now in
     let e = recounted m c.args.h.entries c.requires.1 (holds_directory v c.args.d) (eqb m.from c.args.d && is_directory v m.replaced) (eqb m.into c.args.d && is_directory v m.moved) in
@@ -34,9 +34,9 @@ overflow_sub-result c =
 pub overflow_sub-result-2 : goal.overflow_sub-result-2
 unfolding children_exchanged child_directories view_of
 overflow_sub-result-2 c =
-    let wanted : ℕ = 
+    let wanted : ℕ =
     children_exchanged (view_of c.args.h c.args.image.now) c.args.m c.args.d in
-    let sum : wanted + (c.one_if-old.result + c.one_if-new.result) ≡ c.child_directories-stand.result + (c.one_if-second.result + c.one_if-first.result) = 
+    let sum : wanted + (c.one_if-old.result + c.one_if-new.result) ≡ c.child_directories-stand.result + (c.one_if-second.result + c.one_if-first.result) =
     let m = c.args.m in
     let v = view_of c.args.h c.args.image.now in
     let e = recounted m c.args.h.entries c.requires.1 (holds_directory v c.args.d) (eqb m.from c.args.d && is_directory v m.replaced) (eqb m.into c.args.d && is_directory v m.moved) in
@@ -51,9 +51,9 @@ overflow_sub-result-2 c =
 pub returns : goal.returns
 unfolding children_exchanged child_directories view_of
 returns c =
-    let wanted : ℕ = 
+    let wanted : ℕ =
     children_exchanged (view_of c.args.h c.args.image.now) c.args.m c.args.d in
-    let sum : wanted + (c.one_if-old.result + c.one_if-new.result) ≡ c.child_directories-stand.result + (c.one_if-second.result + c.one_if-first.result) = 
+    let sum : wanted + (c.one_if-old.result + c.one_if-new.result) ≡ c.child_directories-stand.result + (c.one_if-second.result + c.one_if-first.result) =
     let m = c.args.m in
     let v = view_of c.args.h c.args.image.now in
     let e = recounted m c.args.h.entries c.requires.1 (holds_directory v c.args.d) (eqb m.from c.args.d && is_directory v m.replaced) (eqb m.into c.args.d && is_directory v m.moved) in
@@ -63,6 +63,6 @@ returns c =
     let old = c.one_if-old.ensures.0 ∙ ap bit c.entry_holds_directory.ensures in
     let new = c.one_if-new.ensures.0 ∙ ap bit c.entry_holds_directory-2.ensures in
     rw (old, new, other, made, c.child_directories-stand.ensures.0) e in
-    let few : wanted ≤ c.args.h.entries = 
+    let few : wanted ≤ c.args.h.entries =
     count_le (holds_exchanged (view_of c.args.h c.args.image.now) c.args.m c.args.d) c.args.h.entries in
     (omega (arith, sum), omega (arith, sum, few, c.requires.0.entries_most))

@@ -53,11 +53,10 @@ unfolding view_of
 returns-in-3 c =
     let is-link : is_symlink (view_of c.args.h c.args.image.now) c.args.target ≡ true = let says = field_of inode_kind c.inode-inode.ensures c.kind-kind.ensures in
     is_kind_lem c.args.h c.args.image.now c.args.target 3 c.requires.3 (sym says ∙ c.in-3.is) in
-    let at = start c.before.before.before.before in
     let inode = c.inode-inode in
     let f = field_of inode_field inode.ensures c.field.ensures.0 in
-    let x = c.bytes.ensures ∙ ap text_bytes c.text-text.ensures.is ∙ ap (λ i. text_bytes (text_at at.args.h at.args.image.now i)) f in
-    enters_link (view_of at.args.h at.args.image.now) _ (position_of at.args.w) (rest_from at.args.w at.args.e) _ at.args.target
+    let x = c.bytes.ensures ∙ ap text_bytes c.text-text.ensures.is ∙ ap (λ i. text_bytes (text_at c.args.h c.args.image.now i)) f in
+    enters_link (view_of c.args.h c.args.image.now) _ (position_of c.args.w) (rest_from c.args.w c.args.e) _ c.args.target
     is-link x c.follow.ensures
 
 pub returns-in_default : goal.returns-in_default
