@@ -42,5 +42,5 @@ unfolding view_of part
 returns c =
     let target_is : c.target-target.result ≡ entry_target (entry_at c.args.h c.args.image.now c.args.slot) = field_of entry_target c.entry-entry.ensures c.target-target.ensures.0 in
     let args = c.args in
-    hits_more (view_of args.h args.image.now) _ (position_of args.w) (rest_from args.w args.e) args.slot c.target-target.result (target_is target)
+    hits_more (view_of args.h args.image.now) _ (position_of args.w) (rest_from args.w args.e) args.slot c.target-target.result target_is
     (sym c.is_bare.ensures ∙ c.if-is_bare.false) c.enter.ensures

@@ -14,9 +14,8 @@ pub returns-then-is_bare : goal.returns-then-is_bare
 returns-then-is_bare c =
     let args = c.args in
     let v = view_of args.h args.image.now in
-    let start = c.start-1 in
     ended_as _ _ _ c.stop-then-is_bare.ensures
-    (begun_bare v args.who args.last args.start _ _ args.path.now start.given.1 (sym c.is_bare.ensures ∙ c.if-is_bare.true))
+    (begun_bare v args.who args.last args.start _ _ args.path.now c.in-At.is (sym c.is_bare.ensures ∙ c.if-is_bare.true))
 
 pub run-requires : goal.run-requires
 run-requires c =
@@ -36,10 +35,9 @@ pub returns-else-is_bare : goal.returns-else-is_bare
 returns-else-is_bare c =
     let args = c.args in
     let v = view_of args.h args.image.now in
-    let start = c.start-1 in
     let is-bare = c.is_bare in
     let if1 = c.if-is_bare in
     let p = ap position_of c.begin-w.ensures ∙ begins_at args.path.now _ _ in
     ended_as _ _ _ c.run.ensures
-    (begun_walks v args.who args.last args.start _ _ args.path.now start.given.1 (sym is-bare.ensures ∙ if1.false)
+    (begun_walks v args.who args.last args.start _ _ args.path.now c.in-At.is (sym is-bare.ensures ∙ if1.false)
     ∙ sym (ap (λ w. walk_from v args.who args.last step_limit w) p))
