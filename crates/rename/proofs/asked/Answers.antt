@@ -22,13 +22,13 @@ pub returns-then-not-good-2 : goal.returns-then-not-good-2
 returns-then-not-good-2 c =
     let args = c.args in
     let fine = sym c.records_number-number.ensures ∙ c.if-number-ne0.false in
-    let good = holds c.good-2.ensures c.if-not-good.false-raw in
-    answers_as (answers_flags args.image.now args.plan.now args.q args.old.now args.new.now c.requires.0 args.h c.requires.1 fine good (fails c.good.ensures c.if-not-good-2.true-raw))
+    let good = holds c.good.ensures c.if-not-good.false-raw in
+    answers_as (answers_flags args.image.now args.plan.now args.q args.old.now args.new.now c.requires.0 args.h c.requires.1 fine good (fails c.good-2.ensures c.if-not-good-2.true-raw))
     c.refused-then-not-good-2.ensures
 
 pub walked-requires : goal.walked-requires
 walked-requires c =
     let pre = c.requires in
     let fine = sym c.records_number-number.ensures ∙ c.if-number-ne0.false in
-    let good = holds c.good-2.ensures c.if-not-good.false-raw in
-    (search rules, pre.1, fine, good, holds c.good.ensures c.if-not-good-2.false-raw)
+    let good = holds c.good.ensures c.if-not-good.false-raw in
+    (search rules, pre.1, fine, good, holds c.good-2.ensures c.if-not-good-2.false-raw)
