@@ -6,10 +6,10 @@ use borrow.Author.Rules.{rules}
 use Rattle.seq.specs.Truth.{fails, holds}
 use Rattle.layout.specs.View.{View, view_of}
 use Rattle.layout.specs.Fields.{entry_parent}
-use Rattle.layout.specs.RecordLaws.{field_of}
+use Rattle.layout.proofs.RecordLaws.{field_of}
 use Rattle.rename_drafts.specs.PendingRename.{into_good}
 use Rattle.exchange_drafts.specs.PendingExchange.{slot_stands, slots_stand}
-use Rattle.exchange_drafts.specs.ExchangeFit.{slots_last}
+use Rattle.exchange_drafts.proofs.ExchangeFit.{slots_last}
 use Rattle.exchange_drafts.proofs.slots_stand.Goals as goal
 
 pub returns-then-not-slot_stands : goal.returns-then-not-slot_stands

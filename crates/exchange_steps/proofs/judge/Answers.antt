@@ -1,9 +1,9 @@
 -- `exchange_steps::judge` meets its contract. Assumes nothing.
 use mathlib.Core.Path.{sym, ap, ◌∙◌}
 use Rattle.layout.specs.View.{View, view_of}
-use Rattle.layout.specs.ViewLaws.{is_used_below}
+use Rattle.layout.proofs.ViewLaws.{is_used_below}
 use Rattle.refusals.specs.declared.case.Answer.TheVariants.{Refused}
-use Rattle.refusals.specs.WithinLaws.{case_within}
+use Rattle.refusals.proofs.WithinLaws.{case_within}
 use Rattle.exchange_steps.specs.ExchangeLaws.{exchange_same, exchange_parents, exchange_others, exchange_planned_lem}
 use Rattle.exchange_steps.proofs.judge.Goals as goal
 

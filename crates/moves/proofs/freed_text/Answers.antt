@@ -4,9 +4,9 @@ use mathlib.Core.Bool.{true}
 use Rattle.seq.specs.Truth.{fails, holds}
 use Rattle.layout.specs.Fields.{inode_field}
 use Rattle.layout.specs.Limits.{absent}
-use Rattle.layout.specs.RecordLaws.{field_of}
+use Rattle.layout.proofs.RecordLaws.{field_of}
 use Rattle.layout.specs.View.{View, view_of, is_symlink}
-use Rattle.layout.specs.ViewLaws.{is_kind_below}
+use Rattle.layout.proofs.ViewLaws.{is_kind_below}
 use Rattle.recounts.specs.Recount.{entries_after}
 use Rattle.moves.specs.Plan.{move_with}
 use Rattle.moves.specs.Texts.{text_other, text_kept, text_freed}

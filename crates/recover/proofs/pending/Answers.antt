@@ -5,7 +5,7 @@ use Rattle.plan.specs.Form.{plan_bytes}
 use Rattle.rename_drafts.specs.declared.drafted.Draft.{Draft}
 use Rattle.drafts.specs.Draft.{draft}
 use Rattle.rename_drafts.specs.Drafted.{Drafted}
-use Rattle.recover.specs.Outs.{recovered_as, answers_none, unfit_none}
+use Rattle.recover.proofs.Outs.{recovered_as, answers_none, unfit_none}
 use borrow.Author.Rules.{rules}
 use Rattle.recover.proofs.pending.Goals as goal
 

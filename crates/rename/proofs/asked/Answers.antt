@@ -1,7 +1,7 @@
 -- `rename::asked` meets its contract: the records, the request and its flags. Assumes nothing.
 use mathlib.Core.Path.{sym, ◌∙◌}
 use Rattle.seq.specs.Truth.{fails, holds}
-use Rattle.rename.specs.Outs.{answers_as, answers_records, answers_request, answers_flags}
+use Rattle.rename.proofs.Outs.{answers_as, answers_records, answers_request, answers_flags}
 use borrow.Author.Rules.{rules}
 use Rattle.rename.proofs.asked.Goals as goal
 

@@ -4,10 +4,10 @@ use mathlib.Core.Bool.{true}
 use borrow.Author.Rules.{rules}
 use Rattle.seq.specs.Truth.{fails, holds}
 use Rattle.layout.specs.View.{View, view_of}
-use Rattle.plan.specs.WriteLaws.{filled_one}
+use Rattle.plan.proofs.WriteLaws.{filled_one}
 use Rattle.results.specs.Results.{clear_row}
 use Rattle.rename_drafts.specs.PendingRename.{rename_fits, entry_stands, into_good, move_draft, rename_draft}
-use Rattle.rename_drafts.specs.Fit.{fits_new, move_new, move_image, rename_move, rename_unfit, move_undone, move_unfit, move_finished}
+use Rattle.rename_drafts.proofs.Fit.{fits_new, move_new, move_image, rename_move, rename_unfit, move_undone, move_unfit, move_finished}
 use Rattle.rename_drafts.proofs.draft.Goals as goal
 
 pub returns-then-not-fits : goal.returns-then-not-fits

@@ -3,8 +3,8 @@ use mathlib.Core.Path.{sym, ap, ◌∙◌}
 use borrow.Author.Rules.{rules}
 use Rattle.layout.specs.View.{View, view_of}
 use Rattle.refusals.specs.declared.case.Answer.TheVariants.{Refused}
-use Rattle.refusals.specs.WithinLaws.{case_within}
-use Rattle.rename_steps.specs.StepsLaws.{steps_same, steps_parents, steps_kinds, steps_target, steps_planned}
+use Rattle.refusals.proofs.WithinLaws.{case_within}
+use Rattle.rename_steps.proofs.StepsLaws.{steps_same, steps_parents, steps_kinds, steps_target, steps_planned}
 use Rattle.rename_steps.proofs.judge.Goals as goal
 
 pub returns-then-c : goal.returns-then-c

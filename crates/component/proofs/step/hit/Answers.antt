@@ -5,11 +5,11 @@ use native.Mathlib.Omega.{arith}
 use borrow.Author.Rules.{rules}
 use Rattle.seq.specs.Bytes.{part}
 use Rattle.layout.specs.Fields.{entry_target}
-use Rattle.layout.specs.RecordLaws.{field_of}
+use Rattle.layout.proofs.RecordLaws.{field_of}
 use Rattle.layout.specs.View.{view_of, entry_at}
-use Rattle.layout.specs.ViewLaws.{is_used_below}
+use Rattle.layout.proofs.ViewLaws.{is_used_below}
 use Rattle.component.specs.State.{position_of, rest_from}
-use Rattle.component.specs.Turns.{hits_last, hits_more}
+use Rattle.component.proofs.Turns.{hits_last, hits_more}
 use Rattle.component.proofs.step.hit.Goals as goal
 
 pub arrive-requires : goal.arrive-requires

@@ -4,10 +4,10 @@ use borrow.Author.Rules.{rules}
 use Rattle.layout.specs.View.{view_of}
 use Rattle.layout.specs.Limits.{step_limit}
 use Rattle.component.specs.State.{position_of, Fit}
-use Rattle.component.specs.StateLaws.{begins_at, begins_fit}
+use Rattle.component.proofs.StateLaws.{begins_at, begins_fit}
 use Rattle.walk.specs.Walk.{walk_from, begun}
-use Rattle.walk.specs.WalkLaws.{begun_bare, begun_walks}
-use Rattle.walk.specs.AnswerLaws.{ended_as}
+use Rattle.walk.proofs.WalkLaws.{begun_bare, begun_walks}
+use Rattle.walk.proofs.AnswerLaws.{ended_as}
 use Rattle.walk.proofs.resolve.from_start.Goals as goal
 
 pub returns-then-is_bare : goal.returns-then-is_bare
