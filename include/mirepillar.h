@@ -1,5 +1,5 @@
 /*
- * Mirepillar's C interface: link with libmirepillar.a, which `rt staticlib mirepillar` makes.
+ * Mirepillar's C interface: link with libmirepillar.a, which tools/archive makes.
  *
  * A buffer is a pointer and its length in bytes, a list of groups a pointer and their number. Where
  * the length is 0 the pointer is not used and may be NULL. Any bytes may be given: no function asks for more than buffers that do not overlap.
