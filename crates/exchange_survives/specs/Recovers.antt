@@ -149,7 +149,7 @@ module _ {h : Shape} {s : List ℕ} {m : Move} (c : Paired h s m) where
 
   module _ {x : List ℕ} (i : OnTheWay (exchange_change h s m) true x) where
     mixed_at : Mixed h s t x
-    mixed_at = way_mixed refl (exchanged_after c) true i
+    mixed_at = way_mixed plan refl (exchanged_after c) true i
 
     -- On every image on the way recovery's rows are the exchange's own, byte for byte,
     pub recover_rows : finishing_exchange h x m ≡ exchange_results h s m ++ clear_row h ∷ []

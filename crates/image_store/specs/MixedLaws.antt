@@ -41,9 +41,9 @@ module _ {h : Shape} {s t x : List ℕ} (mixed : Mixed h s t x) where
   entry_stays j l e = ⊎_elim (λ z. z) (λ z. z) (entry_either j _ l e)
 
 -- on the way every record is as before or as after
-pub way_mixed : {h : Shape} {s₀ : List ℕ} {p : Plan (images h s₀)} {recover : List ℕ → Option (List Write)} {t : List ℕ} → p.set.key ≡ journal_key
+pub way_mixed : {h : Shape} {s₀ : List ℕ} (p : Plan (images h s₀)) {recover : List ℕ → Option (List Write)} {t : List ℕ} → p.set.key ≡ journal_key
     → after_of (images h s₀) p ≡ t → (d : Bool) {x : List ℕ} → OnTheWay (change (images h s₀) p recover) d x → Mixed h p.before t x
-way_mixed {h} {s₀} {p} {recover} {t} journal is d {x} i = record {
+way_mixed {h} {s₀} p {recover} {t} journal is d {x} i = record {
   either = λ k n.
       subst (λ (y : List ℕ). (record_of h x k ≡ record_of h p.before k) ⊎ (record_of h x k ≡ record_of h y k)) is (i.mixed k (λ e. n (e ∙ journal)));
 }

@@ -79,7 +79,7 @@ module _ {h : Shape} {s : List ℕ} {p : Plan (images h s)} (𝓦 : WellFormed (
     -- on the way every record but the journal's is as before or as after,
     pub plan_mixed : {t : List ℕ} → p.set.key ≡ journal_key → after_of (images h s) p ≡ t → Mixed h p.before t (plan_state h s p buffer es).img
     plan_mixed journal is =
-        way_mixed journal is (decided (plan_jobs h s p buffer) (plan_state h s p buffer es))
+        way_mixed p journal is (decided (plan_jobs h s p buffer) (plan_state h s p buffer es))
         (planned_way h s p 𝓦 buffer long few (recover h) ρ recovery_job (recovery_answers h s) es _ refl)
 
     -- and until the deciding row is applied an entry that the operation does not create is as before

@@ -150,7 +150,7 @@ module _ {h : Shape} {s : List ℕ} {m : Move} {called : List ℕ} (c : Called h
   -- ---- on the way
 
   mixed_at : (d : Bool) {x : List ℕ} → OnTheWay 𝓒 d x → Mixed h s t x
-  mixed_at d i = way_mixed refl (finished_after c) d i
+  mixed_at d i = way_mixed plan refl (finished_after c) d i
 
   new_slot : (y : List ℕ) → record_of h y (entry_key m.new) ≡ entry_at h y m.new
   new_slot y = record_is h y (entry_key m.new) (record { in_image = lit< tt; in_section = (in_image c).new })

@@ -14,13 +14,13 @@ pub apply_row-requires : goal.apply_row-requires
 apply_row-requires c =
     let if1 = c.if-plan-lt-BYTES in
     let read = c.read-found in
-    ((contents_good _ _ (sym read.ensures ∙ c.found-1.given.1)).laid, if1.false)
+    ((contents_good _ _ (sym read.ensures ∙ c.in-Good.is)).laid, if1.false)
 
 pub returns-in-Bad : goal.returns-in-Bad
 returns-in-Bad c =
     let args = c.args in
     let if1 = c.if-plan-lt-BYTES in
-    let e = apply_bad args.image.now args.plan.now args.row if1.false (contents_bad _ (sym c.read-found.ensures ∙ c.enum_told-1.given.1)) in
+    let e = apply_bad args.image.now args.plan.now args.row if1.false (contents_bad _ (sym c.read-found.ensures ∙ c.in-Bad.is)) in
     (sym e.0, sym e.1)
 
 pub returns-in-Good : goal.returns-in-Good
@@ -28,7 +28,7 @@ returns-in-Good c =
     let args = c.args in
     let if1 = c.if-plan-lt-BYTES in
     let read = c.read-found in
-    let found = c.found-1 in
+
     let apply-row = c.apply_row in
-    let e = apply_read args.image.now args.plan.now args.row if1.false _ (contents_good _ _ (sym read.ensures ∙ found.given.1)) in
+    let e = apply_read args.image.now args.plan.now args.row if1.false _ (contents_good _ _ (sym read.ensures ∙ c.in-Good.is)) in
     (apply-row.ensures.0 ∙ sym e.0, apply-row.ensures.1 ∙ sym e.1)

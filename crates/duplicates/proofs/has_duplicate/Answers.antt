@@ -18,20 +18,6 @@ use Rattle.duplicates.specs.Bucket.{buckets, bucket_at}
 use Rattle.duplicates.specs.BucketLaws.{clash_bucket, free_clash}
 use Rattle.duplicates.proofs.has_duplicate.Goals as goal
 
--- what the array holds at the entry that was looked at: the last one before it in its bucket
-next_last : (c : tie.Else3 invariant-loop decreases-loop invariant-pairs decreases-pairs)
-    → let args = c.before.before.before.before.before.before.before.before.before.before.before.args in
-    let pairs = c.before.before.before.before.before.before.before.before.before.pairs in
-    let bucket = c.before.before.before.before.before.before.before.bucket in
-    let key = bucket_at (view_of args.h args.image.now) in
-    let i = c.before.before.before.before.loop.at - 1 in
-    Last key (key i) i (get_or (set pairs.nexts pairs.j (get_or pairs.heads bucket.result 0)) i 0)
-next_last c =
-    let loop' = c.before.before.before.before.loop in
-    let e = loop'.invariant.1.here c.before.before.before.loop-test.true in
-    let k = c.before.before.before.before.before.before.before.bucket.ensures.0 in
-    loop'.invariant.3.at (loop'.at - 1) (omega (arith, loop'.invariant.1.below)) (omega arith)
-
 pub pairs-init : goal.pairs-init
 pairs-init c = (search rules, search rules, heads_none _ _, nexts_none _ _ _, any_none _)
 
@@ -64,15 +50,23 @@ loop-at-init c =
 
 pub loop-at-smaller : goal.loop-at-smaller
 loop-at-smaller c =
-    let last = next_last c.before in
+    let next_last : let args = c.args in let pairs = c.pairs in let bucket = c.bucket-b in let key = bucket_at (view_of args.h args.image.now) in let i = c.loop-at.at - 1 in Last key (key i) i (get_or (set pairs.nexts pairs.j (get_or pairs.heads bucket.result 0)) i 0) = let loop' = c.loop-at in
+    let e = loop'.invariant.1.here c.loop-at-test.true in
+    let k = c.bucket-b.ensures.0 in
+    loop'.invariant.3.at (loop'.at - 1) (omega (arith, loop'.invariant.1.below)) (omega arith) in
+    let last = next_last in
     omega (arith, last.below)
 
 pub loop-at-preserved : goal.loop-at-preserved
 loop-at-preserved c =
+    let next_last : let args = c.args in let pairs = c.pairs in let bucket = c.bucket-b in let key = bucket_at (view_of args.h args.image.now) in let i = c.loop-at.at - 1 in Last key (key i) i (get_or (set pairs.nexts pairs.j (get_or pairs.heads bucket.result 0)) i 0) = let loop' = c.loop-at in
+    let e = loop'.invariant.1.here c.loop-at-test.true in
+    let k = c.bucket-b.ensures.0 in
+    loop'.invariant.3.at (loop'.at - 1) (omega (arith, loop'.invariant.1.below)) (omega arith) in
     let loop' = c.loop-at in
     let apart = sym c.entries_clash.ensures ∙ c.if-entries_clash.false in
     let some = c.loop-at-test.true in
-    let passed = passed_turn _ _ _ (λ i e. clash_bucket _ _ _ e) _ _ loop'.invariant.1 some apart (next_last c.before) in
+    let passed = passed_turn _ _ _ (λ i e. clash_bucket _ _ _ e) _ _ loop'.invariant.1 some apart next_last in
     (search rules, rw c.wide-at-in-loop-at.ensures.0 passed, search rules, search rules)
 
 pub pairs-preserved : goal.pairs-preserved

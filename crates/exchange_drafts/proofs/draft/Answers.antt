@@ -22,11 +22,11 @@ pub finish-requires : goal.finish-requires
 finish-requires c =
     let fit : exchange_fits c.args.h c.args.image.now c.args.j ≡ true = holds c.fits.ensures c.if-not-fits.false-raw in
     let args = c.args in
-    (search rules, search rules, exchange_image args.h args.image.now args.j (fit c.before.before) _ c.move_from-m.ensures)
+    (search rules, search rules, exchange_image args.h args.image.now args.j fit _ c.move_from-m.ensures)
 
 pub returns : goal.returns
 returns c =
     let fit : exchange_fits c.args.h c.args.image.now c.args.j ≡ true = holds c.fits.ensures c.if-not-fits.false-raw in
     let args = c.args in
-    rw (exchange_finished args.h args.image.now args.j (fit c.before.before.before.before.before) _ c.move_from-m.ensures)
+    rw (exchange_finished args.h args.image.now args.j fit _ c.move_from-m.ensures)
     c.finish.ensures

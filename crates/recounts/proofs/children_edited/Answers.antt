@@ -1,6 +1,5 @@
 -- `recounts::children_edited` meets its contract. Assumes nothing.
 use mathlib.Core.Path.{◌≡◌, sym}
-use mathlib.Core.Logic.{⊎_elim}
 use Prim.Native.Nat.{◌≤◌, ◌-◌}
 use native.Mathlib.Omega.{arith}
 use borrow.Author.Rules.{rules}
@@ -9,6 +8,7 @@ use Rattle.seq.specs.SearchLaws.{count_none, count_turn, count_pass, count_out}
 use Rattle.layout.specs.View.{view_of}
 use Rattle.recounts.specs.Recount.{holds_after, children_after}
 use Rattle.recounts.proofs.children_edited.Goals as goal
+use Rattle.recounts.proofs.children_edited.Goals.{then-holds_after, else-holds_after}
 
 pub loop-j-init : goal.loop-j-init
 loop-j-init c = (search rules, search rules, sym (count_none _))
@@ -17,8 +17,10 @@ pub loop-j-preserved : goal.loop-j-preserved
 loop-j-preserved c =
     let below = c.loop-j-test.true in
     let inv = c.loop-j.invariant in
-    ⊎_elim (λ w. count_turn _ _ _ _ _ below inv.1 inv.2 c.holds_after.ensures w.0.taken w.1)
-    (λ w. count_pass _ _ _ _ _ below inv.1 inv.2 c.holds_after.ensures w.0.left w.1) c.if-holds_after.branch
+    elim c.if-holds_after.branch [
+      then-holds_after w ↦ count_turn _ _ _ _ _ below inv.1 inv.2 c.holds_after.ensures w.if-holds_after.true w.found-is
+    | else-holds_after w ↦ count_pass _ _ _ _ _ below inv.1 inv.2 c.holds_after.ensures w.if-holds_after.false w.found-is
+    ]
 
 pub returns : goal.returns
 unfolding children_after view_of

@@ -13,47 +13,67 @@ use Rattle.recounts.specs.Recount.{targets_after, entries_after}
 use Rattle.recounts.specs.RecountLaws.{two_is, recounted_cleared}
 use Rattle.recounts.proofs.entries_after.Goals as goal
 
--- what stands and what is made is what is left and what the two slots counted for
-sum : (c : tie.After-one-if3)
-    → entries_after (view_of c.before.before.before.before.before.before.before.before.before.before.args.h c.before.before.before.before.before.before.before.before.before.before.args.image.now) c.before.before.before.before.before.before.before.before.before.before.args.m c.before.before.before.before.before.before.before.before.before.before.args.i + (c.before.before.one-if2.result + c.one-if3.result)
-    ≡ c.before.before.before.before.before.before.entries-of.result + c.before.before.before.before.one-if.result
-unfolding entries_after entries_of view_of
-sum c =
-    let args = c.before.before.before.before.before.before.before.before.before.before.args in
-    let v = view_of args.h args.image.now in
-    let two = two_is args.m args.h.entries (holds c.before.before.before.before.before.before.before.before.edits-two.ensures c.before.before.before.before.before.before.before.if1.false) in
-    let e = recounted_cleared args.m args.h.entries two (targets v args.i) (eqb args.m.moved args.i) in
-    let old = c.before.before.one-if2.ensures.0 ∙ ap bit c.before.before.before.entry-targets.ensures in
-    let new = c.one-if3.ensures.0 ∙ ap bit c.before.entry-targets2.ensures in
-    rw (old, new, c.before.before.before.before.one-if.ensures.0, c.before.before.before.before.before.before.entries-of.ensures) e
-
 pub returns-then-not-edits_two : goal.returns-then-not-edits_two
 returns-then-not-edits_two c = c.entries_edited.ensures
 
 pub entry_targets-requires : goal.entry_targets-requires
 entry_targets-requires c =
+    
     let two = two_is c.args.m c.args.h.entries (holds c.edits_two.ensures c.if-not-edits_two.false-raw) in
     (c.requires, two.old)
 
 pub entry_targets-requires-2 : goal.entry_targets-requires-2
 entry_targets-requires-2 c =
+    
     let two = two_is c.args.m c.args.h.entries (holds c.edits_two.ensures c.if-not-edits_two.false-raw) in
     (c.requires, two.new)
 
 pub overflow_add-result : goal.overflow_add-result
-unfolding entries_after view_of
+unfolding entries_after entries_of view_of
 overflow_add-result c =
+    let sum : entries_after (view_of c.args.h c.args.image.now) c.args.m c.args.i + (c.one_if-old.result + c.one_if-new.result) ≡ c.entries_of-stand.result + c.one_if-made.result = let args = c.args in
+    let v = view_of args.h args.image.now in
+    let two = two_is args.m args.h.entries (holds c.edits_two.ensures c.if-not-edits_two.false-raw) in
+    let e = recounted_cleared args.m args.h.entries two (targets v args.i) (eqb args.m.moved args.i) in
+    let old = c.one_if-old.ensures.0 ∙ ap bit c.entry_targets.ensures in
+    let new = c.one_if-new.ensures.0 ∙ ap bit c.entry_targets-2.ensures in
+    rw (old, new, c.one_if-made.ensures.0, c.entries_of-stand.ensures) e in
     let few : entries_after (view_of c.args.h c.args.image.now) c.args.m c.args.i ≤ c.args.h.entries = count_le (targets_after (view_of c.args.h c.args.image.now) c.args.m c.args.i) c.args.h.entries in
-    omega (arith, sum c, few, c.requires.entries_most, c.one_if-old.ensures.1, c.one_if-new.ensures.1)
+    omega (arith, sum, few, c.requires.entries_most, c.one_if-old.ensures.1, c.one_if-new.ensures.1)
 
 pub overflow_sub-result : goal.overflow_sub-result
-overflow_sub-result c = omega (arith, sum c)
+unfolding entries_after entries_of view_of
+overflow_sub-result c =
+    let sum : entries_after (view_of c.args.h c.args.image.now) c.args.m c.args.i + (c.one_if-old.result + c.one_if-new.result) ≡ c.entries_of-stand.result + c.one_if-made.result = let args = c.args in
+    let v = view_of args.h args.image.now in
+    let two = two_is args.m args.h.entries (holds c.edits_two.ensures c.if-not-edits_two.false-raw) in
+    let e = recounted_cleared args.m args.h.entries two (targets v args.i) (eqb args.m.moved args.i) in
+    let old = c.one_if-old.ensures.0 ∙ ap bit c.entry_targets.ensures in
+    let new = c.one_if-new.ensures.0 ∙ ap bit c.entry_targets-2.ensures in
+    rw (old, new, c.one_if-made.ensures.0, c.entries_of-stand.ensures) e in
+    omega (arith, sum)
 
 pub overflow_sub-result-2 : goal.overflow_sub-result-2
-overflow_sub-result-2 c = omega (arith, sum c)
+unfolding entries_after entries_of view_of
+overflow_sub-result-2 c =
+    let sum : entries_after (view_of c.args.h c.args.image.now) c.args.m c.args.i + (c.one_if-old.result + c.one_if-new.result) ≡ c.entries_of-stand.result + c.one_if-made.result = let args = c.args in
+    let v = view_of args.h args.image.now in
+    let two = two_is args.m args.h.entries (holds c.edits_two.ensures c.if-not-edits_two.false-raw) in
+    let e = recounted_cleared args.m args.h.entries two (targets v args.i) (eqb args.m.moved args.i) in
+    let old = c.one_if-old.ensures.0 ∙ ap bit c.entry_targets.ensures in
+    let new = c.one_if-new.ensures.0 ∙ ap bit c.entry_targets-2.ensures in
+    rw (old, new, c.one_if-made.ensures.0, c.entries_of-stand.ensures) e in
+    omega (arith, sum)
 
 pub returns : goal.returns
-unfolding entries_after view_of
+unfolding entries_after entries_of view_of
 returns c =
+    let sum : entries_after (view_of c.args.h c.args.image.now) c.args.m c.args.i + (c.one_if-old.result + c.one_if-new.result) ≡ c.entries_of-stand.result + c.one_if-made.result = let args = c.args in
+    let v = view_of args.h args.image.now in
+    let two = two_is args.m args.h.entries (holds c.edits_two.ensures c.if-not-edits_two.false-raw) in
+    let e = recounted_cleared args.m args.h.entries two (targets v args.i) (eqb args.m.moved args.i) in
+    let old = c.one_if-old.ensures.0 ∙ ap bit c.entry_targets.ensures in
+    let new = c.one_if-new.ensures.0 ∙ ap bit c.entry_targets-2.ensures in
+    rw (old, new, c.one_if-made.ensures.0, c.entries_of-stand.ensures) e in
     let few : entries_after (view_of c.args.h c.args.image.now) c.args.m c.args.i ≤ c.args.h.entries = count_le (targets_after (view_of c.args.h c.args.image.now) c.args.m c.args.i) c.args.h.entries in
-    (omega (arith, sum c), omega (arith, sum c, few, c.requires.entries_most))
+    (omega (arith, sum), omega (arith, sum, few, c.requires.entries_most))

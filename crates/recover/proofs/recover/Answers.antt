@@ -18,17 +18,17 @@ returns-then-scratch-image c =
     recovered_as (answers_refused args.plan.now args.scratch.now args.image.now 205 (recovered_short _ _ _ (inr c.if-scratch-image.true))) c.refused-then-scratch-image.ensures refl
 
 pub by_journal-requires : goal.by_journal-requires
-by_journal-requires c = (contents_good _ _ (sym c.read-found.ensures ∙ c.found-1.given.1), search rules, search rules)
+by_journal-requires c = (contents_good _ _ (sym c.read-found.ensures ∙ c.in-Good.is), search rules, search rules)
 
 pub returns-in-Bad : goal.returns-in-Bad
 returns-in-Bad c =
     let args = c.args in
-    let bad = contents_bad _ (sym c.read-found.ensures ∙ c.enum_told-1.given.1) in
+    let bad = contents_bad _ (sym c.read-found.ensures ∙ c.in-Bad.is) in
     recovered_as (answers_refused args.plan.now args.scratch.now args.image.now 201 (recovered_layout _ _ _ c.if-plan-lt-BYTES.false c.if-scratch-image.false bad)) c.refused-in-Bad.ensures refl
 
 pub returns-in-Good : goal.returns-in-Good
 returns-in-Good c =
-    let read = contents_good _ _ (sym c.read-found.ensures ∙ c.found-1.given.1) in
+    let read = contents_good _ _ (sym c.read-found.ensures ∙ c.in-Good.is) in
     let long = c.if-plan-lt-BYTES.false in
     let fits = recovered_read c.args.plan.now c.args.scratch.now c.args.image.now long c.if-scratch-image.false _ read in
     recovered_as c.by_journal.ensures refl (sym fits)

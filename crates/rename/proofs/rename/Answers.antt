@@ -13,10 +13,10 @@ returns-then-plan-lt-BYTES c =
 pub asked-requires : goal.asked-requires
 asked-requires c =
     let read = c.read-found in
-    (search rules, contents_good _ _ (sym read.ensures ∙ c.found-1.given.1))
+    (search rules, contents_good _ _ (sym read.ensures ∙ c.in-Good.is))
 
 pub returns-in-Bad : goal.returns-in-Bad
 returns-in-Bad c =
     let args = c.args in
-    let bad = contents_bad _ (sym c.read-found.ensures ∙ c.enum_told-1.given.1) in
+    let bad = contents_bad _ (sym c.read-found.ensures ∙ c.in-Bad.is) in
     answers_as (answers_layout args.image.now args.plan.now args.q args.old.now args.new.now c.if-plan-lt-BYTES.false bad) c.refused-in-Bad.ensures

@@ -27,8 +27,8 @@ write-requires c =
     let none = c.if-r-ne0.false in
     let is = c.case_of-c.ensures in
     let judged = c.judge-answer.ensures in
-    let planned = c.enum_told-in-Planned-1.given.1 in
-    (c.requires.0, c.requires.1.laid, both.new.range, walked_move (given c.before.before.before.before.before.before.before.before.before.before.before.before.before.before) both none is judged planned, planned_name (given c.before.before.before.before.before.before.before.before.before.before.before.before.before.before) both none is judged planned)
+    let planned = c.in-Planned.is in
+    (c.requires.0, c.requires.1.laid, both.new.range, walked_move given both none is judged planned, planned_name given both none is judged planned)
 
 pub exchange-requires : goal.exchange-requires
 exchange-requires c =
@@ -37,7 +37,7 @@ exchange-requires c =
     let none = c.if-r-ne0.false in
     let is = c.case_of-c.ensures in
     let judged = c.judge-answer.ensures in
-    (c.requires.0, c.requires.1.laid, walked_exchange (given c.before.before.before.before.before.before.before.before.before.before.before.before.before.before) both none is judged c.enum_told-in-Exchanged-1.given.1)
+    (c.requires.0, c.requires.1.laid, walked_exchange given both none is judged c.in-Exchanged.is)
 
 pub returns-in-Refused : goal.returns-in-Refused
 returns-in-Refused c =
@@ -46,7 +46,7 @@ returns-in-Refused c =
     let none = c.if-r-ne0.false in
     let is = c.case_of-c.ensures in
     let judged = c.judge-answer.ensures in
-    steps_refuse (given c.before.before.before.before.before.before.before.before.before.before.before.before.before.before) both none is judged _ c.answer-1.given.1
+    steps_refuse given both none is judged _ c.in-Refused.is
 
 pub returns-in-Same : goal.returns-in-Same
 returns-in-Same c =
@@ -55,7 +55,7 @@ returns-in-Same c =
     let none = c.if-r-ne0.false in
     let is = c.case_of-c.ensures in
     let judged = c.judge-answer.ensures in
-    case_same (given c.before.before.before.before.before.before.before.before.before.before.before.before.before.before.before.before.before) both none is judged c.enum_told-1.given.1 _ c.clear.ensures
+    case_same given both none is judged c.in-Same.is _ c.clear.ensures
 
 pub returns-in-Planned : goal.returns-in-Planned
 returns-in-Planned c =
@@ -64,7 +64,7 @@ returns-in-Planned c =
     let none = c.if-r-ne0.false in
     let is = c.case_of-c.ensures in
     let judged = c.judge-answer.ensures in
-    steps_plan (given c.before.before.before.before.before.before.before.before.before.before.before.before.before.before.before.before.before) both none is judged c.enum_told-in-Planned-1.given.1 _ _ c.write.ensures
+    steps_plan given both none is judged c.in-Planned.is _ _ c.write.ensures
 
 pub returns-in-Exchanged : goal.returns-in-Exchanged
 returns-in-Exchanged c =
@@ -73,4 +73,4 @@ returns-in-Exchanged c =
     let none = c.if-r-ne0.false in
     let is = c.case_of-c.ensures in
     let judged = c.judge-answer.ensures in
-    steps_exchange (given c.before.before.before.before.before.before.before.before.before.before.before.before.before.before.before.before.before) both none is judged c.enum_told-in-Exchanged-1.given.1 _ _ c.exchange.ensures
+    steps_exchange given both none is judged c.in-Exchanged.is _ _ c.exchange.ensures

@@ -27,7 +27,7 @@ needed {h} e f inside fits = (subst (InImage h) (sym e) inside, rw f fits)
 pub slice_bounds-put-count : goal.slice_bounds-put-count
 slice_bounds-put-count c =
     let args = c.args in
-    let r = missing_range args.new.path args.new.found _ _ _ _ c.requires.2 c.found-1.given.1 in
+    let r = missing_range args.new.path args.new.found _ _ _ _ c.requires.2 c.in-Missing.is in
     omega (arith, r.0, r.1)
 
 pub put-requires : goal.put-requires
@@ -35,38 +35,38 @@ unfolding part
 put-requires c =
     let args = c.args in
     let pre = c.requires in
-    let same = needed c.move_of-m.ensures (called args.new.path c.found-1.given.1) pre.3 pre.4 in
+    let same = needed c.move_of-m.ensures (called args.new.path c.in-Missing.is) pre.3 pre.4 in
     (search rules, pre.1, same.0, same.1)
 
 pub put-requires-in-Existing : goal.put-requires-in-Existing
 put-requires-in-Existing c =
     let args = c.args in
     let pre = c.requires in
-    let same = needed c.move_of-m.ensures (called args.new.path c.enum_told-1.given.1) pre.3 pre.4 in
+    let same = needed c.move_of-m.ensures (called args.new.path c.in-Existing.is) pre.3 pre.4 in
     (search rules, pre.1, same.0, same.1)
 
 pub put-requires-in-Nothing : goal.put-requires-in-Nothing
 put-requires-in-Nothing c =
     let args = c.args in
     let pre = c.requires in
-    let same = needed c.move_of-m.ensures (called args.new.path c.enum_told-in-Nothing-1.given.1) pre.3 pre.4 in
+    let same = needed c.move_of-m.ensures (called args.new.path c.in-Nothing.is) pre.3 pre.4 in
     (search rules, pre.1, same.0, same.1)
 
 pub returns-in-Missing : goal.returns-in-Missing
 unfolding part
 returns-in-Missing c =
     let args = c.args in
-    let name = called args.new.path c.found-1.given.1 in
+    let name = called args.new.path c.in-Missing.is in
     planned_as args.h args.image.now args.plan.now _ _ c.move_of-m.ensures name c.put.ensures
 
 pub returns-in-Existing : goal.returns-in-Existing
 returns-in-Existing c =
     let args = c.args in
-    let name = called args.new.path c.enum_told-1.given.1 in
+    let name = called args.new.path c.in-Existing.is in
     planned_as args.h args.image.now args.plan.now _ _ c.move_of-m.ensures name c.put-in-Existing.ensures
 
 pub returns-in-Nothing : goal.returns-in-Nothing
 returns-in-Nothing c =
     let args = c.args in
-    let name = called args.new.path c.enum_told-in-Nothing-1.given.1 in
+    let name = called args.new.path c.in-Nothing.is in
     planned_as args.h args.image.now args.plan.now _ _ c.move_of-m.ensures name c.put-in-Nothing.ensures

@@ -52,7 +52,7 @@ finish-requires c =
     let fit : rename_fits c.args.h c.args.image.now c.args.j ≡ true = holds c.fits.ensures c.if-not-fits.false-raw in
     let good : into_good view c.move_from-m.result ≡ true = holds c.into_good.ensures c.if-not-into_good.false-raw in
     let args = c.args in
-    (search rules, search rules, move_image args.h args.image.now args.j (fit c.before.before.before.before.before.before) _ c.move_from-m.ensures good)
+    (search rules, search rules, move_image args.h args.image.now args.j fit _ c.move_from-m.ensures good)
 
 pub returns : goal.returns
 returns c =
@@ -63,5 +63,5 @@ returns c =
     let of-move : rename_draft c.args.h c.args.image.now c.args.j ≡ move_draft c.args.h c.args.image.now c.move_from-m.result = let args = c.args in
     rename_move args.h args.image.now args.j fit _ c.move_from-m.ensures in
     let args = c.args in
-    rw (of-move moved ∙ move_finished args.h args.image.now _ (done c.before.before.before.before.before.before) (good asked))
+    rw (of-move moved ∙ move_finished args.h args.image.now _ done (good asked))
     c.finish.ensures

@@ -5,4 +5,4 @@ use borrow.Author.Rules.{rules}
 use Rattle.apply.proofs.sections.coverable.Goals as goal
 
 pub returns-in_default : goal.returns-in_default
-returns-in_default c = sym (coverable_else _ c.in_default.rest.1)
+returns-in_default c = sym (coverable_else _ c.in_default.in_default-own.rest.1)

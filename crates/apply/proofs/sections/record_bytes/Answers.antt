@@ -6,4 +6,4 @@ use borrow.Author.Rules.{rules}
 use Rattle.apply.proofs.sections.record_bytes.Goals as goal
 
 pub returns-in_default : goal.returns-in_default
-returns-in_default c = sym (bytes_last c.args.h c.args.k (omega (arith, c.in_default.rest)))
+returns-in_default c = sym (bytes_last c.args.h c.args.k (omega (arith, c.in_default.in_default-own.rest)))

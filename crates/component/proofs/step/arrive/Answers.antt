@@ -25,7 +25,7 @@ returns-in-2 c =
     let inode = c.inode-inode in
     arrives_directory (view_of args.h args.image.now) _ (position_of args.w) (rest_from args.w args.e) args.slot args.target pre.2
     (slash_end args.w args.e pre.1 if1.false)
-    (is_kind_lem args.h args.image.now args.target 2 pre.3 (sym (field_of inode_kind inode.ensures c.kind-kind.ensures) ∙ c.in-2.keys1)) c.exists-in-2.ensures
+    (is_kind_lem args.h args.image.now args.target 2 pre.3 (sym (field_of inode_kind inode.ensures c.kind-kind.ensures) ∙ c.in-2.is)) c.exists-in-2.ensures
 
 pub returns-in_default : goal.returns-in_default
 unfolding view_of
@@ -37,4 +37,4 @@ returns-in_default c =
     let k = field_of inode_kind inode.ensures c.kind-kind.ensures in
     arrives_other (view_of args.h args.image.now) _ (position_of args.w) (rest_from args.w args.e) args.slot args.target pre.2
     (slash_end args.w args.e pre.1 if1.false)
-    (is_other args.h args.image.now args.target 2 pre.3 (λ e. c.in_default.rest.1 (k ∙ e))) c.refuse.ensures
+    (is_other args.h args.image.now args.target 2 pre.3 (λ e. c.in_default.in_default-own.rest.1 (k ∙ e))) c.refuse.ensures

@@ -18,7 +18,7 @@ pub text-text-requires : goal.text-text-requires
 unfolding view_of
 text-text-requires c =
     let is-link : is_symlink (view_of c.args.h c.args.image.now) c.args.target ≡ true = let says = field_of inode_kind c.inode-inode.ensures c.kind-kind.ensures in
-    is_kind_lem c.args.h c.args.image.now c.args.target 3 c.requires.3 (sym says ∙ c.in-3.keys1) in
+    is_kind_lem c.args.h c.args.image.now c.args.target 3 c.requires.3 (sym says ∙ c.in-3.is) in
     let text-there : c.field.result < c.args.h.texts = let f = field_of inode_field c.inode-inode.ensures c.field.ensures.0 in
     rw (← f) at (c.requires.0.symlinks c.args.target is-link) in
     (c.requires.0.laid, text-there)
@@ -27,7 +27,7 @@ pub bytes-requires : goal.bytes-requires
 unfolding view_of
 bytes-requires c =
     let is-link : is_symlink (view_of c.args.h c.args.image.now) c.args.target ≡ true = let says = field_of inode_kind c.inode-inode.ensures c.kind-kind.ensures in
-    is_kind_lem c.args.h c.args.image.now c.args.target 3 c.requires.3 (sym says ∙ c.in-3.keys1) in
+    is_kind_lem c.args.h c.args.image.now c.args.target 3 c.requires.3 (sym says ∙ c.in-3.is) in
     let text-there : c.field.result < c.args.h.texts = let f = field_of inode_field c.inode-inode.ensures c.field.ensures.0 in
     rw (← f) at (c.requires.0.symlinks c.args.target is-link) in
     let pre = c.requires in
@@ -38,7 +38,7 @@ pub follow-requires : goal.follow-requires
 unfolding view_of
 follow-requires c =
     let is-link : is_symlink (view_of c.args.h c.args.image.now) c.args.target ≡ true = let says = field_of inode_kind c.inode-inode.ensures c.kind-kind.ensures in
-    is_kind_lem c.args.h c.args.image.now c.args.target 3 c.requires.3 (sym says ∙ c.in-3.keys1) in
+    is_kind_lem c.args.h c.args.image.now c.args.target 3 c.requires.3 (sym says ∙ c.in-3.is) in
     let text-there : c.field.result < c.args.h.texts = let f = field_of inode_field c.inode-inode.ensures c.field.ensures.0 in
     rw (← f) at (c.requires.0.symlinks c.args.target is-link) in
     let pre = c.requires in
@@ -52,12 +52,11 @@ pub returns-in-3 : goal.returns-in-3
 unfolding view_of
 returns-in-3 c =
     let is-link : is_symlink (view_of c.args.h c.args.image.now) c.args.target ≡ true = let says = field_of inode_kind c.inode-inode.ensures c.kind-kind.ensures in
-    is_kind_lem c.args.h c.args.image.now c.args.target 3 c.requires.3 (sym says ∙ c.in-3.keys1) in
-    let at = start c.before.before.before.before in
+    is_kind_lem c.args.h c.args.image.now c.args.target 3 c.requires.3 (sym says ∙ c.in-3.is) in
     let inode = c.inode-inode in
     let f = field_of inode_field inode.ensures c.field.ensures.0 in
-    let x = c.bytes.ensures ∙ ap text_bytes c.text-text.ensures.is ∙ ap (λ i. text_bytes (text_at at.args.h at.args.image.now i)) f in
-    enters_link (view_of at.args.h at.args.image.now) _ (position_of at.args.w) (rest_from at.args.w at.args.e) _ at.args.target
+    let x = c.bytes.ensures ∙ ap text_bytes c.text-text.ensures.is ∙ ap (λ i. text_bytes (text_at c.args.h c.args.image.now i)) f in
+    enters_link (view_of c.args.h c.args.image.now) _ (position_of c.args.w) (rest_from c.args.w c.args.e) _ c.args.target
     is-link x c.follow.ensures
 
 pub returns-in_default : goal.returns-in_default
@@ -65,5 +64,5 @@ unfolding view_of
 returns-in_default c =
     let args = c.args in
     let k = field_of inode_kind c.inode-inode.ensures c.kind-kind.ensures in
-    let other = is_other args.h args.image.now args.target 3 c.requires.3 (λ e. c.in_default.rest.1 (k ∙ e)) in
+    let other = is_other args.h args.image.now args.target 3 c.requires.3 (λ e. c.in_default.in_default-own.rest.1 (k ∙ e)) in
     enters_other (view_of args.h args.image.now) _ (position_of args.w) (rest_from args.w args.e) args.target other c.advance.ensures

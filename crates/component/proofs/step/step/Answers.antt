@@ -12,17 +12,17 @@ pub inside-requires : goal.inside-requires
 inside-requires c =
     let args = c.args in
     let pre = c.requires in
-    let k = kind_of_lem (view_of args.h args.image.now) args.w.directory 2 (sym c.kind-kind.ensures ∙ c.in-2.keys1) (omega arith) in
+    let k = kind_of_lem (view_of args.h args.image.now) args.w.directory 2 (sym c.kind-kind.ensures ∙ c.in-2.is) (omega arith) in
     (pre.0, pre.1, pre.2, is_kind_below args.h args.image.now _ 2 k)
 
 pub returns-in-2 : goal.returns-in-2
 returns-in-2 c =
     let args = c.args in
-    let k = kind_of_lem (view_of args.h args.image.now) args.w.directory 2 (sym c.kind-kind.ensures ∙ c.in-2.keys1) (omega arith) in
+    let k = kind_of_lem (view_of args.h args.image.now) args.w.directory 2 (sym c.kind-kind.ensures ∙ c.in-2.is) (omega arith) in
     steps_inside (view_of args.h args.image.now) args.who args.last _ (position_of args.w) k c.inside.ensures
 
 pub returns-in_default : goal.returns-in_default
 returns-in_default c =
     let args = c.args in
     steps_nowhere (view_of args.h args.image.now) args.who args.last _ (position_of args.w)
-    (other_kind (view_of args.h args.image.now) args.w.directory 2 (λ e. c.in_default.rest.1 (c.kind-kind.ensures ∙ e))) c.refuse.ensures
+    (other_kind (view_of args.h args.image.now) args.w.directory 2 (λ e. c.in_default.in_default-own.rest.1 (c.kind-kind.ensures ∙ e))) c.refuse.ensures

@@ -14,7 +14,7 @@ unfolding handle_good view_of
 returns-in-0 c =
     let handle = c.handle-r in
     c.all_zero.ensures ∙ ap (λ x. zeros x 0 8) handle.ensures.is
-    ∙ sym (state_closed _ _ _ (sym (field_of handle_state handle.ensures c.state-state.ensures) ∙ c.in-0.keys1))
+    ∙ sym (state_closed _ _ _ (sym (field_of handle_state handle.ensures c.state-state.ensures) ∙ c.in-0.is))
 
 pub returns-in-1 : goal.returns-in-1
 unfolding handle_good view_of
@@ -22,9 +22,9 @@ returns-in-1 c =
     let handle = c.handle-r in
     let state = c.state-state in
     let k = field_of handle_state handle.ensures state.ensures in
-    c.open_good.ensures ∙ sym (state_open _ _ _ (λ e. c.in_default-1.rest.1 (k ∙ e)) (rw k at c.if-state-lt3.true))
+    c.open_good.ensures ∙ sym (state_open _ _ _ (λ e. c.in-1.in_default-own.rest.1 (k ∙ e)) (rw k at c.in-1.if-state-lt3-own.true))
 
 pub returns-in_default : goal.returns-in_default
 unfolding handle_good view_of
 returns-in_default c = let k = field_of handle_state c.handle-r.ensures c.state-state.ensures in
-    sym (state_none _ _ _ (rw k at c.if-state-lt3.false))
+    sym (state_none _ _ _ (rw k at c.in_default.if-state-lt3-own.false))

@@ -12,4 +12,4 @@ returns c =
     let pre = c.requires in
     ap₂ eqb c.get32.ensures c.get32-2.ensures
     ∙ number_tells 4 args.a.now args.b.now args.at pre.0 pre.1
-    (λ n. omega (arith, c.shared_slice_known-1.given n)) (λ n. omega (arith, c.shared_slice_known-2-1.given n))
+    (λ n. omega (arith, c.type_inv.a n)) (λ n. omega (arith, c.type_inv.b n))

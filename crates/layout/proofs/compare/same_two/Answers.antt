@@ -12,4 +12,4 @@ returns c =
     let pre = c.requires in
     ap₂ eqb c.get16.ensures.0 c.get16-2.ensures.0
     ∙ number_tells 2 args.a.now args.b.now args.at pre.0 pre.1
-    (λ n. omega (arith, c.shared_slice_known-1.given n)) (λ n. omega (arith, c.shared_slice_known-2-1.given n))
+    (λ n. omega (arith, c.type_inv.a n)) (λ n. omega (arith, c.type_inv.b n))

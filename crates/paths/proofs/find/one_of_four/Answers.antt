@@ -15,7 +15,7 @@ pub returns-then-lies_in-3 : goal.returns-then-lies_in-3
 returns-then-lies_in-3 c = λ e. absurd (false≢true (sym e))
 
 pub returns : goal.returns
-returns c =
+returns c = λ e.
     skip_four _ _ _ (sym c.lies_in.ensures ∙ c.if-lies_in.false)
     (sym c.lies_in-2.ensures ∙ c.if-lies_in-2.false)
     (sym c.lies_in-3.ensures ∙ c.if-lies_in-3.false)

@@ -20,12 +20,12 @@ returns-then-who-k c = further_none _ _ _ c.loop-k.invariant.1 c.if-who-k.true
 pub returns-then-who-k-2 : goal.returns-then-who-k-2
 unfolding in_further
 returns-then-who-k-2 c =
-    let counts : c.loop-k.k < c.args.t1.count = omega arith in
-    sym (any_hit _ _ _ c.loop-k-test.true (further_is c.args.t1 _ _ counts c.if-who-k-2.true))
+    let counts : c.loop-k.k < c.args.who.count = omega arith in
+    sym (any_hit _ _ _ c.loop-k-test.true (further_is c.args.who _ _ counts c.if-who-k-2.true))
 
 pub loop-k-preserved : goal.loop-k-preserved
 loop-k-preserved c =
-    (search rules, any_miss _ _ c.loop-k.invariant.1 (further_other c.args.t1 _ _ c.if-who-k-2.false))
+    (search rules, any_miss _ _ c.loop-k.invariant.1 (further_other c.args.who _ _ c.if-who-k-2.false))
 
 pub returns : goal.returns
 unfolding in_further

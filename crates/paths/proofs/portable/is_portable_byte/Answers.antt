@@ -41,7 +41,7 @@ returns-then-b-eq95 c =
     let upper : from_to A Z byte ≡ false = sym c.lies.ensures ∙ c.if-lies.false in
     let lower : from_to a z byte ≡ false = sym c.lies-2.ensures ∙ c.if-lies-2.false in
     let digit : from_to nought nine byte ≡ false = sym c.lies-3.ensures ∙ c.if-lies-3.false in
-    simp (upper e, lower e, digit e, ne_eqb _ _ c.if-b-eq46.false, eq-eqb _ _ c.if-b-eq95.true)
+    simp (upper, lower, digit, ne_eqb _ _ c.if-b-eq46.false, eq-eqb _ _ c.if-b-eq95.true)
 
 pub returns : goal.returns
 unfolding is_portable_byte
@@ -50,4 +50,4 @@ returns c =
     let upper : from_to A Z byte ≡ false = sym c.lies.ensures ∙ c.if-lies.false in
     let lower : from_to a z byte ≡ false = sym c.lies-2.ensures ∙ c.if-lies-2.false in
     let digit : from_to nought nine byte ≡ false = sym c.lies-3.ensures ∙ c.if-lies-3.false in
-    simp (upper e, lower e, digit e, ne_eqb _ _ c.if-b-eq46.false, ne_eqb _ _ c.if-b-eq95.false)
+    simp (upper, lower, digit, ne_eqb _ _ c.if-b-eq46.false, ne_eqb _ _ c.if-b-eq95.false)

@@ -9,9 +9,9 @@ use Rattle.rename.proofs.found.slot_of.Goals as goal
 pub returns-in-Existing : goal.returns-in-Existing
 returns-in-Existing c =
     let args = c.args in
-    sym (ap (λ x. slot_of (view_of args.h args.image.now) (finding_of args.w.path x)) c.found-1.given.1)
+    sym (ap (λ x. slot_of (view_of args.h args.image.now) (finding_of args.w.path x)) c.in-Existing.is)
 
 pub returns-in-Missing : goal.returns-in-Missing
 returns-in-Missing c =
     let args = c.args in
-    c.free_slot.ensures.0 ∙ sym (ap (λ x. slot_of (view_of args.h args.image.now) (finding_of args.w.path x)) c.enum_told-1.given.1)
+    c.free_slot.ensures.0 ∙ sym (ap (λ x. slot_of (view_of args.h args.image.now) (finding_of args.w.path x)) c.in-Missing.is)

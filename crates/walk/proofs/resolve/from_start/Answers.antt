@@ -30,7 +30,7 @@ pub returns-in-Closed : goal.returns-in-Closed
 returns-in-Closed c =
     let args = c.args in
     ended_as _ _ _ c.stop.ensures
-    (ap (λ x. begun (view_of args.h args.image.now) args.who args.last x args.path.now) c.enum_told-1.given.1)
+    (ap (λ x. begun (view_of args.h args.image.now) args.who args.last x args.path.now) c.in-Closed.is)
 
 pub returns-else-is_bare : goal.returns-else-is_bare
 returns-else-is_bare c =

@@ -29,7 +29,7 @@ loop-w-smaller c =
     let args = c.args in
     let loop' = c.loop-w in
     let step = c.step-r in
-    let e = turned_goes step.result _ step.ensures c.enum_told-1.given.1 in
+    let e = turned_goes step.result _ step.ensures c.in-Goes.is in
     budget_falls (position_of loop'.w) (position_of step.result.walk) loop'.invariant.0.more
     (after_is (view_of args.h args.image.now) args.who args.last (position_of loop'.w) _ e)
 
@@ -38,8 +38,8 @@ loop-w-preserved c =
     let args = c.args in
     let loop' = c.loop-w in
     let step = c.step-r in
-    let e = turned_goes step.result _ step.ensures c.enum_told-1.given.1 in (
-      turned_fit step.result _ step.ensures c.enum_told-1.given.1,
+    let e = turned_goes step.result _ step.ensures c.in-Goes.is in (
+      turned_fit step.result _ step.ensures c.in-Goes.is,
       ready_next (view_of args.h args.image.now) args.who args.last (position_of loop'.w) (position_of step.result.walk) loop'.invariant.1 e,
       sym (walk_goes (view_of args.h args.image.now) args.who args.last (position_of loop'.w) (position_of step.result.walk) loop'.invariant.1 e) ∙ loop'.invariant.2,
     )
@@ -49,7 +49,7 @@ returns-in-Refuses c =
     let args = c.args in
     let loop' = c.loop-w in
     let step = c.step-r in
-    let k = refused_closes step.result _ c.ended.result step.ensures _ c.leave-1.given.1 c.ended.ensures in
+    let k = refused_closes step.result _ c.ended.result step.ensures _ c.in-Refuses.is c.ended.ensures in
     record {
       is = sym (walk_ends (view_of args.h args.image.now) args.who args.last (position_of loop'.w) (end_of c.ended.result) loop'.invariant.1 k.is) ∙ loop'.invariant.2;
       range = k.range;
@@ -60,7 +60,7 @@ returns-in-Finds c =
     let args = c.args in
     let loop' = c.loop-w in
     let step = c.step-r in
-    let k = found_closes step.result _ c.ended-in-Finds.result step.ensures _ c.leave-in-Finds-1.given.1 c.ended-in-Finds.ensures in
+    let k = found_closes step.result _ c.ended-in-Finds.result step.ensures _ c.in-Finds.is c.ended-in-Finds.ensures in
     record {
       is = sym (walk_ends (view_of args.h args.image.now) args.who args.last (position_of loop'.w) (end_of c.ended-in-Finds.result) loop'.invariant.1 k.is) ∙ loop'.invariant.2;
       range = k.range;
