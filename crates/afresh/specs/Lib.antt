@@ -1,11 +1,5 @@
 pub mod Recount
-pub mod RecountLaws
 pub mod Cleared
-pub mod ClearedLaws
-pub mod Inodes
 pub mod Afresh
-pub mod AfreshLaws
 pub mod ExchangeRecount
-pub mod ExchangeRecountLaws
 pub mod ExchangeAfresh
-pub mod ExchangeAfreshLaws

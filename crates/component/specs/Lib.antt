@@ -1,9 +1,4 @@
 pub mod Step
 pub mod Decisions
-pub mod DecisionLaws
 pub mod State
-pub mod StateLaws
-pub mod Splice
-pub mod Turns
 pub mod Ways
-pub mod WayLaws

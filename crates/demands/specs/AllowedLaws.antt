@@ -7,18 +7,18 @@ use Rattle.std.proofs.Math.Dec.{eqb}
 use borrow.Author.Tests.{eqb-true, eqb-false, eq-eqb, ne_eqb, not-true, not-false, leb-false}
 use Rattle.seq.specs.Search.{first}
 use Rattle.seq.specs.Truth.{not_both, refuted}
-use Rattle.seq.specs.SearchLaws.{first_passes}
+use Rattle.seq.proofs.SearchLaws.{first_passes}
 use Rattle.layout.specs.Limits.{absent, inode_limit}
 use Rattle.layout.specs.View.{View, is_directory, entry_used}
 use Rattle.tree.specs.Tree.{entries_of}
 use Rattle.edits.specs.Kinds.{EntryUsed}
-use Rattle.edits.specs.Tests.{kind_is, kind_test}
+use Rattle.edits.proofs.Tests.{kind_is, kind_test}
 use Rattle.edits.specs.ConsistentView.{ConsistentView}
 use Rattle.edits.specs.Moved.{Allowed}
-use Rattle.edits.specs.Refusals.{missing_of, not_above_of, empty_of, unopened_of}
+use Rattle.edits.proofs.Refusals.{missing_of, not_above_of, empty_of, unopened_of}
 use Rattle.paths.specs.declared.request.Request.{Request}
 use Rattle.paths.specs.Lookup.{is_named}
-use Rattle.paths.specs.LookupLaws.{lookup_misses}
+use Rattle.paths.proofs.LookupLaws.{lookup_misses}
 use Rattle.walk.specs.Ends.{Existing, Missing, Facts}
 use Rattle.walk.specs.Both.{Ends, old_final, new_final}
 use Rattle.refusals.specs.declared.case.Case.{Case}
@@ -27,7 +27,7 @@ use Rattle.rename_steps.specs.Tests.{has_entries, is_opened}
 use Rattle.rename_steps.specs.Passed.{Passed}
 use Rattle.rename.specs.Order.{free_slot, directory_of, slot_of, inode_of, slash_of, name_of, case_of}
 use Rattle.rename.specs.Answers.{NewFound, by_entry, by_name}
-use Rattle.rename.specs.Known.{old_found, new_found}
+use Rattle.rename.proofs.Known.{old_found, new_found}
 use Rattle.demands.specs.Allowed.{new_name, Granted}
 
 -- an entry in use, from its test and back

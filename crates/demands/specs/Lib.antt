@@ -6,15 +6,4 @@ pub mod Demand3
 pub mod ExchangeDemand3
 pub mod Allowed
 pub mod AllowedLaws
-pub mod Begun
-pub mod Reached
-pub mod Called
-pub mod Exchanges
-pub mod Demand1Proof
 pub mod Retold
-pub mod RetoldLaws
-pub mod OutlivesProof
-pub mod Planned
-pub mod Demand2Proof
-pub mod Demand3Proof
-pub mod ExchangeDemand3Proof

@@ -1,2 +1,1 @@
 pub mod Bucket
-pub mod BucketLaws

@@ -9,9 +9,9 @@ use borrow.Author.Tests.{eq-eqb}
 use Rattle.seq.specs.Search.{all}
 use Rattle.seq.specs.Bytes.{part, put, zeros}
 use Rattle.seq.specs.Number.{number_at, bytes_of}
-use Rattle.seq.specs.SearchLaws.{all_of}
-use Rattle.seq.specs.BytesLaws.{part_length, put_length, put_after, put_part_other, zeros_put_other, put_zeros_join}
-use Rattle.seq.specs.NumberLaws.{bytes_of_length, number_put, number_put_other}
+use Rattle.seq.proofs.SearchLaws.{all_of}
+use Rattle.seq.proofs.BytesLaws.{part_length, put_length, put_after, put_part_other, zeros_put_other, put_zeros_join}
+use Rattle.seq.proofs.NumberLaws.{bytes_of_length, number_put, number_put_other}
 use Rattle.layout.specs.Fields.{entry_parent, entry_target, entry_name_length, entry_name}
 use Rattle.encode.specs.Facts.{Names}
 use Rattle.encode.specs.Entry.{entry_bytes, entry_head, retargeted}

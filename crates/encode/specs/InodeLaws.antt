@@ -3,8 +3,8 @@ use Rattle.std.specs.Prelude.{◌≡◌, refl, ◌⊎◌, List, ℕ, ◌+◌, �
 use Rattle.std.proofs.Common.{◌∙◌, inl, inr, arith}
 use Rattle.seq.specs.Bytes.{put}
 use Rattle.seq.specs.Number.{number_at, span, bytes_of}
-use Rattle.seq.specs.BytesLaws.{put_length, put_before, put_part_other}
-use Rattle.seq.specs.NumberLaws.{bytes_of_length, number_put, number_put_other}
+use Rattle.seq.proofs.BytesLaws.{put_length, put_before, put_part_other}
+use Rattle.seq.proofs.NumberLaws.{bytes_of_length, number_put, number_put_other}
 use Rattle.layout.specs.Fields.{inode_links, inode_field, inode_modified, inode_changed}
 use Rattle.encode.specs.Inode.{with_changed, with_field, with_links, with_modified}
 use Rattle.encode.specs.Facts.{Head, Says}

@@ -4,8 +4,8 @@ use Rattle.std.proofs.Common.{arith}
 use Rattle.seq.specs.Search.{all}
 use Rattle.seq.specs.Bytes.{put, zeros}
 use Rattle.seq.specs.Number.{number_at, bytes_of}
-use Rattle.seq.specs.BytesLaws.{put_zeros_join}
-use Rattle.seq.specs.NumberLaws.{number_bytes}
+use Rattle.seq.proofs.BytesLaws.{put_zeros_join}
+use Rattle.seq.proofs.NumberLaws.{number_bytes}
 use Rattle.layout.specs.Fields.{journal_old_slot, journal_new_slot, journal_moved, journal_replaced, journal_old_parent, journal_text, journal_time}
 use Rattle.encode.specs.declared.journal.Journal.{Journal}
 use Rattle.encode.specs.Facts.{InRange}

@@ -1,2 +1,1 @@
 pub mod PendingExchange
-pub mod ExchangeFit

@@ -1,13 +1,4 @@
 pub mod Outcome
 pub mod ExchangePlan
-pub mod ExchangePlanLaws
 pub mod Paired
-pub mod PairedLaws
 pub mod Slot
-pub mod SlotLaws
-pub mod PlanRows
-pub mod Applied
-pub mod Finished
-pub mod Consistent
-pub mod Way
-pub mod Bench

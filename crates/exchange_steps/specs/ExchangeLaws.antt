@@ -6,7 +6,7 @@ use Rattle.refusals.specs.declared.case.Answer.TheVariants.{Refused, Same, Excha
 use Rattle.refusals.specs.declared.case.Case.{Case}
 use Rattle.refusals.specs.Rules.{Rule, number_of, decide, parent_rules}
 use Rattle.exchange_steps.specs.Exchange.{other_rules, exchange_steps}
-use Rattle.refusals.specs.DecideLaws.{decide_refused, decide_passed, first_same, first_parents, past_parents}
+use Rattle.refusals.proofs.DecideLaws.{decide_refused, decide_passed, first_same, first_parents, past_parents}
 
 -- the rule that always holds
 abbrev last : List Rule

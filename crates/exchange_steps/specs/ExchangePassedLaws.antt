@@ -8,7 +8,7 @@ use Rattle.refusals.specs.declared.case.Case.{Case}
 use Rattle.refusals.specs.Rules.{decide}
 use Rattle.refusals.specs.Decide.{parents_first}
 use Rattle.refusals.specs.Passes.{is_exchanged}
-use Rattle.refusals.specs.PassesLaws.{passes_before, passes}
+use Rattle.refusals.proofs.PassesLaws.{passes_before, passes}
 use Rattle.exchange_steps.specs.Exchange.{other_rules, exchange_steps}
 use Rattle.exchange_steps.specs.ExchangePassed.{ExchangePassed}
 

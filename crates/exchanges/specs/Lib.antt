@@ -1,3 +1,2 @@
 pub mod Exchange
 pub mod InImage
-pub mod ExchangeRows

@@ -7,10 +7,10 @@ use Rattle.seq.specs.Truth.{and_left, and_right}
 use Rattle.layout.specs.declared.Shape.{Shape}
 use Rattle.layout.specs.Place.{Key, records, place}
 use Rattle.layout.specs.Facts.{Valid}
-use Rattle.layout.specs.PlaceLaws.{apart}
+use Rattle.layout.proofs.PlaceLaws.{apart}
 use Rattle.plan.specs.Fit.{coverable, covers_record, covers_section, covers}
 use Rattle.plan.specs.FitFacts.{Covered}
-use Rattle.plan.specs.FitLaws.{one_covers, record_some}
+use Rattle.plan.proofs.FitLaws.{one_covers, record_some}
 use Rattle.image_store.specs.ImageLaws.{same_key}
 use Rattle.image_store.specs.Covered.{key_at}
 

@@ -8,11 +8,11 @@ use Rattle.layout.specs.declared.Shape.{Shape}
 use Rattle.layout.specs.Place.{Key}
 use Rattle.layout.specs.Facts.{Valid, Laid, Read}
 use Rattle.layout.specs.Contents.{layout_good, shape_of}
-use Rattle.layout.specs.ContentsLaws.{good_laid}
+use Rattle.layout.proofs.ContentsLaws.{good_laid}
 use Rattle.layout.specs.Record.{record_at, store}
-use Rattle.layout.specs.RecordLaws.{store_same, store_other, store_contents, same_image}
-use Rattle.layout.specs.Commute.{store_shape, store_layout}
-use Rattle.plan.specs.FitLaws.{written_fits}
+use Rattle.layout.proofs.RecordLaws.{store_same, store_other, store_contents, same_image}
+use Rattle.layout.proofs.Commute.{store_shape, store_layout}
+use Rattle.plan.proofs.FitLaws.{written_fits}
 use Rattle.plan.specs.Write.{Write, store_all}
 use Rattle.crash_theorem.specs.Pick.{All}
 use Rattle.crash_theorem.specs.Store.{Store, put_all}

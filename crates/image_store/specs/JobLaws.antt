@@ -4,20 +4,20 @@ use Rattle.std.proofs.Math.Path.{sym, ap}
 use Rattle.std.proofs.Common.{◌∙◌, subst, arith, eqb→eq, eq-eqb}
 use Rattle.std.proofs.lemmas.Bool.{eqb-false, not-true}
 use Rattle.seq.specs.Truth.{to_t, of_t}
-use Rattle.seq.specs.BytesLaws.{part_length}
+use Rattle.seq.proofs.BytesLaws.{part_length}
 use Rattle.layout.specs.declared.Shape.{Shape}
 use Rattle.layout.specs.Place.{Key, record_bytes, place}
 use Rattle.plan.specs.Form.{Row, plan_rows, plan_bytes, body_at, row_length, row_offset, row_at}
 use Rattle.plan.specs.Jobs.{Job}
 use Rattle.plan.specs.FitFacts.{Covered, Applicable}
-use Rattle.plan.specs.FitLaws.{applicable_is, applicable_fits, stands_applicable, written_fits}
+use Rattle.plan.proofs.FitLaws.{applicable_is, applicable_fits, stands_applicable, written_fits}
 use Rattle.plan.specs.Write.{Write, row_from}
 use Rattle.plan.specs.Stands.{Stands}
 use Rattle.apply.specs.Apply.{apply_number, applied_image}
 use Rattle.apply.specs.OneRow.{Applies}
-use Rattle.apply.specs.Laws.{applies_zero, refused_same, applied_done, applied_store}
+use Rattle.apply.proofs.Laws.{applies_zero, refused_same, applied_done, applied_store}
 use Rattle.crash_theorem.specs.Pick.{All}
-use Rattle.crash_theorem.specs.PickLaws.{all_map}
+use Rattle.crash_theorem.proofs.PickLaws.{all_map}
 use Rattle.crash_theorem.specs.Store.{Store}
 use Rattle.crash_theorem.specs.Form.{Form, store_of, Does}
 use Rattle.image_store.specs.Image.{Ok, Fits, put_write}

@@ -5,10 +5,10 @@ use Rattle.layout.specs.declared.Shape.{Shape}
 use Rattle.plan.specs.Form.{plan_rows, row_stored, cleared}
 use Rattle.plan.specs.Write.{row_from}
 use Rattle.plan.specs.Filled.{Filled}
-use Rattle.plan.specs.WriteLaws.{filled_one, filled_join, plan_filled}
+use Rattle.plan.proofs.WriteLaws.{filled_one, filled_join, plan_filled}
 use Rattle.recounts.specs.declared.Move.{Move}
 use Rattle.results.specs.Results.{results, clear_row}
-use Rattle.results.specs.ResultRows.{results_le}
+use Rattle.results.proofs.ResultRows.{results_le}
 use Rattle.moves.specs.Plan.{journal_row, entry_row, rename_rows, planned}
 
 module _ (h : Shape) (s : List ℕ) (m : Move) (called : List ℕ) where

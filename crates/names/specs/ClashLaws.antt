@@ -4,8 +4,8 @@ use Rattle.std.proofs.Math.Path.{refl}
 use Rattle.std.proofs.Math.Decide.{dec_lt}
 use Rattle.std.proofs.Common.{arith}
 use borrow.Author.Tests.{eqb-true, eq-eqb}
-use Rattle.seq.specs.BytesLaws.{same_bytes, same_refl}
-use Rattle.seq.specs.SearchLaws.{any_hit}
+use Rattle.seq.proofs.BytesLaws.{same_bytes, same_refl}
+use Rattle.seq.proofs.SearchLaws.{any_hit}
 use Rattle.seq.specs.Truth.{and_left, and_right}
 use Rattle.layout.specs.declared.Shape.{Shape}
 use Rattle.layout.specs.View.{View, view_of, entry_used}

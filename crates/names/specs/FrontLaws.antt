@@ -9,11 +9,11 @@ use native.Mathlib.Omega.{arith}
 use Rattle.std.proofs.Math.Dec.{eqb}
 use Rattle.std.proofs.lemmas.Bool.{not-true}
 use Rattle.seq.specs.Bytes.{part, zeros}
-use Rattle.seq.specs.BytesLaws.{part_byte, part_length}
-use Rattle.seq.specs.ZeroLaws.{zeros_split}
+use Rattle.seq.proofs.BytesLaws.{part_byte, part_length}
+use Rattle.seq.proofs.ZeroLaws.{zeros_split}
 use Rattle.seq.specs.Letters.{solidus}
 use Rattle.seq.specs.Search.{any}
-use Rattle.seq.specs.SearchLaws.{any_not, any_false, all_at, all_of}
+use Rattle.seq.proofs.SearchLaws.{any_not, any_false, all_at, all_of}
 use Rattle.seq.specs.Truth.{one_truth, and_left, and_right, and_both}
 use Rattle.layout.specs.Limits.{name_offset}
 use Rattle.names.specs.Name.{name_byte, plain_name}

@@ -8,13 +8,13 @@ use Rattle.std.proofs.Math.Dec.{eqb}
 use Rattle.std.proofs.Math.ListN.{length, get_or, get_or-eq_default}
 use borrow.Author.Tests.{eqb-true}
 use Rattle.seq.specs.Bytes.{part, zeros}
-use Rattle.seq.specs.BytesLaws.{part_byte, part_length}
+use Rattle.seq.proofs.BytesLaws.{part_byte, part_length}
 use Rattle.seq.specs.Number.{number_at}
-use Rattle.seq.specs.NumberLaws.{number_same}
-use Rattle.seq.specs.SearchLaws.{all_at}
+use Rattle.seq.proofs.NumberLaws.{number_same}
+use Rattle.seq.proofs.SearchLaws.{all_at}
 use Rattle.layout.specs.declared.Shape.{Shape}
 use Rattle.layout.specs.Facts.{Laid}
-use Rattle.layout.specs.RecordLaws.{record_length}
+use Rattle.layout.proofs.RecordLaws.{record_length}
 use Rattle.layout.specs.View.{view_of, entry_at, entry_used}
 use Rattle.names.specs.NameTests.{Named}
 

@@ -1,13 +1,3 @@
 pub mod Outcome
 pub mod RenamePlan
-pub mod RenamePlanLaws
-pub mod Rows
-pub mod Whole
-pub mod Inodes
 pub mod Called
-pub mod CalledLaws
-pub mod Finished
-pub mod Applied
-pub mod Consistent
-pub mod Bench
-pub mod PlanRows

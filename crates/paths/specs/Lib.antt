@@ -1,17 +1,9 @@
 pub mod Request
-pub mod RequestLaws
 pub mod Flags
-pub mod FlagLaws
 pub mod Path
 pub mod Portable
 pub mod Groups
-pub mod GroupLaws
 pub mod Permission
-pub mod PermissionLaws
 pub mod Lookup
 pub mod LookupFacts
-pub mod LookupLaws
-pub mod PathLaws
-pub mod Plain
 pub mod WorkingPath
-pub mod WorkingPathLaws

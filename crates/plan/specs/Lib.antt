@@ -1,15 +1,8 @@
 pub mod Form
 pub mod Jobs
-pub mod Many
 pub mod Unused
-pub mod UnusedLaws
-pub mod Copied
 pub mod Fit
 pub mod FitFacts
-pub mod FitLaws
 pub mod Write
 pub mod Filled
-pub mod WriteLaws
-pub mod Bench
 pub mod Stands
-pub mod RowLaws

@@ -1,4 +1,2 @@
 pub mod Recount
 pub mod RecountLaws
-pub mod Edited
-pub mod Links

@@ -3,7 +3,7 @@ use Rattle.std.specs.Prelude.{◌≡◌, refl, ◌≢◌, Bool, true, false, ◌
 use Rattle.std.proofs.Common.{sym, ap, arith, ltb-true, eq-eqb, ne_eqb}
 use Rattle.std.proofs.lemmas.Bool.{eqb-false, not-true}
 use Rattle.seq.specs.Count.{bit}
-use Rattle.seq.specs.CountLaws.{count_edited}
+use Rattle.seq.proofs.CountLaws.{count_edited}
 use Rattle.seq.specs.Search.{count}
 use Rattle.seq.specs.Truth.{and_left, and_right}
 use Rattle.recounts.specs.declared.Move.{Move}

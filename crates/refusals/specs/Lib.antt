@@ -1,9 +1,6 @@
 pub mod Case
 pub mod CaseIn
 pub mod Within
-pub mod WithinLaws
 pub mod Rules
 pub mod Decide
-pub mod DecideLaws
 pub mod Passes
-pub mod PassesLaws

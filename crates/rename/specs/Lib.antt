@@ -1,13 +1,6 @@
 pub mod Order
 pub mod Flagged
-pub mod FlagLaws
 pub mod Job
 pub mod Answers
-pub mod Outs
-pub mod Bounds
-pub mod Known
-pub mod Walked
 pub mod Alike
-pub mod AlikeLaws
 pub mod Unflagged
-pub mod UnflaggedLaws

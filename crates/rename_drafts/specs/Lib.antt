@@ -1,4 +1,2 @@
 pub mod PendingRename
 pub mod Drafted
-pub mod Fit
-pub mod ClearedLaws

@@ -1,10 +1,3 @@
 pub mod Run
-pub mod Way
-pub mod Pending
-pub mod Behind
-pub mod Recovers
 pub mod PlanSurvives
-pub mod PlanSurvivesProof
-pub mod Safe
 pub mod Survives
-pub mod SurvivesProof

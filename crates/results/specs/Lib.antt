@@ -1,7 +1,3 @@
 pub mod Results
 pub mod Start
 pub mod InImage
-pub mod Records
-pub mod Again
-pub mod Owed
-pub mod ResultRows

@@ -4,7 +4,7 @@ use Rattle.std.proofs.Common.{sym, ◌∙◌, arith, length-set, get_or-set_same
 use Rattle.std.proofs.Math.Decide.{ℕ_discrete, dec_lt}
 use Rattle.std.proofs.lemmas.List.{get_or-replicate, length-replicate}
 use Rattle.seq.specs.Search.{any}
-use Rattle.seq.specs.SearchLaws.{any_false}
+use Rattle.seq.proofs.SearchLaws.{any_false}
 use Rattle.tables.specs.Chain.{Last, Heads, Nexts, Passed}
 
 module _ (key : ℕ → ℕ) where

@@ -4,7 +4,7 @@ use Rattle.std.proofs.Common.{sym, ap, ◌∙◌, arith, length-set, get_or-set_
 use Rattle.std.proofs.Math.Decide.{ℕ_discrete, dec_lt}
 use Rattle.std.proofs.lemmas.List.{get_or-replicate, length-replicate}
 use Rattle.seq.specs.Search.{any, first, count}
-use Rattle.seq.specs.SearchLaws.{any_hit, any_false, count_none, count_hit, count_miss, count_le, first_hit, first_none, first_passes, first_upto}
+use Rattle.seq.proofs.SearchLaws.{any_hit, any_false, count_none, count_hit, count_miss, count_le, first_hit, first_none, first_passes, first_upto}
 use Rattle.tables.specs.Table.{Table, tally, Least, Firsts}
 
 -- a table of one function is one of any that agrees with it below the bound

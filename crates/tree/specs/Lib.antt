@@ -1,6 +1,3 @@
 pub mod Tree
-pub mod TreeLaws
 pub mod Inode
-pub mod InodeTests
 pub mod InodeFacts
-pub mod InodeFactLaws

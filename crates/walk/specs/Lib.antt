@@ -1,11 +1,6 @@
 pub mod Walk
-pub mod WalkLaws
 pub mod Budget
-pub mod Bound
 pub mod Ends
-pub mod EndLaws
 pub mod Both
 pub mod Answer
-pub mod AnswerLaws
-pub mod BothLaws
 pub mod Bench

@@ -1,4 +1,1 @@
-pub mod Renamed
 pub mod Crashed
-pub mod Recovered
-pub mod Exchanged

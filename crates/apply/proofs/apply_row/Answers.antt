@@ -7,10 +7,10 @@ use lib.ListN.{length}
 use Rattle.seq.specs.Truth.{fails, holds}
 use Rattle.plan.specs.Form.{body_bytes, row_length, row_offset}
 use Rattle.plan.specs.Fit.{applicable}
-use Rattle.plan.specs.FitLaws.{applicable_is, applicable_fits}
+use Rattle.plan.proofs.FitLaws.{applicable_is, applicable_fits}
 use Rattle.plan.specs.FitFacts.{Applicable}
-use Rattle.apply.specs.FindLaws.{laid_bounded}
-use Rattle.apply.specs.ApplyLaws.{row_copied}
+use Rattle.apply.proofs.FindLaws.{laid_bounded}
+use Rattle.apply.proofs.ApplyLaws.{row_copied}
 use borrow.Author.Rules.{rules}
 use Rattle.apply.proofs.apply_row.Goals as goal
 

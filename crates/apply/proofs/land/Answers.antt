@@ -1,7 +1,7 @@
 -- `apply::land` meets its contract. Assumes nothing.
 use mathlib.Core.Path.{sym, ◌∙◌}
-use Rattle.layout.specs.ContentsLaws.{contents_good, contents_bad}
-use Rattle.apply.specs.ApplyLaws.{apply_short, apply_bad, apply_read}
+use Rattle.layout.proofs.ContentsLaws.{contents_good, contents_bad}
+use Rattle.apply.proofs.ApplyLaws.{apply_short, apply_bad, apply_read}
 use borrow.Author.Rules.{rules}
 use Rattle.apply.proofs.land.Goals as goal
 
@@ -28,7 +28,6 @@ returns-in-Good c =
     let args = c.args in
     let if1 = c.if-plan-lt-BYTES in
     let read = c.read-found in
-
     let apply-row = c.apply_row in
     let e = apply_read args.image.now args.plan.now args.row if1.false _ (contents_good _ _ (sym read.ensures ∙ c.in-Good.is)) in
     (apply-row.ensures.0 ∙ sym e.0, apply-row.ensures.1 ∙ sym e.1)

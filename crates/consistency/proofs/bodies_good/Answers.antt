@@ -2,8 +2,8 @@
 use mathlib.Core.Path.{sym, ◌∙◌}
 use borrow.Author.Rules.{rules}
 use Rattle.seq.specs.Truth.{fails, holds}
-use Rattle.consistency.specs.CheckedLaws.{out_root, out_inodes, out_entries, out_names, out_texts, out_handles}
-use Rattle.consistency.specs.EntryFits.{entries_named}
+use Rattle.consistency.proofs.CheckedLaws.{out_root, out_inodes, out_entries, out_names, out_texts, out_handles}
+use Rattle.consistency.proofs.EntryFits.{entries_named}
 use Rattle.consistency.proofs.bodies_good.Goals as goal
 
 pub returns-then-not-is_directory : goal.returns-then-not-is_directory

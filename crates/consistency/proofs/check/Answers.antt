@@ -1,8 +1,8 @@
 -- `consistency::check` meets its contract. Assumes nothing.
 use mathlib.Core.Path.{sym, ◌∙◌}
 use borrow.Author.Rules.{rules}
-use Rattle.layout.specs.ContentsLaws.{contents_good, contents_bad}
-use Rattle.consistency.specs.ConsistentLaws.{check_bad, check_read}
+use Rattle.layout.proofs.ContentsLaws.{contents_good, contents_bad}
+use Rattle.consistency.proofs.ConsistentLaws.{check_bad, check_read}
 use Rattle.consistency.proofs.check.Goals as goal
 
 pub records_number-requires : goal.records_number-requires

@@ -3,10 +3,10 @@ use mathlib.Core.Path.{◌≡◌}
 use mathlib.Core.Bool.{true}
 use borrow.Author.Rules.{rules}
 use Rattle.seq.specs.Truth.{fails, holds}
-use Rattle.layout.specs.RecordLaws.{field_of}
+use Rattle.layout.proofs.RecordLaws.{field_of}
 use Rattle.layout.specs.View.{journal_at}
 use Rattle.encode.specs.Journal.{journal_of, journal_formed}
-use Rattle.drafts.specs.DraftLaws.{draft_unformed, draft_rename, draft_exchange, draft_other}
+use Rattle.drafts.proofs.DraftLaws.{draft_unformed, draft_rename, draft_exchange, draft_other}
 use Rattle.drafts.proofs.make.Goals as goal
 
 pub returns-then-not-formed : goal.returns-then-not-formed

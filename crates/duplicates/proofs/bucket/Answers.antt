@@ -2,10 +2,10 @@
 use mathlib.Core.Path.{sym, ap, ◌∙◌}
 use borrow.Author.Rules.{rules}
 use Rattle.layout.specs.Fields.{entry_name_length}
-use Rattle.layout.specs.RecordLaws.{field_of}
+use Rattle.layout.proofs.RecordLaws.{field_of}
 use Rattle.layout.specs.View.{view_of}
 use Rattle.duplicates.specs.Bucket.{mixed_of}
-use Rattle.duplicates.specs.BucketLaws.{bucket_free, bucket_mixed}
+use Rattle.duplicates.proofs.BucketLaws.{bucket_free, bucket_mixed}
 use Rattle.duplicates.proofs.bucket.Goals as goal
 
 pub returns-then-name_length-eq0 : goal.returns-then-name_length-eq0

@@ -7,7 +7,7 @@ use native.Mathlib.Omega.{arith}
 use lib.ListN.{get_or, set}
 use borrow.Author.Rules.{rules}
 use Rattle.seq.specs.Search.{any}
-use Rattle.seq.specs.SearchLaws.{any_none, any_miss, any_hit, any_false, any_out}
+use Rattle.seq.proofs.SearchLaws.{any_none, any_miss, any_hit, any_false, any_out}
 use Rattle.layout.specs.Limits.{entry_limit}
 use Rattle.layout.specs.View.{view_of}
 use Rattle.tables.specs.Chain.{Last, Heads, Nexts, Passed}
@@ -15,7 +15,7 @@ use Rattle.tables.specs.ChainLaws.{heads_none, nexts_none, heads_skip, nexts_ski
 use Rattle.names.specs.Name.{clash}
 use Rattle.names.specs.NameTests.{has_duplicate}
 use Rattle.duplicates.specs.Bucket.{buckets, bucket_at}
-use Rattle.duplicates.specs.BucketLaws.{clash_bucket, free_clash}
+use Rattle.duplicates.proofs.BucketLaws.{clash_bucket, free_clash}
 use Rattle.duplicates.proofs.has_duplicate.Goals as goal
 
 pub pairs-init : goal.pairs-init

@@ -4,7 +4,7 @@ use mathlib.Core.Bool.{true}
 use borrow.Author.Rules.{rules}
 use Rattle.seq.specs.Truth.{fails, holds}
 use Rattle.exchange_drafts.specs.PendingExchange.{exchange_fits}
-use Rattle.exchange_drafts.specs.ExchangeFit.{range_new, fits_range, exchange_image, exchange_finished, exchange_unfit}
+use Rattle.exchange_drafts.proofs.ExchangeFit.{range_new, fits_range, exchange_image, exchange_finished, exchange_unfit}
 use Rattle.exchange_drafts.proofs.draft.Goals as goal
 
 pub returns-then-not-fits : goal.returns-then-not-fits

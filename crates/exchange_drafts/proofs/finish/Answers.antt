@@ -2,8 +2,8 @@
 use native.Mathlib.Omega.{arith}
 use borrow.Author.Rules.{rules}
 use Rattle.exchanges.specs.Exchange.{exchange_results}
-use Rattle.exchanges.specs.ExchangeRows.{exchange_le}
-use Rattle.rename_drafts.specs.ClearedLaws.{rows_below, cleared_filled}
+use Rattle.exchanges.proofs.ExchangeRows.{exchange_le}
+use Rattle.rename_drafts.proofs.ClearedLaws.{rows_below, cleared_filled}
 use Rattle.exchange_drafts.proofs.finish.Goals as goal
 
 pub put_clear-requires : goal.put_clear-requires

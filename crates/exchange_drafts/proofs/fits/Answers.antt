@@ -2,7 +2,7 @@
 use borrow.Author.Rules.{rules}
 use Rattle.seq.specs.Truth.{fails, holds}
 use Rattle.exchange_drafts.specs.PendingExchange.{exchange_fits}
-use Rattle.exchange_drafts.specs.ExchangeFit.{range_old, range_new}
+use Rattle.exchange_drafts.proofs.ExchangeFit.{range_old, range_new}
 use Rattle.exchange_drafts.proofs.fits.Goals as goal
 
 pub returns-then-not-in_range : goal.returns-then-not-in_range

@@ -1,7 +1,7 @@
 -- `exchange_drafts::in_range` meets its contract. Assumes nothing.
 use mathlib.Core.Path.{sym}
 use borrow.Author.Tests.{lt-ltb, le-ltb}
-use Rattle.exchange_drafts.specs.ExchangeFit.{both_range_last}
+use Rattle.exchange_drafts.proofs.ExchangeFit.{both_range_last}
 use Rattle.exchange_drafts.proofs.in_range.Goals as goal
 
 pub returns-then-h-j : goal.returns-then-h-j

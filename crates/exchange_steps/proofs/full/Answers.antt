@@ -6,7 +6,7 @@ use borrow.Author.Rules.{rules}
 use Rattle.seq.specs.Truth.{fails, holds}
 use Rattle.layout.specs.View.{view_of}
 use Rattle.layout.specs.Fields.{inode_links}
-use Rattle.layout.specs.RecordLaws.{field_of}
+use Rattle.layout.proofs.RecordLaws.{field_of}
 use Rattle.exchange_steps.proofs.full.Goals as goal
 
 pub returns-then-not-is_directory : goal.returns-then-not-is_directory

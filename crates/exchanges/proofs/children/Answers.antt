@@ -6,7 +6,7 @@ use native.Mathlib.Omega.{arith}
 use lib.Dec.{eqb}
 use borrow.Author.Rules.{rules}
 use Rattle.seq.specs.Count.{bit}
-use Rattle.seq.specs.SearchLaws.{count_le}
+use Rattle.seq.proofs.SearchLaws.{count_le}
 use Rattle.layout.specs.View.{view_of, is_directory}
 use Rattle.tree.specs.Tree.{holds_directory, child_directories}
 use Rattle.recounts.specs.declared.Move.{Move}

@@ -5,9 +5,9 @@ use Prim.Native.Nat.{◌≤◌, ◌-◌, ℕ}
 use lib.ListN.{length-replicate}
 use borrow.Author.Rules.{rules}
 use Rattle.seq.specs.Search.{all}
-use Rattle.seq.specs.SearchLaws.{all_none, all_turn, all_failed, all_out}
+use Rattle.seq.proofs.SearchLaws.{all_none, all_turn, all_failed, all_out}
 use Rattle.tree.specs.Inode.{inode_good}
-use Rattle.tallies.specs.TalliesLaws.{blank}
+use Rattle.tallies.proofs.TalliesLaws.{blank}
 use Rattle.inodes.proofs.all_good.Goals as goal
 
 pub counts-requires : goal.counts-requires

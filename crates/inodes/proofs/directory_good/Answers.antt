@@ -5,7 +5,7 @@ use Prim.Native.Nat.{◌+◌}
 use borrow.Author.Rules.{rules}
 use borrow.Author.Tests.{eq-eqb, ne_eqb, lt-ltb, le-ltb, le-leb, lt-leb}
 use Rattle.layout.specs.Fields.{inode_mode, inode_links}
-use Rattle.layout.specs.RecordLaws.{field_of}
+use Rattle.layout.proofs.RecordLaws.{field_of}
 use Rattle.layout.specs.View.{view_of}
 use Rattle.tree.specs.Inode.{directory_good}
 use Rattle.inodes.proofs.directory_good.Goals as goal

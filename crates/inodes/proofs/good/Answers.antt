@@ -3,11 +3,11 @@ use mathlib.Core.Path.{◌≡◌, sym, ◌∙◌, ap}
 use borrow.Author.Rules.{rules}
 use Rattle.seq.specs.Bytes.{zeros}
 use Rattle.layout.specs.Fields.{inode_kind}
-use Rattle.layout.specs.RecordLaws.{field_of}
+use Rattle.layout.proofs.RecordLaws.{field_of}
 use Rattle.layout.specs.View.{view_of, inode_at}
-use Rattle.layout.specs.ViewLaws.{is_kind_lem}
+use Rattle.layout.proofs.ViewLaws.{is_kind_lem}
 use Rattle.tree.specs.Inode.{inode_good}
-use Rattle.tree.specs.InodeTests.{kind_free, kind_file, kind_directory, kind_symlink, kind_none}
+use Rattle.tree.proofs.InodeTests.{kind_free, kind_file, kind_directory, kind_symlink, kind_none}
 use Rattle.inodes.proofs.good.Goals as goal
 
 pub directory_good-requires : goal.directory_good-requires

@@ -1,7 +1,7 @@
 -- `inodes::text_used` meets its contract. Assumes nothing.
 use borrow.Author.Rules.{rules}
 use Rattle.layout.specs.Fields.{text_length}
-use Rattle.layout.specs.RecordLaws.{field_of}
+use Rattle.layout.proofs.RecordLaws.{field_of}
 use Rattle.layout.specs.View.{view_of}
 use Rattle.inodes.proofs.text_used.Goals as goal
 

@@ -3,7 +3,7 @@ use mathlib.Core.Path.{ap, ◌∙◌}
 use lib.Dec.{lit≤}
 use borrow.Author.Rules.{rules}
 use Rattle.recover.specs.declared.Answer.{Answer}
-use Rattle.recover.specs.Outs.{answers_few}
+use Rattle.recover.proofs.Outs.{answers_few}
 use Rattle.mirepillar.specs.Result.{packed}
 use Rattle.mirepillar.proofs.mp_repair.Goals as goal
 

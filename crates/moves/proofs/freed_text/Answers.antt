@@ -4,9 +4,9 @@ use mathlib.Core.Bool.{true}
 use Rattle.seq.specs.Truth.{fails, holds}
 use Rattle.layout.specs.Fields.{inode_field}
 use Rattle.layout.specs.Limits.{absent}
-use Rattle.layout.specs.RecordLaws.{field_of}
+use Rattle.layout.proofs.RecordLaws.{field_of}
 use Rattle.layout.specs.View.{View, view_of, is_symlink}
-use Rattle.layout.specs.ViewLaws.{is_kind_below}
+use Rattle.layout.proofs.ViewLaws.{is_kind_below}
 use Rattle.recounts.specs.Recount.{entries_after}
 use Rattle.moves.specs.Plan.{move_with}
 use Rattle.moves.specs.Texts.{text_other, text_kept, text_freed}
@@ -23,7 +23,7 @@ returns-then-entries_after-ne0 c =
     let view : View = view_of c.args.h c.args.image.now in
     let symlink : is_symlink view c.args.c.replaced ≡ true = holds c.is_symlink.ensures c.if-not-is_symlink.false-raw in
     let counted : c.entries_after.result ≡ entries_after view (move_with c.args.c c.args.time absent) c.args.c.replaced =
-    c.entries_after.ensures.0 ∙ ap (λ m. entries_after (view at) m c.args.c.replaced) c.move_with-m.ensures in
+    c.entries_after.ensures.0 ∙ ap (λ m. entries_after view m c.args.c.replaced) c.move_with-m.ensures in
     let args = c.args in
     text_kept view args.c args.time symlink _ counted c.if-entries_after-ne0.true
 
@@ -40,7 +40,7 @@ returns c =
     let view : View = view_of c.args.h c.args.image.now in
     let symlink : is_symlink view c.args.c.replaced ≡ true = holds c.is_symlink.ensures c.if-not-is_symlink.false-raw in
     let counted : c.entries_after.result ≡ entries_after view (move_with c.args.c c.args.time absent) c.args.c.replaced =
-    c.entries_after.ensures.0 ∙ ap (λ m. entries_after (view at) m c.args.c.replaced) c.move_with-m.ensures in
+    c.entries_after.ensures.0 ∙ ap (λ m. entries_after view m c.args.c.replaced) c.move_with-m.ensures in
     let args = c.args in
     text_freed view args.c args.time symlink _ counted c.if-entries_after-ne0.false _
     (field_of inode_field c.inode-r.ensures c.field.ensures.0)

@@ -6,7 +6,7 @@ use lib.ListN.{length, get_or}
 use borrow.Author.Rules.{rules}
 use borrow.Author.Tests.{eq-eqb, ne_eqb}
 use Rattle.seq.specs.Search.{all}
-use Rattle.seq.specs.SearchLaws.{all_none, all_more, all_not, all_out}
+use Rattle.seq.proofs.SearchLaws.{all_none, all_more, all_not, all_out}
 use Rattle.names.specs.Name.{name_byte, plain_name}
 use Rattle.names.proofs.bytes_good.Goals as goal
 

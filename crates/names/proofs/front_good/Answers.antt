@@ -4,7 +4,7 @@ use Prim.Native.Nat.{◌≤◌, ◌-◌}
 use native.Mathlib.Omega.{arith}
 use borrow.Author.Rules.{rules}
 use Rattle.seq.specs.Search.{any}
-use Rattle.seq.specs.SearchLaws.{any_none}
+use Rattle.seq.proofs.SearchLaws.{any_none}
 use Rattle.names.specs.FrontLaws.{any_tells}
 use Rattle.names.specs.NameTests.{front_wrong, front_good}
 use Rattle.names.proofs.front_good.Goals as goal

@@ -3,7 +3,7 @@ use mathlib.Core.Path.{◌≡◌, sym, ◌∙◌, ap}
 use mathlib.Core.Bool.{true, false}
 use borrow.Author.Rules.{rules}
 use Rattle.seq.specs.Bytes.{part}
-use Rattle.seq.specs.BytesLaws.{part_range}
+use Rattle.seq.proofs.BytesLaws.{part_range}
 use Rattle.seq.specs.Truth.{fails, holds}
 use Rattle.names.specs.Name.{plain_name}
 use Rattle.names.specs.NameTests.{name_spelled}

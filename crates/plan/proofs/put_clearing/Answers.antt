@@ -5,7 +5,7 @@ use native.Mathlib.Omega.{arith}
 use lib.ListN.{replicate}
 use lib.Seq.{length-take-le}
 use borrow.Author.Rules.{rules}
-use Rattle.seq.specs.BytesLaws.{take_zeros}
+use Rattle.seq.proofs.BytesLaws.{take_zeros}
 use Rattle.plan.specs.Form.{row_of, row_stored}
 use Rattle.plan.proofs.put_clearing.Goals as goal
 

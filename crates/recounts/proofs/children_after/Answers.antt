@@ -6,7 +6,7 @@ use native.Mathlib.Omega.{arith}
 use lib.Dec.{eqb}
 use borrow.Author.Rules.{rules}
 use Rattle.seq.specs.Count.{bit}
-use Rattle.seq.specs.SearchLaws.{count_le}
+use Rattle.seq.proofs.SearchLaws.{count_le}
 use Rattle.seq.specs.Truth.{holds}
 use Rattle.layout.specs.View.{view_of, is_directory}
 use Rattle.tree.specs.Tree.{holds_directory, child_directories}
@@ -19,13 +19,11 @@ returns-then-not-edits_two c = c.children_edited.ensures
 
 pub entry_holds_directory-requires : goal.entry_holds_directory-requires
 entry_holds_directory-requires c =
-    
     let two = two_is c.args.m c.args.h.entries (holds c.edits_two.ensures c.if-not-edits_two.false-raw) in
     (c.requires, two.old)
 
 pub entry_holds_directory-requires-2 : goal.entry_holds_directory-requires-2
 entry_holds_directory-requires-2 c =
-    
     let two = two_is c.args.m c.args.h.entries (holds c.edits_two.ensures c.if-not-edits_two.false-raw) in
     (c.requires, two.new)
 

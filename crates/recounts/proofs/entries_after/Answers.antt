@@ -5,7 +5,7 @@ use native.Mathlib.Omega.{arith}
 use lib.Dec.{eqb}
 use borrow.Author.Rules.{rules}
 use Rattle.seq.specs.Count.{bit}
-use Rattle.seq.specs.SearchLaws.{count_le}
+use Rattle.seq.proofs.SearchLaws.{count_le}
 use Rattle.seq.specs.Truth.{holds}
 use Rattle.layout.specs.View.{view_of}
 use Rattle.tree.specs.Tree.{targets, entries_of}
@@ -18,13 +18,11 @@ returns-then-not-edits_two c = c.entries_edited.ensures
 
 pub entry_targets-requires : goal.entry_targets-requires
 entry_targets-requires c =
-    
     let two = two_is c.args.m c.args.h.entries (holds c.edits_two.ensures c.if-not-edits_two.false-raw) in
     (c.requires, two.old)
 
 pub entry_targets-requires-2 : goal.entry_targets-requires-2
 entry_targets-requires-2 c =
-    
     let two = two_is c.args.m c.args.h.entries (holds c.edits_two.ensures c.if-not-edits_two.false-raw) in
     (c.requires, two.new)
 

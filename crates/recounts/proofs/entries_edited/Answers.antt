@@ -4,7 +4,7 @@ use Prim.Native.Nat.{◌≤◌, ◌-◌}
 use native.Mathlib.Omega.{arith}
 use borrow.Author.Rules.{rules}
 use Rattle.seq.specs.Search.{count}
-use Rattle.seq.specs.SearchLaws.{count_none, count_turn, count_pass, count_out}
+use Rattle.seq.proofs.SearchLaws.{count_none, count_turn, count_pass, count_out}
 use Rattle.layout.specs.View.{view_of}
 use Rattle.recounts.specs.Recount.{targets_after, entries_after}
 use Rattle.recounts.proofs.entries_edited.Goals as goal
@@ -18,8 +18,8 @@ loop-j-preserved c =
     let below = c.loop-j-test.true in
     let inv = c.loop-j.invariant in
     elim c.if-targets_after.branch [
-      then-targets_after w ↦ count_turn _ _ _ _ _ below inv.1 inv.2 c.targets_after.ensures w.if-targets_after.true w.found-is
-    | else-targets_after w ↦ count_pass _ _ _ _ _ below inv.1 inv.2 c.targets_after.ensures w.if-targets_after.false w.found-is
+      | then-targets_after w ↦ count_turn _ _ _ _ _ below inv.1 inv.2 c.targets_after.ensures w.if-targets_after.true w.found-is
+      | else-targets_after w ↦ count_pass _ _ _ _ _ below inv.1 inv.2 c.targets_after.ensures w.if-targets_after.false w.found-is
     ]
 
 pub returns : goal.returns

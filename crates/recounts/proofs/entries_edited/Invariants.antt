@@ -6,7 +6,7 @@ use Prim.Native.Nat.{◌≤◌, ◌-◌}
 use native.Mathlib.Omega.{arith}
 use borrow.Author.Rules.{rules}
 use Rattle.seq.specs.Search.{count}
-use Rattle.seq.specs.SearchLaws.{count_none, count_turn, count_pass, count_out}
+use Rattle.seq.proofs.SearchLaws.{count_none, count_turn, count_pass, count_out}
 use Rattle.layout.specs.View.{view_of}
 use Rattle.recounts.specs.Recount.{targets_after, entries_after}
 use Rattle.recounts.proofs.entries_edited.Given as goal

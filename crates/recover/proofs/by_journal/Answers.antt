@@ -2,7 +2,7 @@
 use mathlib.Core.Path.{refl, sym}
 use lib.Seq.{length-take-le}
 use Rattle.seq.specs.Truth.{fails, holds}
-use Rattle.recover.specs.Outs.{recovered_as, answers_pending, answers_unsound, answers_nothing}
+use Rattle.recover.proofs.Outs.{recovered_as, answers_pending, answers_unsound, answers_nothing}
 use borrow.Author.Rules.{rules}
 use Rattle.recover.proofs.by_journal.Goals as goal
 

@@ -1,9 +1,9 @@
 -- `recover::recover` meets its contract: short buffers and a bad layout come first. Assumes nothing.
 use mathlib.Core.Path.{refl, sym, ◌∙◌}
 use mathlib.Core.Logic.{inl, inr}
-use Rattle.layout.specs.ContentsLaws.{contents_good, contents_bad}
-use Rattle.recover.specs.JobLaws.{recovered_short, recovered_layout, recovered_read}
-use Rattle.recover.specs.Outs.{recovered_as, answers_refused}
+use Rattle.layout.proofs.ContentsLaws.{contents_good, contents_bad}
+use Rattle.recover.proofs.JobLaws.{recovered_short, recovered_layout, recovered_read}
+use Rattle.recover.proofs.Outs.{recovered_as, answers_refused}
 use borrow.Author.Rules.{rules}
 use Rattle.recover.proofs.recover.Goals as goal
 

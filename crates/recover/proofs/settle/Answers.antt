@@ -4,7 +4,7 @@ use mathlib.Core.List.{List}
 use Prim.Native.Nat.{ℕ}
 use native.Mathlib.Omega.{arith}
 use Rattle.recover.specs.Outcome.{applied_from}
-use Rattle.recover.specs.Outs.{recovered_as, ready_exact, settle_refused, settle_done}
+use Rattle.recover.proofs.Outs.{recovered_as, ready_exact, settle_refused, settle_done}
 use borrow.Author.Rules.{rules}
 use Rattle.recover.proofs.settle.Goals as goal
 

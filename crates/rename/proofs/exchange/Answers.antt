@@ -14,6 +14,6 @@ fill-requires c =
 pub returns : goal.returns
 returns c =
     let args = c.args in
-    subst (λ (m : Move). (c.fill.new.0 ≡ exchange_planned args.h args.image.now m args.plan.now)
+    subst (λ (m : Move). (c.fill.new.plan ≡ exchange_planned args.h args.image.now m args.plan.now)
     × (c.fill.result ≡ length (exchange_rows args.h args.image.now m)))
     c.exchange_of.ensures c.fill.ensures

@@ -1,7 +1,7 @@
 -- `rename::rename` meets its contract: a short plan and a bad layout come first. Assumes nothing.
 use mathlib.Core.Path.{sym, ◌∙◌}
-use Rattle.layout.specs.ContentsLaws.{contents_good, contents_bad}
-use Rattle.rename.specs.Outs.{answers_as, answers_short, answers_layout}
+use Rattle.layout.proofs.ContentsLaws.{contents_good, contents_bad}
+use Rattle.rename.proofs.Outs.{answers_as, answers_short, answers_layout}
 use borrow.Author.Rules.{rules}
 use Rattle.rename.proofs.rename.Goals as goal
 

@@ -8,7 +8,7 @@ use Rattle.seq.specs.Bytes.{part}
 use Rattle.layout.specs.declared.Shape.{Shape}
 use Rattle.component.specs.declared.state.Found.{Found}
 use Rattle.component.specs.State.{finding_of}
-use Rattle.component.specs.StateLaws.{missing_range}
+use Rattle.component.proofs.StateLaws.{missing_range}
 use Rattle.recounts.specs.declared.Move.{Move}
 use Rattle.results.specs.InImage.{InImage}
 use Rattle.rename.specs.Order.{name_of}

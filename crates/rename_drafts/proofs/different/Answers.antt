@@ -1,7 +1,7 @@
 -- `rename_drafts::different` meets its contract. Assumes nothing.
 use mathlib.Core.Path.{sym}
 use borrow.Author.Tests.{eq-eqb, ne_eqb}
-use Rattle.rename_drafts.specs.Fit.{different_last}
+use Rattle.rename_drafts.proofs.Fit.{different_last}
 use Rattle.rename_drafts.proofs.different.Goals as goal
 
 pub returns-then-j : goal.returns-then-j

@@ -4,10 +4,10 @@ use mathlib.Core.Bool.{true}
 use borrow.Author.Rules.{rules}
 use Rattle.seq.specs.Truth.{fails, holds}
 use Rattle.layout.specs.View.{View, view_of}
-use Rattle.plan.specs.WriteLaws.{filled_one}
+use Rattle.plan.proofs.WriteLaws.{filled_one}
 use Rattle.results.specs.Results.{clear_row}
 use Rattle.rename_drafts.specs.PendingRename.{rename_fits, entry_stands, into_good, move_draft, rename_draft}
-use Rattle.rename_drafts.specs.Fit.{fits_new, move_new, move_image, rename_move, rename_unfit, move_undone, move_unfit, move_finished}
+use Rattle.rename_drafts.proofs.Fit.{fits_new, move_new, move_image, rename_move, rename_unfit, move_undone, move_unfit, move_finished}
 use Rattle.rename_drafts.proofs.draft.Goals as goal
 
 pub returns-then-not-fits : goal.returns-then-not-fits
@@ -30,10 +30,10 @@ entry_stands-requires c =
 pub returns-then-not-entry_stands : goal.returns-then-not-entry_stands
 returns-then-not-entry_stands c =
     let fit : rename_fits c.args.h c.args.image.now c.args.j ≡ true = holds c.fits.ensures c.if-not-fits.false-raw in
-    let of-move : rename_draft c.args.h c.args.image.now c.args.j ≡ move_draft c.args.h c.args.image.now c.move_from-m.result = let args = c.args in
+    let of_move : rename_draft c.args.h c.args.image.now c.args.j ≡ move_draft c.args.h c.args.image.now c.move_from-m.result = let args = c.args in
     rename_move args.h args.image.now args.j fit _ c.move_from-m.ensures in
     let args = c.args in
-    rw (of-move moved ∙ move_undone args.h args.image.now _ (fails c.entry_stands.ensures c.if-not-entry_stands.true-raw))
+    rw (of_move ∙ move_undone args.h args.image.now _ (fails c.entry_stands.ensures c.if-not-entry_stands.true-raw))
     (filled_one args.h (clear_row args.h) c.put_clear.ensures)
 
 pub returns-then-not-into_good : goal.returns-then-not-into_good
@@ -41,10 +41,10 @@ returns-then-not-into_good c =
     let view : View = view_of c.args.h c.args.image.now in
     let fit : rename_fits c.args.h c.args.image.now c.args.j ≡ true = holds c.fits.ensures c.if-not-fits.false-raw in
     let done : entry_stands view c.move_from-m.result ≡ true = holds c.entry_stands.ensures c.if-not-entry_stands.false-raw in
-    let of-move : rename_draft c.args.h c.args.image.now c.args.j ≡ move_draft c.args.h c.args.image.now c.move_from-m.result = let args = c.args in
+    let of_move : rename_draft c.args.h c.args.image.now c.args.j ≡ move_draft c.args.h c.args.image.now c.move_from-m.result = let args = c.args in
     rename_move args.h args.image.now args.j fit _ c.move_from-m.ensures in
     let args = c.args in
-    rw (of-move moved ∙ move_unfit args.h args.image.now _ (done asked) (fails c.into_good.ensures c.if-not-into_good.true-raw)) tt
+    rw (of_move ∙ move_unfit args.h args.image.now _ done (fails c.into_good.ensures c.if-not-into_good.true-raw)) tt
 
 pub finish-requires : goal.finish-requires
 finish-requires c =
@@ -60,8 +60,8 @@ returns c =
     let fit : rename_fits c.args.h c.args.image.now c.args.j ≡ true = holds c.fits.ensures c.if-not-fits.false-raw in
     let done : entry_stands view c.move_from-m.result ≡ true = holds c.entry_stands.ensures c.if-not-entry_stands.false-raw in
     let good : into_good view c.move_from-m.result ≡ true = holds c.into_good.ensures c.if-not-into_good.false-raw in
-    let of-move : rename_draft c.args.h c.args.image.now c.args.j ≡ move_draft c.args.h c.args.image.now c.move_from-m.result = let args = c.args in
+    let of_move : rename_draft c.args.h c.args.image.now c.args.j ≡ move_draft c.args.h c.args.image.now c.move_from-m.result = let args = c.args in
     rename_move args.h args.image.now args.j fit _ c.move_from-m.ensures in
     let args = c.args in
-    rw (of-move moved ∙ move_finished args.h args.image.now _ done (good asked))
+    rw (of_move ∙ move_finished args.h args.image.now _ done good)
     c.finish.ensures

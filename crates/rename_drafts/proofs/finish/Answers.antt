@@ -2,8 +2,8 @@
 use native.Mathlib.Omega.{arith}
 use borrow.Author.Rules.{rules}
 use Rattle.results.specs.Results.{results}
-use Rattle.results.specs.ResultRows.{results_le}
-use Rattle.rename_drafts.specs.ClearedLaws.{rows_below, cleared_filled}
+use Rattle.results.proofs.ResultRows.{results_le}
+use Rattle.rename_drafts.proofs.ClearedLaws.{rows_below, cleared_filled}
 use Rattle.rename_drafts.proofs.finish.Goals as goal
 
 pub put_clear-requires : goal.put_clear-requires

@@ -3,7 +3,7 @@ use mathlib.Core.Path.{sym, ◌∙◌}
 use borrow.Author.Tests.{lt-ltb, le-ltb}
 use borrow.Author.Rules.{rules}
 use Rattle.seq.specs.Truth.{fails, holds}
-use Rattle.rename_drafts.specs.Fit.{range_last}
+use Rattle.rename_drafts.proofs.Fit.{range_last}
 use Rattle.rename_drafts.proofs.in_range.Goals as goal
 
 pub returns-then-h-j : goal.returns-then-h-j

@@ -2,7 +2,7 @@
 use borrow.Author.Rules.{rules}
 use Rattle.layout.specs.View.{view_of}
 use Rattle.layout.specs.Fields.{entry_parent}
-use Rattle.layout.specs.RecordLaws.{field_of}
+use Rattle.layout.proofs.RecordLaws.{field_of}
 use Rattle.rename_drafts.proofs.move_from.Goals as goal
 
 pub returns : goal.returns

@@ -8,7 +8,7 @@ use Rattle.layout.specs.View.{view_of}
 use Rattle.tables.specs.Table.{Table, tally}
 use Rattle.tables.specs.TableLaws.{tally_le, tally_turn}
 use Rattle.tallies.specs.Tallies.{target_slot, holder_slot}
-use Rattle.tallies.specs.TalliesLaws.{tally_blank, entry_counts_are, child_counts_are}
+use Rattle.tallies.proofs.TalliesLaws.{tally_blank, entry_counts_are, child_counts_are}
 use Rattle.tallies.proofs.counts.Given as goal
 
 abbrev pub invariant-loop-j : goal.invariant-loop-j

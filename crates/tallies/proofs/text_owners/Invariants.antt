@@ -7,7 +7,7 @@ use Rattle.layout.specs.View.{view_of}
 use Rattle.tables.specs.Table.{Firsts}
 use Rattle.tables.specs.TableLaws.{firsts_none, firsts_turn}
 use Rattle.tallies.specs.Tallies.{text_slot}
-use Rattle.tallies.specs.TalliesLaws.{text_owners_are}
+use Rattle.tallies.proofs.TalliesLaws.{text_owners_are}
 use Rattle.tallies.proofs.text_owners.Given as goal
 
 abbrev pub invariant-loop-i : goal.invariant-loop-i

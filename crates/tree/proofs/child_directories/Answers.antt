@@ -4,7 +4,7 @@ use Prim.Native.Nat.{◌≤◌, ◌-◌}
 use native.Mathlib.Omega.{arith}
 use borrow.Author.Rules.{rules}
 use Rattle.seq.specs.Search.{count}
-use Rattle.seq.specs.SearchLaws.{count_none, count_turn, count_pass, count_out}
+use Rattle.seq.proofs.SearchLaws.{count_none, count_turn, count_pass, count_out}
 use Rattle.layout.specs.View.{view_of}
 use Rattle.tree.specs.Tree.{holds_directory, child_directories}
 use Rattle.tree.proofs.child_directories.Goals as goal
@@ -18,8 +18,8 @@ loop-j-preserved c =
     let below = c.loop-j-test.true in
     let inv = c.loop-j.invariant in
     elim c.if-entry_holds_directory.branch [
-      then-entry_holds_directory w ↦ count_turn _ _ _ _ _ below inv.1 inv.2 c.entry_holds_directory.ensures w.if-entry_holds_directory.true w.found-is
-    | else-entry_holds_directory w ↦ count_pass _ _ _ _ _ below inv.1 inv.2 c.entry_holds_directory.ensures w.if-entry_holds_directory.false w.found-is
+      | then-entry_holds_directory w ↦ count_turn _ _ _ _ _ below inv.1 inv.2 c.entry_holds_directory.ensures w.if-entry_holds_directory.true w.found-is
+      | else-entry_holds_directory w ↦ count_pass _ _ _ _ _ below inv.1 inv.2 c.entry_holds_directory.ensures w.if-entry_holds_directory.false w.found-is
     ]
 
 pub returns : goal.returns

@@ -3,7 +3,7 @@ use mathlib.Core.Path.{◌≡◌, sym}
 use Prim.Native.Nat.{◌≤◌, ◌-◌}
 use borrow.Author.Rules.{rules}
 use Rattle.seq.specs.Search.{count}
-use Rattle.seq.specs.SearchLaws.{count_none, count_turn, count_pass, count_out}
+use Rattle.seq.proofs.SearchLaws.{count_none, count_turn, count_pass, count_out}
 use Rattle.layout.specs.View.{view_of}
 use Rattle.tree.specs.Tree.{targets, entries_of}
 use Rattle.tree.proofs.entries_of.Goals as goal
@@ -17,8 +17,8 @@ loop-j-preserved c =
     let below = c.loop-j-test.true in
     let inv = c.loop-j.invariant in
     elim c.if-entry_targets.branch [
-      then-entry_targets w ↦ count_turn _ _ _ _ _ below inv.1 inv.2 c.entry_targets.ensures w.if-entry_targets.true w.found-is
-    | else-entry_targets w ↦ count_pass _ _ _ _ _ below inv.1 inv.2 c.entry_targets.ensures w.if-entry_targets.false w.found-is
+      | then-entry_targets w ↦ count_turn _ _ _ _ _ below inv.1 inv.2 c.entry_targets.ensures w.if-entry_targets.true w.found-is
+      | else-entry_targets w ↦ count_pass _ _ _ _ _ below inv.1 inv.2 c.entry_targets.ensures w.if-entry_targets.false w.found-is
     ]
 
 pub returns : goal.returns

@@ -5,11 +5,11 @@ use native.Mathlib.Omega.{arith}
 use borrow.Author.Rules.{rules}
 use Rattle.seq.specs.Truth.{fails, holds}
 use Rattle.layout.specs.Fields.{inode_field}
-use Rattle.layout.specs.RecordLaws.{field_of}
+use Rattle.layout.proofs.RecordLaws.{field_of}
 use Rattle.layout.specs.View.{view_of, is_directory}
-use Rattle.layout.specs.ViewLaws.{is_kind_below}
+use Rattle.layout.proofs.ViewLaws.{is_kind_below}
 use Rattle.tree.specs.Tree.{reaches}
-use Rattle.tree.specs.TreeLaws.{reaches_goal, reaches_out, reaches_on, reaches_end}
+use Rattle.tree.proofs.TreeLaws.{reaches_goal, reaches_out, reaches_on, reaches_end}
 use Rattle.tree.proofs.is_above.Goals as goal
 
 pub loop-left-init : goal.loop-left-init

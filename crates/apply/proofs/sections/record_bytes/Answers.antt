@@ -1,7 +1,7 @@
 -- `apply::sections::record_bytes` meets its contract. Assumes nothing.
 use mathlib.Core.Path.{sym}
 use native.Mathlib.Omega.{arith}
-use Rattle.apply.specs.FindLaws.{bytes_last}
+use Rattle.apply.proofs.FindLaws.{bytes_last}
 use borrow.Author.Rules.{rules}
 use Rattle.apply.proofs.sections.record_bytes.Goals as goal
 

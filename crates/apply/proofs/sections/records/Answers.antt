@@ -1,7 +1,7 @@
 -- `apply::sections::records` meets its contract. Assumes nothing.
 use mathlib.Core.Path.{sym}
 use native.Mathlib.Omega.{arith}
-use Rattle.apply.specs.FindLaws.{records_last}
+use Rattle.apply.proofs.FindLaws.{records_last}
 use borrow.Author.Rules.{rules}
 use Rattle.apply.proofs.sections.records.Goals as goal
 

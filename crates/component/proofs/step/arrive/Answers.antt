@@ -2,12 +2,12 @@
 use mathlib.Core.Path.{sym, ◌∙◌}
 use borrow.Author.Rules.{rules}
 use Rattle.layout.specs.Fields.{inode_kind}
-use Rattle.layout.specs.RecordLaws.{field_of}
+use Rattle.layout.proofs.RecordLaws.{field_of}
 use Rattle.layout.specs.View.{view_of}
-use Rattle.layout.specs.ViewLaws.{is_kind_lem, is_other}
-use Rattle.component.specs.Splice.{plain_end, slash_end}
+use Rattle.layout.proofs.ViewLaws.{is_kind_lem, is_other}
+use Rattle.component.proofs.Splice.{plain_end, slash_end}
 use Rattle.component.specs.State.{position_of, rest_from}
-use Rattle.component.specs.Turns.{arrives_plain, arrives_directory, arrives_other}
+use Rattle.component.proofs.Turns.{arrives_plain, arrives_directory, arrives_other}
 use Rattle.component.proofs.step.arrive.Goals as goal
 
 pub returns-then-e-w : goal.returns-then-e-w

@@ -4,10 +4,10 @@ use Prim.Native.Nat.{◌-◌}
 use native.Mathlib.Omega.{arith}
 use borrow.Author.Rules.{rules}
 use Rattle.seq.specs.Bytes.{part}
-use Rattle.seq.specs.BytesLaws.{part_length}
+use Rattle.seq.proofs.BytesLaws.{part_length}
 use Rattle.layout.specs.View.{view_of}
 use Rattle.component.specs.State.{position_of, rest_from}
-use Rattle.component.specs.Turns.{reads_long, reads_dots, reads_name}
+use Rattle.component.proofs.Turns.{reads_long, reads_dots, reads_name}
 use Rattle.component.proofs.step.component.Goals as goal
 
 pub returns-then-h-e : goal.returns-then-h-e

@@ -5,10 +5,10 @@ use native.Mathlib.Omega.{arith}
 use borrow.Author.Rules.{rules}
 use Rattle.seq.specs.Bytes.{part}
 use Rattle.layout.specs.Fields.{inode_field}
-use Rattle.layout.specs.RecordLaws.{field_of}
+use Rattle.layout.proofs.RecordLaws.{field_of}
 use Rattle.layout.specs.View.{view_of}
 use Rattle.component.specs.State.{position_of, rest_from}
-use Rattle.component.specs.Turns.{dots_last, dots_stay, dots_up}
+use Rattle.component.proofs.Turns.{dots_last, dots_stay, dots_up}
 use Rattle.component.proofs.step.dots.Goals as goal
 
 pub returns-then-is_bare : goal.returns-then-is_bare

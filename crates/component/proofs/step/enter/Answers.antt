@@ -5,13 +5,13 @@ use Prim.Native.Nat.{◌<◌}
 use native.Mathlib.Omega.{arith}
 use lib.ListN.{length}
 use borrow.Author.Rules.{rules}
-use Rattle.seq.specs.BytesLaws.{part_length}
+use Rattle.seq.proofs.BytesLaws.{part_length}
 use Rattle.layout.specs.Fields.{inode_kind, inode_field, text_length, text_bytes}
-use Rattle.layout.specs.RecordLaws.{field_of}
+use Rattle.layout.proofs.RecordLaws.{field_of}
 use Rattle.layout.specs.View.{view_of, text_at, is_symlink}
-use Rattle.layout.specs.ViewLaws.{is_kind_lem, is_other}
+use Rattle.layout.proofs.ViewLaws.{is_kind_lem, is_other}
 use Rattle.component.specs.State.{position_of, rest_from}
-use Rattle.component.specs.Turns.{enters_link, enters_other}
+use Rattle.component.proofs.Turns.{enters_link, enters_other}
 use Rattle.component.proofs.step.enter.Goals as goal
 
 pub text-text-requires : goal.text-text-requires

@@ -3,9 +3,9 @@ use mathlib.Core.Path.{sym, ap}
 use Prim.Native.Nat.{◌+◌}
 use lib.ListN.{length}
 use borrow.Author.Rules.{rules}
-use Rattle.component.specs.Splice.{rest_length}
+use Rattle.component.proofs.Splice.{rest_length}
 use Rattle.component.specs.State.{position_of, rest_from}
-use Rattle.component.specs.Turns.{follows_many, follows_long, follows_short}
+use Rattle.component.proofs.Turns.{follows_many, follows_long, follows_short}
 use Rattle.component.proofs.step.follow.Goals as goal
 
 pub returns-then-w-ge-SYMLINK_LIMIT : goal.returns-then-w-ge-SYMLINK_LIMIT

@@ -5,11 +5,11 @@ use native.Mathlib.Omega.{arith}
 use borrow.Author.Rules.{rules}
 use Rattle.seq.specs.Bytes.{part}
 use Rattle.layout.specs.Fields.{entry_target}
-use Rattle.layout.specs.RecordLaws.{field_of}
+use Rattle.layout.proofs.RecordLaws.{field_of}
 use Rattle.layout.specs.View.{view_of, entry_at}
-use Rattle.layout.specs.ViewLaws.{is_used_below}
+use Rattle.layout.proofs.ViewLaws.{is_used_below}
 use Rattle.component.specs.State.{position_of, rest_from}
-use Rattle.component.specs.Turns.{hits_last, hits_more}
+use Rattle.component.proofs.Turns.{hits_last, hits_more}
 use Rattle.component.proofs.step.hit.Goals as goal
 
 pub arrive-requires : goal.arrive-requires
@@ -42,5 +42,5 @@ unfolding view_of part
 returns c =
     let target_is : c.target-target.result ≡ entry_target (entry_at c.args.h c.args.image.now c.args.slot) = field_of entry_target c.entry-entry.ensures c.target-target.ensures.0 in
     let args = c.args in
-    hits_more (view_of args.h args.image.now) _ (position_of args.w) (rest_from args.w args.e) args.slot c.target-target.result (target_is target)
+    hits_more (view_of args.h args.image.now) _ (position_of args.w) (rest_from args.w args.e) args.slot c.target-target.result target_is
     (sym c.is_bare.ensures ∙ c.if-is_bare.false) c.enter.ensures

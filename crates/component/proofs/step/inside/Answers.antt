@@ -5,12 +5,12 @@ use Prim.Native.Nat.{◌+◌, ◌-◌}
 use native.Mathlib.Omega.{arith}
 use borrow.Author.Rules.{rules}
 use Rattle.seq.specs.Bytes.{part}
-use Rattle.seq.specs.BytesLaws.{part_length}
+use Rattle.seq.proofs.BytesLaws.{part_length}
 use Rattle.seq.specs.Truth.{fails, holds}
 use Rattle.layout.specs.View.{view_of}
 use Rattle.paths.specs.Permission.{search_bit, allows}
 use Rattle.component.specs.State.{ReadUpTo, position_of}
-use Rattle.component.specs.Turns.{inside_denied, inside_reads, component_range, behind_range}
+use Rattle.component.proofs.Turns.{inside_denied, inside_reads, component_range, behind_range}
 use Rattle.component.proofs.step.inside.Goals as goal
 
 pub returns-then-not-may_search : goal.returns-then-not-may_search

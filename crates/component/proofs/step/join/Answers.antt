@@ -2,7 +2,7 @@
 use native.Mathlib.Omega.{arith}
 use borrow.Author.Rules.{rules}
 use Rattle.seq.specs.Bytes.{part}
-use Rattle.component.specs.Splice.{joins}
+use Rattle.component.proofs.Splice.{joins}
 use Rattle.component.proofs.step.join.Goals as goal
 
 pub returns : goal.returns

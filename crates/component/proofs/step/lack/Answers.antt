@@ -2,9 +2,9 @@
 use Prim.Native.Nat.{◌-◌}
 use borrow.Author.Rules.{rules}
 use Rattle.seq.specs.Bytes.{part}
-use Rattle.component.specs.Splice.{slash_behind_lem}
+use Rattle.component.proofs.Splice.{slash_behind_lem}
 use Rattle.component.specs.State.{position_of, rest_from}
-use Rattle.component.specs.Turns.{lacks_refused, lacks_found}
+use Rattle.component.proofs.Turns.{lacks_refused, lacks_found}
 use Rattle.component.proofs.step.lack.Goals as goal
 
 pub returns-then-last : goal.returns-then-last

@@ -5,7 +5,7 @@ use native.Mathlib.Omega.{arith}
 use borrow.Author.Rules.{rules}
 use Rattle.seq.specs.Bytes.{part}
 use Rattle.component.specs.State.{position_of, rest_from}
-use Rattle.component.specs.Turns.{misses_last, misses_more}
+use Rattle.component.proofs.Turns.{misses_last, misses_more}
 use Rattle.component.proofs.step.miss.Goals as goal
 
 pub returns-then-is_bare : goal.returns-then-is_bare

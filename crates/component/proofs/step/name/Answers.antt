@@ -5,7 +5,7 @@ use borrow.Author.Rules.{rules}
 use Rattle.seq.specs.Bytes.{part}
 use Rattle.layout.specs.View.{view_of}
 use Rattle.component.specs.State.{position_of, rest_from}
-use Rattle.component.specs.Turns.{named_refused, named_sought}
+use Rattle.component.proofs.Turns.{named_refused, named_sought}
 use Rattle.component.proofs.step.name.Goals as goal
 
 pub returns-then-is_barred : goal.returns-then-is_barred

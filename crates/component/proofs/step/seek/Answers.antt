@@ -4,9 +4,9 @@ use native.Mathlib.Omega.{arith}
 use borrow.Author.Rules.{rules}
 use Rattle.seq.specs.Bytes.{part}
 use Rattle.layout.specs.View.{view_of}
-use Rattle.paths.specs.LookupLaws.{lookup_used}
+use Rattle.paths.proofs.LookupLaws.{lookup_used}
 use Rattle.component.specs.State.{position_of, rest_from}
-use Rattle.component.specs.Turns.{seeks_hit, seeks_miss}
+use Rattle.component.proofs.Turns.{seeks_hit, seeks_miss}
 use Rattle.component.proofs.step.seek.Goals as goal
 
 pub hit-requires : goal.hit-requires

@@ -3,9 +3,9 @@ use mathlib.Core.Path.{sym, ◌∙◌}
 use native.Mathlib.Omega.{arith}
 use borrow.Author.Rules.{rules}
 use Rattle.layout.specs.View.{view_of}
-use Rattle.layout.specs.ViewLaws.{is_kind_below, kind_of_lem, other_kind}
+use Rattle.layout.proofs.ViewLaws.{is_kind_below, kind_of_lem, other_kind}
 use Rattle.component.specs.State.{position_of}
-use Rattle.component.specs.Turns.{steps_nowhere, steps_inside}
+use Rattle.component.proofs.Turns.{steps_nowhere, steps_inside}
 use Rattle.component.proofs.step.step.Goals as goal
 
 pub inside-requires : goal.inside-requires

@@ -5,7 +5,7 @@ use borrow.Author.Rules.{rules}
 use borrow.Author.Tests.{le-leb, lt-leb}
 use Rattle.seq.specs.Bytes.{zeros}
 use Rattle.layout.specs.Fields.{entry_name_length}
-use Rattle.layout.specs.RecordLaws.{field_of}
+use Rattle.layout.proofs.RecordLaws.{field_of}
 use Rattle.layout.specs.View.{view_of}
 use Rattle.consistency.specs.Entry.{entry_formed}
 use Rattle.consistency.proofs.entries.formed.Goals as goal

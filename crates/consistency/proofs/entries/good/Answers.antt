@@ -6,8 +6,8 @@ use Rattle.seq.specs.Truth.{fails, holds}
 use Rattle.layout.specs.Fields.{entry_name_length}
 use Rattle.layout.specs.View.{view_of}
 use Rattle.names.specs.Name.{is_dots}
-use Rattle.consistency.specs.EntryLaws.{entry_free, entry_unformed, entry_misspelled, entry_dots, entry_linked_lem}
-use Rattle.consistency.specs.EntryFits.{formed_fits}
+use Rattle.consistency.proofs.EntryLaws.{entry_free, entry_unformed, entry_misspelled, entry_dots, entry_linked_lem}
+use Rattle.consistency.proofs.EntryFits.{formed_fits}
 use Rattle.consistency.proofs.entries.good.Goals as goal
 
 pub returns-then-n-eq0 : goal.returns-then-n-eq0

@@ -5,9 +5,9 @@ use borrow.Author.Rules.{rules}
 use borrow.Author.Tests.{eq-eqb, ne_eqb}
 use Rattle.seq.specs.Truth.{fails, holds}
 use Rattle.layout.specs.Fields.{entry_parent, entry_target}
-use Rattle.layout.specs.RecordLaws.{field_of}
+use Rattle.layout.proofs.RecordLaws.{field_of}
 use Rattle.layout.specs.View.{view_of, is_directory, is_used}
-use Rattle.layout.specs.ViewLaws.{is_kind_below, is_used_below}
+use Rattle.layout.proofs.ViewLaws.{is_kind_below, is_used_below}
 use Rattle.consistency.specs.Entry.{entry_linked}
 use Rattle.consistency.proofs.entries.linked.Goals as goal
 

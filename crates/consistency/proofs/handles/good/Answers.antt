@@ -3,10 +3,10 @@ use mathlib.Core.Path.{sym, ◌∙◌, ap}
 use borrow.Author.Rules.{rules}
 use Rattle.seq.specs.Bytes.{zeros}
 use Rattle.layout.specs.Fields.{handle_state}
-use Rattle.layout.specs.RecordLaws.{field_of}
+use Rattle.layout.proofs.RecordLaws.{field_of}
 use Rattle.layout.specs.View.{view_of}
 use Rattle.consistency.specs.Others.{handle_good}
-use Rattle.consistency.specs.StateTests.{state_closed, state_open, state_none}
+use Rattle.consistency.proofs.StateTests.{state_closed, state_open, state_none}
 use Rattle.consistency.proofs.handles.good.Goals as goal
 
 pub returns-in-0 : goal.returns-in-0

@@ -5,7 +5,7 @@ use borrow.Author.Rules.{rules}
 use Rattle.seq.specs.Bytes.{zeros}
 use Rattle.seq.specs.Truth.{fails, holds}
 use Rattle.layout.specs.Fields.{handle_inode}
-use Rattle.layout.specs.RecordLaws.{field_of}
+use Rattle.layout.proofs.RecordLaws.{field_of}
 use Rattle.layout.specs.View.{view_of}
 use Rattle.consistency.specs.Others.{open_good}
 use Rattle.consistency.proofs.handles.open_good.Goals as goal

@@ -3,7 +3,7 @@ use mathlib.Core.Path.{ap, ◌∙◌}
 use native.Mathlib.Omega.{arith}
 use borrow.Author.Rules.{rules}
 use Rattle.seq.specs.Bytes.{no_zero}
-use Rattle.consistency.specs.TextLaws.{text_long, text_unpadded, text_zero, text_free_lem, text_linked_lem}
+use Rattle.consistency.proofs.TextLaws.{text_long, text_unpadded, text_zero, text_free_lem, text_linked_lem}
 use Rattle.consistency.proofs.texts.good.Goals as goal
 
 pub returns-then-n-gt-TEXT_ROOM : goal.returns-then-n-gt-TEXT_ROOM

@@ -1,6 +1,6 @@
 -- `encode::number::put64` meets its contract. Assumes nothing.
 use borrow.Author.Rules.{rules}
-use Rattle.seq.specs.NumberLaws.{put_four}
+use Rattle.seq.proofs.NumberLaws.{put_four}
 use Rattle.encode.proofs.number.put64.Goals as goal
 
 pub returns : goal.returns

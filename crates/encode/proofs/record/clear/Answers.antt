@@ -5,7 +5,7 @@ use native.Mathlib.Omega.{arith}
 use lib.ListN.{length, length-set, replicate, length-replicate}
 use borrow.Author.Rules.{rules}
 use Rattle.seq.specs.Bytes.{put}
-use Rattle.seq.specs.BytesLaws.{put_none, put_zero, put_whole}
+use Rattle.seq.proofs.BytesLaws.{put_none, put_zero, put_whole}
 use Rattle.encode.proofs.record.clear.Goals as goal
 
 pub loop-k-init : goal.loop-k-init

@@ -1,7 +1,7 @@
 -- `exchanges::rows::fill` meets its contract. Assumes nothing.
 use native.Mathlib.Omega.{arith}
 use borrow.Author.Rules.{rules}
-use Rattle.exchanges.specs.ExchangeRows.{exchange_below, exchange_planned_lem}
+use Rattle.exchanges.proofs.ExchangeRows.{exchange_below, exchange_planned_lem}
 use Rattle.exchanges.proofs.rows.fill.Goals as goal
 
 pub put_clear-requires : goal.put_clear-requires

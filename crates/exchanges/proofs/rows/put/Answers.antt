@@ -1,6 +1,6 @@
 -- `exchanges::rows::put` meets its contract. Assumes nothing.
 use borrow.Author.Rules.{rules}
-use Rattle.exchanges.specs.ExchangeRows.{exchange_filled}
+use Rattle.exchanges.proofs.ExchangeRows.{exchange_filled}
 use Rattle.exchanges.proofs.rows.put.Goals as goal
 
 pub returns : goal.returns

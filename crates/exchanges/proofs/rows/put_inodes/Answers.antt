@@ -3,7 +3,7 @@ use Prim.Native.Nat.{◌<◌}
 use native.Mathlib.Omega.{arith}
 use borrow.Author.Rules.{rules}
 use Rattle.plan.specs.Form.{plan_rows}
-use Rattle.exchanges.specs.ExchangeRows.{parents_le, inodes_filled}
+use Rattle.exchanges.proofs.ExchangeRows.{parents_le, inodes_filled}
 use Rattle.exchanges.proofs.rows.put_inodes.Goals as goal
 
 pub put_moved-requires-2 : goal.put_moved-requires-2

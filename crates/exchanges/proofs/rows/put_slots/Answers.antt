@@ -1,7 +1,7 @@
 -- `exchanges::rows::put_slots` meets its contract. Assumes nothing.
 use Prim.Native.Nat.{◌<◌}
 use borrow.Author.Rules.{rules}
-use Rattle.exchanges.specs.ExchangeRows.{slots_filled}
+use Rattle.exchanges.proofs.ExchangeRows.{slots_filled}
 use Rattle.exchanges.proofs.rows.put_slots.Goals as goal
 
 pub put_slot-requires : goal.put_slot-requires

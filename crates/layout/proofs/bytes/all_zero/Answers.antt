@@ -7,7 +7,7 @@ use native.Mathlib.Omega.{arith}
 use borrow.Author.Rules.{rules}
 use Rattle.seq.specs.Bytes.{zeros}
 use Rattle.seq.specs.Truth.{fails, holds}
-use Rattle.seq.specs.ZeroLaws.{zeros_split}
+use Rattle.seq.proofs.ZeroLaws.{zeros_split}
 use Rattle.layout.proofs.bytes.all_zero.Goals as goal
 
 -- whole pieces, and the bytes behind them

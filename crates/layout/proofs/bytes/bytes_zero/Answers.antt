@@ -5,7 +5,7 @@ use Prim.Native.Nat.{◌≤◌, ◌-◌}
 use borrow.Author.Rules.{rules}
 use borrow.Author.Tests.{eq-eqb, ne_eqb}
 use Rattle.seq.specs.Bytes.{zeros}
-use Rattle.seq.specs.SearchLaws.{all_none, all_more, all_not, all_out}
+use Rattle.seq.proofs.SearchLaws.{all_none, all_more, all_not, all_out}
 use Rattle.layout.proofs.bytes.bytes_zero.Goals as goal
 
 pub loop-k-init : goal.loop-k-init

@@ -9,7 +9,7 @@ use borrow.Author.Rules.{rules}
 use borrow.Author.Tests.{eq-eqb, ne_eqb}
 use Rattle.seq.specs.Bytes.{no_zero}
 use Rattle.seq.specs.Search.{all}
-use Rattle.seq.specs.SearchLaws.{all_none, all_more, all_not, all_out}
+use Rattle.seq.proofs.SearchLaws.{all_none, all_more, all_not, all_out}
 use Rattle.layout.proofs.bytes.no_zero.Given as goal
 
 abbrev pub invariant-loop-k : goal.invariant-loop-k

@@ -5,8 +5,8 @@ use Prim.Native.Nat.{◌*◌, ◌≤◌, ◌-◌}
 use native.Mathlib.Omega.{arith}
 use borrow.Author.Rules.{rules}
 use Rattle.seq.specs.Bytes.{zeros}
-use Rattle.seq.specs.SearchLaws.{all_none}
-use Rattle.seq.specs.ZeroLaws.{piece_zero, piece_other}
+use Rattle.seq.proofs.SearchLaws.{all_none}
+use Rattle.seq.proofs.ZeroLaws.{piece_zero, piece_other}
 use Rattle.layout.proofs.bytes.pieces_zero.Goals as goal
 
 pub loop-k-init : goal.loop-k-init

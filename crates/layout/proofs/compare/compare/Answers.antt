@@ -6,9 +6,9 @@ use native.Mathlib.Omega.{arith}
 use borrow.Author.Rules.{rules}
 use Rattle.seq.specs.Truth.{fails, holds}
 use Rattle.seq.specs.Search.{any}
-use Rattle.seq.specs.SearchLaws.{any_none, any_miss}
+use Rattle.seq.proofs.SearchLaws.{any_none, any_miss}
 use Rattle.seq.specs.Compare.{piece_differs}
-use Rattle.seq.specs.CompareLaws.{lengths_differ, piece_differs_lem}
+use Rattle.seq.proofs.CompareLaws.{lengths_differ, piece_differs_lem}
 use Rattle.layout.proofs.compare.compare.Goals as goal
 
 pub returns-then-a-b : goal.returns-then-a-b

@@ -2,7 +2,7 @@
 use native.Mathlib.Omega.{arith}
 use borrow.Author.Rules.{rules}
 use Rattle.seq.specs.Bytes.{part}
-use Rattle.seq.specs.CompareLaws.{nothing_left, last_decides}
+use Rattle.seq.proofs.CompareLaws.{nothing_left, last_decides}
 use Rattle.layout.proofs.compare.last.Goals as goal
 
 pub returns-then-at-n : goal.returns-then-at-n

@@ -4,7 +4,7 @@ use native.Mathlib.Omega.{arith}
 use borrow.Author.Rules.{rules}
 use Rattle.seq.specs.Truth.{fails, holds}
 use Rattle.seq.specs.Bytes.{part}
-use Rattle.seq.specs.CompareLaws.{ends_differ, ends_decide}
+use Rattle.seq.proofs.CompareLaws.{ends_differ, ends_decide}
 use Rattle.layout.proofs.compare.same_short.Goals as goal
 
 pub returns-then-not-same_four : goal.returns-then-not-same_four

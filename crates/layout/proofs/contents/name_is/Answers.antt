@@ -3,7 +3,7 @@ use mathlib.Core.Path.{sym}
 use borrow.Author.Rules.{rules}
 use borrow.Author.Tests.{eq-eqb, ne_eqb}
 use Rattle.layout.specs.Contents.{name_is}
-use Rattle.layout.specs.ContentsLaws.{name_last}
+use Rattle.layout.proofs.ContentsLaws.{name_last}
 use Rattle.layout.proofs.contents.name_is.Goals as goal
 
 pub returns-then-image-at : goal.returns-then-image-at

@@ -1,7 +1,7 @@
 -- `layout::contents::read` meets its contract. Assumes nothing.
 use mathlib.Core.Path.{sym, ◌∙◌}
 use borrow.Author.Rules.{rules}
-use Rattle.layout.specs.ContentsLaws.{contents_short, contents_right, contents_wrong}
+use Rattle.layout.proofs.ContentsLaws.{contents_short, contents_right, contents_wrong}
 use Rattle.layout.proofs.contents.read.Goals as goal
 
 pub returns-then-image-lt-CONTENTS_BYTES : goal.returns-then-image-lt-CONTENTS_BYTES

@@ -3,7 +3,7 @@ use mathlib.Core.Path.{sym, ◌∙◌, ap}
 use lib.Dec.{leb}
 use borrow.Author.Rules.{rules}
 use Rattle.seq.specs.Truth.{fails, holds}
-use Rattle.layout.specs.ContentsLaws.{row_name, row_offset_lem, row_few, row_count}
+use Rattle.layout.proofs.ContentsLaws.{row_name, row_offset_lem, row_few, row_count}
 use Rattle.layout.proofs.contents.row_is.Goals as goal
 
 pub returns-then-not-name_is : goal.returns-then-not-name_is

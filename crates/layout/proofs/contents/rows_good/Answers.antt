@@ -7,7 +7,7 @@ use borrow.Author.Rules.{rules}
 use Rattle.seq.specs.Truth.{fails, holds}
 use Rattle.layout.specs.Place.{image_bytes}
 use Rattle.layout.specs.ContentsRead.{row_good}
-use Rattle.layout.specs.ContentsLaws.{rows_not, rows_end, image_fits}
+use Rattle.layout.proofs.ContentsLaws.{rows_not, rows_end, image_fits}
 use Rattle.layout.proofs.contents.rows_good.Goals as goal
 
 pub returns-then-not-row_is : goal.returns-then-not-row_is

@@ -2,7 +2,7 @@
 use native.Mathlib.Omega.{arith}
 use lib.Dec.{lit<}
 use borrow.Author.Rules.{rules}
-use Rattle.layout.specs.PlaceLaws.{place_inside}
+use Rattle.layout.proofs.PlaceLaws.{place_inside}
 use Rattle.layout.proofs.place.entry.Goals as goal
 
 pub overflow_mul-result-2 : goal.overflow_mul-result-2

@@ -3,8 +3,8 @@ use mathlib.Core.Path.{refl}
 use native.Mathlib.Omega.{arith}
 use lib.Dec.{lit<}
 use borrow.Author.Rules.{rules}
-use Rattle.layout.specs.PlaceLaws.{place_inside}
-use Rattle.layout.specs.RecordLaws.{reads_record}
+use Rattle.layout.proofs.PlaceLaws.{place_inside}
+use Rattle.layout.proofs.RecordLaws.{reads_record}
 use Rattle.layout.proofs.records.entry.Goals as goal
 
 pub overflow_add-result : goal.overflow_add-result

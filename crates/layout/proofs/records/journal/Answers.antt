@@ -2,7 +2,7 @@
 use mathlib.Core.Path.{refl}
 use lib.Dec.{lit<}
 use borrow.Author.Rules.{rules}
-use Rattle.layout.specs.RecordLaws.{reads_record}
+use Rattle.layout.proofs.RecordLaws.{reads_record}
 use Rattle.layout.proofs.records.journal.Goals as goal
 
 pub returns : goal.returns

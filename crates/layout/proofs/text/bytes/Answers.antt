@@ -2,7 +2,7 @@
 use mathlib.Core.Path.{◌∙◌, ap}
 use borrow.Author.Rules.{rules}
 use Rattle.seq.specs.Bytes.{part}
-use Rattle.seq.specs.BytesLaws.{part_range}
+use Rattle.seq.proofs.BytesLaws.{part_range}
 use Rattle.layout.proofs.text.bytes.Goals as goal
 
 pub returns : goal.returns

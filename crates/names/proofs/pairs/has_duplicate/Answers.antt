@@ -4,7 +4,7 @@ use mathlib.Core.Bool.{false}
 use Prim.Native.Nat.{◌≤◌, ◌-◌}
 use borrow.Author.Rules.{rules}
 use Rattle.seq.specs.Search.{any}
-use Rattle.seq.specs.SearchLaws.{any_none, any_miss, any_hit, any_turn, any_out}
+use Rattle.seq.proofs.SearchLaws.{any_none, any_miss, any_hit, any_turn, any_out}
 use Rattle.layout.specs.View.{view_of}
 use Rattle.names.specs.Name.{clash}
 use Rattle.names.specs.NameTests.{has_duplicate}

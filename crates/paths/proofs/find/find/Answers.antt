@@ -5,7 +5,7 @@ use Prim.Native.Nat.{◌≤◌, ◌-◌}
 use native.Mathlib.Omega.{arith}
 use borrow.Author.Rules.{rules}
 use Rattle.seq.specs.Search.{any}
-use Rattle.seq.specs.SearchLaws.{any_none, any_miss, first_hit, first_out}
+use Rattle.seq.proofs.SearchLaws.{any_none, any_miss, first_hit, first_out}
 use Rattle.layout.specs.View.{view_of}
 use Rattle.paths.specs.Lookup.{is_named, lookup}
 use Rattle.paths.proofs.find.find.Goals as goal

@@ -5,7 +5,7 @@ use Prim.Native.Nat.{◌≤◌, ◌-◌}
 use borrow.Author.Rules.{rules}
 use Rattle.layout.specs.View.{view_of}
 use Rattle.paths.specs.LookupFacts.{Skips}
-use Rattle.paths.specs.LookupLaws.{skip_more}
+use Rattle.paths.proofs.LookupLaws.{skip_more}
 use Rattle.paths.proofs.find.held_from.Given as goal
 
 abbrev pub invariant-loop-j : goal.invariant-loop-j

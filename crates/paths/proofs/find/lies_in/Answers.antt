@@ -3,7 +3,7 @@ use mathlib.Core.Path.{ap}
 use lib.Dec.{eqb}
 use borrow.Author.Rules.{rules}
 use Rattle.layout.specs.Fields.{entry_parent}
-use Rattle.layout.specs.RecordLaws.{field_of}
+use Rattle.layout.proofs.RecordLaws.{field_of}
 use Rattle.layout.specs.View.{view_of}
 use Rattle.paths.proofs.find.lies_in.Goals as goal
 

@@ -2,7 +2,7 @@
 use mathlib.Core.Path.{sym, ◌∙◌}
 use mathlib.Core.Bool.{false≢true}
 use borrow.Author.Rules.{rules}
-use Rattle.paths.specs.LookupLaws.{skip_four}
+use Rattle.paths.proofs.LookupLaws.{skip_four}
 use Rattle.paths.proofs.find.one_of_four.Goals as goal
 
 pub returns-then-lies_in : goal.returns-then-lies_in

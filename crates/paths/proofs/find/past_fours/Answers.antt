@@ -3,7 +3,7 @@ use Prim.Native.Nat.{◌≤◌, ◌-◌}
 use borrow.Author.Rules.{rules}
 use Rattle.layout.specs.View.{view_of}
 use Rattle.paths.specs.LookupFacts.{Skips}
-use Rattle.paths.specs.LookupLaws.{skip_none, skip_join}
+use Rattle.paths.proofs.LookupLaws.{skip_none, skip_join}
 use Rattle.paths.proofs.find.past_fours.Goals as goal
 
 pub loop-j-init : goal.loop-j-init

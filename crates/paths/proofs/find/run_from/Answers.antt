@@ -4,7 +4,7 @@ use mathlib.Core.Bool.{false}
 use Prim.Native.Nat.{◌≤◌, ◌-◌}
 use borrow.Author.Rules.{rules}
 use Rattle.seq.specs.Search.{any}
-use Rattle.seq.specs.SearchLaws.{any_miss}
+use Rattle.seq.proofs.SearchLaws.{any_miss}
 use Rattle.layout.specs.View.{view_of}
 use Rattle.paths.specs.Lookup.{is_named}
 use Rattle.paths.proofs.find.run_from.Goals as goal

@@ -2,7 +2,7 @@
 use mathlib.Core.Bool.{or-true}
 use borrow.Author.Tests.{eq-eqb}
 use Rattle.paths.specs.Flags.{flags_good}
-use Rattle.paths.specs.FlagLaws.{flags_last}
+use Rattle.paths.proofs.FlagLaws.{flags_last}
 use Rattle.paths.proofs.flags.good.Goals as goal
 
 pub returns-then-q-eq0 : goal.returns-then-q-eq0

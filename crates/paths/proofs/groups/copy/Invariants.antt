@@ -8,7 +8,7 @@ use lib.ListN.{length-set, length, take}
 use lib.Seq.{take-length}
 use borrow.Author.Rules.{rules}
 use Rattle.seq.specs.Bytes.{put}
-use Rattle.seq.specs.BytesLaws.{put_none, put_more}
+use Rattle.seq.proofs.BytesLaws.{put_none, put_more}
 use Rattle.paths.proofs.groups.copy.Given as goal
 
 abbrev pub invariant-loop-k : goal.invariant-loop-k

@@ -1,7 +1,7 @@
 -- `paths::groups::credentials` meets its contract. Assumes nothing.
 use native.Mathlib.Omega.{arith}
 use borrow.Author.Rules.{rules}
-use Rattle.paths.specs.GroupLaws.{credentials_read, credentials_unread}
+use Rattle.paths.proofs.GroupLaws.{credentials_read, credentials_unread}
 use Rattle.paths.proofs.groups.credentials.Goals as goal
 
 pub returns-then-list-le-GROUP_LIMIT : goal.returns-then-list-le-GROUP_LIMIT

@@ -6,10 +6,10 @@ use Prim.Native.Nat.{◌≤◌, ◌<◌, ◌-◌}
 use native.Mathlib.Omega.{arith}
 use borrow.Author.Rules.{rules}
 use Rattle.seq.specs.Search.{any}
-use Rattle.seq.specs.SearchLaws.{any_none, any_miss, any_hit, any_out}
+use Rattle.seq.proofs.SearchLaws.{any_none, any_miss, any_hit, any_out}
 use Rattle.layout.specs.Limits.{group_limit}
 use Rattle.paths.specs.Groups.{is_further, in_further}
-use Rattle.paths.specs.GroupLaws.{further_is, further_other, further_none}
+use Rattle.paths.proofs.GroupLaws.{further_is, further_other, further_none}
 use Rattle.paths.proofs.groups.in_further.Given as goal
 
 abbrev pub invariant-loop-k : goal.invariant-loop-k

@@ -6,7 +6,7 @@ use lib.ListN.{length, get_or}
 use borrow.Author.Rules.{rules}
 use borrow.Author.Tests.{eq-eqb, ne_eqb}
 use Rattle.seq.specs.Search.{any}
-use Rattle.seq.specs.SearchLaws.{any_none, any_miss, first_hit, first_out}
+use Rattle.seq.proofs.SearchLaws.{any_none, any_miss, first_hit, first_out}
 use Rattle.paths.specs.Path.{is_slash, until_slash}
 use Rattle.paths.proofs.path.name_bytes.Goals as goal
 

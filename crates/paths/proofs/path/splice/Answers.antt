@@ -4,7 +4,7 @@ use native.Mathlib.Omega.{arith}
 use lib.ListN.{length}
 use borrow.Author.Rules.{rules}
 use Rattle.seq.specs.Bytes.{put}
-use Rattle.paths.specs.WorkingPathLaws.{twice}
+use Rattle.paths.proofs.WorkingPathLaws.{twice}
 use Rattle.paths.specs.WorkingPath.{working_path}
 use Rattle.paths.proofs.path.splice.Goals as goal
 

@@ -3,10 +3,10 @@ use mathlib.Core.Path.{sym, ◌∙◌}
 use borrow.Author.Rules.{rules}
 use borrow.Author.Tests.{eq-eqb}
 use Rattle.layout.specs.Fields.{inode_mode, inode_owner, inode_group}
-use Rattle.layout.specs.RecordLaws.{field_of}
+use Rattle.layout.proofs.RecordLaws.{field_of}
 use Rattle.layout.specs.View.{view_of}
 use Rattle.paths.specs.Permission.{allows}
-use Rattle.paths.specs.PermissionLaws.{by_owner, by_group, by_others}
+use Rattle.paths.proofs.PermissionLaws.{by_owner, by_group, by_others}
 use Rattle.paths.proofs.permission.allows.Goals as goal
 
 pub returns-then-who-eq0 : goal.returns-then-who-eq0

@@ -6,7 +6,7 @@ use lib.ListN.{length, get_or}
 use borrow.Author.Rules.{rules}
 use Rattle.seq.specs.Truth.{fails, holds}
 use Rattle.seq.specs.Search.{all}
-use Rattle.seq.specs.SearchLaws.{all_none, all_more, all_not, all_out}
+use Rattle.seq.proofs.SearchLaws.{all_none, all_more, all_not, all_out}
 use Rattle.paths.specs.Portable.{is_portable_byte, is_portable}
 use Rattle.paths.proofs.portable.is_portable.Goals as goal
 

@@ -5,7 +5,7 @@ use Prim.Native.Nat.{ℕ, ◌+◌, ◌-◌, ◌≤◌}
 use lib.ListN.{length}
 use borrow.Author.Rules.{rules}
 use Rattle.recover.specs.Outcome.{applied_from}
-use Rattle.recover.specs.OutcomeLaws.{applied_first, applied_turn, applied_end}
+use Rattle.recover.proofs.OutcomeLaws.{applied_first, applied_turn, applied_end}
 use Rattle.recover.proofs.outcome.apply.Goals as goal
 
 pub loop-i-init : goal.loop-i-init

@@ -2,7 +2,7 @@
 use borrow.Author.Rules.{rules}
 use Rattle.layout.specs.View.{view_of}
 use Rattle.layout.specs.Fields.{inode_system}
-use Rattle.layout.specs.RecordLaws.{field_of}
+use Rattle.layout.proofs.RecordLaws.{field_of}
 use Rattle.refusals.proofs.parents.system.Goals as goal
 
 pub returns : goal.returns

@@ -2,7 +2,7 @@
 use mathlib.Core.Path.{sym, ◌∙◌}
 use borrow.Author.Rules.{rules}
 use Rattle.layout.specs.View.{view_of}
-use Rattle.rename.specs.FlagLaws.{exchange_missing, exchange_there, kept_there, rename_missing, rename_free}
+use Rattle.rename.proofs.FlagLaws.{exchange_missing, exchange_there, kept_there, rename_missing, rename_free}
 use Rattle.rename.proofs.flagged.judge.Goals as goal
 
 pub returns-then-c-eq-ABSENT : goal.returns-then-c-eq-ABSENT

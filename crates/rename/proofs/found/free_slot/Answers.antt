@@ -5,9 +5,9 @@ use Prim.Native.Nat.{◌≤◌, ◌-◌}
 use borrow.Author.Rules.{rules}
 use borrow.Author.Tests.{eq-eqb, ne_eqb}
 use Rattle.seq.specs.Search.{any}
-use Rattle.seq.specs.SearchLaws.{any_none, any_miss, first_hit, first_out}
+use Rattle.seq.proofs.SearchLaws.{any_none, any_miss, first_hit, first_out}
 use Rattle.layout.specs.Fields.{entry_name_length}
-use Rattle.layout.specs.RecordLaws.{field_of}
+use Rattle.layout.proofs.RecordLaws.{field_of}
 use Rattle.layout.specs.View.{view_of, entry_used}
 use Rattle.rename.specs.Order.{free_slot}
 use Rattle.rename.proofs.found.free_slot.Goals as goal

@@ -1,7 +1,7 @@
 -- `rename_steps::kinds::moved_denied` meets its contract. Assumes nothing.
 use borrow.Author.Tests.{eq-eqb, ne_eqb}
 use borrow.Author.Rules.{rules}
-use Rattle.layout.specs.ViewLaws.{is_kind_below}
+use Rattle.layout.proofs.ViewLaws.{is_kind_below}
 use Rattle.rename_steps.proofs.kinds.moved_denied.Goals as goal
 
 pub returns-then-c : goal.returns-then-c

@@ -2,7 +2,7 @@
 use mathlib.Core.Path.{sym, ◌∙◌}
 use native.Mathlib.Omega.{arith}
 use borrow.Author.Rules.{rules}
-use Rattle.layout.specs.ViewLaws.{kind_of_lem, other_kind}
+use Rattle.layout.proofs.ViewLaws.{kind_of_lem, other_kind}
 use Rattle.rename_steps.proofs.kinds.number.Goals as goal
 
 pub of_directory-requires : goal.of_directory-requires

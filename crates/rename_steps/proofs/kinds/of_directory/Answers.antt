@@ -1,6 +1,6 @@
 -- `rename_steps::kinds::of_directory` meets its contract. Assumes nothing.
 use borrow.Author.Rules.{rules}
-use Rattle.rename_steps.specs.KindLaws.{new_denied, new_passes, onto_denied, onto_full, onto_passes, onto_other}
+use Rattle.rename_steps.proofs.KindLaws.{new_denied, new_passes, onto_denied, onto_full, onto_passes, onto_other}
 use Rattle.rename_steps.proofs.kinds.of_directory.Goals as goal
 
 pub returns-then-moved_denied : goal.returns-then-moved_denied

@@ -1,6 +1,6 @@
 -- `rename_steps::kinds::of_other` meets its contract. Assumes nothing.
 use borrow.Author.Rules.{rules}
-use Rattle.rename_steps.specs.KindLaws.{other_slashed, other_new, other_directory, other_passes}
+use Rattle.rename_steps.proofs.KindLaws.{other_slashed, other_new, other_directory, other_passes}
 use Rattle.rename_steps.proofs.kinds.of_other.Goals as goal
 
 pub returns-then-c : goal.returns-then-c

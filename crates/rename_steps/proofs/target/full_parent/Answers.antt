@@ -5,7 +5,7 @@ use borrow.Author.Rules.{rules}
 use Rattle.seq.specs.Truth.{fails, holds}
 use Rattle.layout.specs.View.{view_of}
 use Rattle.layout.specs.Fields.{inode_links}
-use Rattle.layout.specs.RecordLaws.{field_of}
+use Rattle.layout.proofs.RecordLaws.{field_of}
 use Rattle.rename_steps.proofs.target.full_parent.Goals as goal
 
 pub returns-then-not-is_directory : goal.returns-then-not-is_directory

@@ -5,7 +5,7 @@ use mathlib.Core.Bool.{false}
 use Prim.Native.Nat.{◌≤◌, ◌-◌}
 use borrow.Author.Rules.{rules}
 use Rattle.seq.specs.Search.{any}
-use Rattle.seq.specs.SearchLaws.{any_none, any_turn, any_found, any_out}
+use Rattle.seq.proofs.SearchLaws.{any_none, any_turn, any_found, any_out}
 use Rattle.layout.specs.View.{view_of}
 use Rattle.rename_steps.specs.Tests.{open_on, is_opened}
 use Rattle.rename_steps.proofs.target.is_opened.Given as goal

@@ -1,7 +1,7 @@
 -- `results::records::inode` meets its contract. Assumes nothing.
 use mathlib.Core.Path.{◌∙◌}
 use borrow.Author.Rules.{rules}
-use Rattle.seq.specs.BytesLaws.{put_whole}
+use Rattle.seq.proofs.BytesLaws.{put_whole}
 use Rattle.results.proofs.records.inode.Goals as goal
 
 pub returns : goal.returns

@@ -2,9 +2,9 @@
 use mathlib.Core.Path.{refl}
 use native.Mathlib.Omega.{arith}
 use borrow.Author.Rules.{rules}
-use Rattle.plan.specs.WriteLaws.{row_put}
+use Rattle.plan.proofs.WriteLaws.{row_put}
 use Rattle.results.specs.Results.{text_row}
-use Rattle.results.specs.ResultRows.{into_le, replaced_le, text_one, text_none, results_filled}
+use Rattle.results.proofs.ResultRows.{into_le, replaced_le, text_one, text_none, results_filled}
 use Rattle.results.proofs.rows.put.Goals as goal
 
 pub put_replaced-c-requires : goal.put_replaced-c-requires

@@ -1,9 +1,9 @@
 -- `results::rows::put_always` meets its contract. Assumes nothing.
 use mathlib.Core.Path.{refl}
 use borrow.Author.Rules.{rules}
-use Rattle.plan.specs.WriteLaws.{row_put}
+use Rattle.plan.proofs.WriteLaws.{row_put}
 use Rattle.results.specs.Results.{old_row}
-use Rattle.results.specs.ResultRows.{always_filled}
+use Rattle.results.proofs.ResultRows.{always_filled}
 use Rattle.results.proofs.rows.put_always.Goals as goal
 
 pub returns : goal.returns

@@ -1,6 +1,6 @@
 -- `results::rows::put_clear` meets its contract. Assumes nothing.
 use mathlib.Core.Path.{refl}
-use Rattle.plan.specs.WriteLaws.{row_put}
+use Rattle.plan.proofs.WriteLaws.{row_put}
 use Rattle.results.specs.Results.{clear_row}
 use borrow.Author.Rules.{rules}
 use Rattle.results.proofs.rows.put_clear.Goals as goal

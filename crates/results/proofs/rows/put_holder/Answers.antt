@@ -1,6 +1,6 @@
 -- `results::rows::put_holder` meets its contract. Assumes nothing.
 use borrow.Author.Rules.{rules}
-use Rattle.plan.specs.WriteLaws.{row_put}
+use Rattle.plan.proofs.WriteLaws.{row_put}
 use Rattle.results.specs.Results.{holder_row}
 use Rattle.results.proofs.rows.put_holder.Goals as goal
 

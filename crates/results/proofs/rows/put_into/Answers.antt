@@ -1,6 +1,6 @@
 -- `results::rows::put_into` meets its contract. Assumes nothing.
 use borrow.Author.Rules.{rules}
-use Rattle.results.specs.ResultRows.{into_one, into_none}
+use Rattle.results.proofs.ResultRows.{into_one, into_none}
 use Rattle.results.proofs.rows.put_into.Goals as goal
 
 pub returns-then-m : goal.returns-then-m

@@ -1,8 +1,8 @@
 -- `results::rows::put_replaced` meets its contract. Assumes nothing.
 use borrow.Author.Rules.{rules}
-use Rattle.plan.specs.WriteLaws.{row_put}
+use Rattle.plan.proofs.WriteLaws.{row_put}
 use Rattle.results.specs.Results.{replaced_row}
-use Rattle.results.specs.ResultRows.{replaced_one, replaced_none}
+use Rattle.results.proofs.ResultRows.{replaced_one, replaced_none}
 use Rattle.results.proofs.rows.put_replaced.Goals as goal
 
 pub returns-then-m-eq-ABSENT : goal.returns-then-m-eq-ABSENT

@@ -1,6 +1,6 @@
 -- `results::rows::put_start` meets its contract. Assumes nothing.
 use borrow.Author.Rules.{rules}
-use Rattle.plan.specs.WriteLaws.{row_put}
+use Rattle.plan.proofs.WriteLaws.{row_put}
 use Rattle.results.specs.Start.{start_row}
 use Rattle.results.proofs.rows.put_start.Goals as goal
 

@@ -5,10 +5,10 @@ use native.Mathlib.Omega.{arith}
 use borrow.Author.Rules.{rules}
 use Rattle.seq.specs.Truth.{fails, holds}
 use Rattle.layout.specs.Fields.{inode_field}
-use Rattle.layout.specs.RecordLaws.{field_of}
+use Rattle.layout.proofs.RecordLaws.{field_of}
 use Rattle.layout.specs.View.{view_of, is_directory}
-use Rattle.layout.specs.ViewLaws.{is_kind_below}
-use Rattle.tallies.specs.TopsLaws.{above_root, above_none, above_on, above_out}
+use Rattle.layout.proofs.ViewLaws.{is_kind_below}
+use Rattle.tallies.proofs.TopsLaws.{above_root, above_none, above_on, above_out}
 use Rattle.tallies.proofs.tops.above.Goals as goal
 
 pub returns-then-i-eq0 : goal.returns-then-i-eq0

@@ -5,7 +5,7 @@ use lib.ListN.{get_or}
 use borrow.Author.Rules.{rules}
 use Rattle.tables.specs.Table.{Within}
 use Rattle.tallies.specs.Rounds.{round, Rooted}
-use Rattle.tallies.specs.RoundsLaws.{round_none, round_turn, rooted_turn, within_turn}
+use Rattle.tallies.proofs.RoundsLaws.{round_none, round_turn, rooted_turn, within_turn}
 use Rattle.tallies.proofs.tops.climb.Goals as goal
 
 pub loop-i-init : goal.loop-i-init

@@ -5,7 +5,7 @@ use lib.ListN.{get_or}
 use borrow.Author.Rules.{rules}
 use Rattle.tables.specs.Table.{Within}
 use Rattle.tallies.specs.Rounds.{round, Rooted}
-use Rattle.tallies.specs.RoundsLaws.{round_none, round_turn, rooted_turn, within_turn}
+use Rattle.tallies.proofs.RoundsLaws.{round_none, round_turn, rooted_turn, within_turn}
 use Rattle.tallies.proofs.tops.climb.Given as goal
 
 -- `tallies::tops::climb` meets its contract. Assumes nothing.

@@ -5,9 +5,9 @@ use native.Mathlib.Omega.{arith}
 use borrow.Author.Rules.{rules}
 use Rattle.layout.specs.View.{view_of}
 use Rattle.tallies.specs.Rounds.{Climbed}
-use Rattle.tallies.specs.RoundsLaws.{table_climbed, climbed_within, round_climbed}
+use Rattle.tallies.proofs.RoundsLaws.{table_climbed, climbed_within, round_climbed}
 use Rattle.tallies.specs.Tallies.{above}
-use Rattle.tallies.specs.TopsLaws.{above_in, tops_far, tops_rooted}
+use Rattle.tallies.proofs.TopsLaws.{above_in, tops_far, tops_rooted}
 use Rattle.tallies.proofs.tops.tops.Given as goal
 
 abbrev pub invariant-loop-size : goal.invariant-loop-size

@@ -1,8 +1,8 @@
 -- `walk::both::both` meets its contract. Assumes nothing.
 use borrow.Author.Rules.{rules}
 use Rattle.layout.specs.View.{view_of}
-use Rattle.paths.specs.RequestLaws.{good_old, good_new}
-use Rattle.walk.specs.BothLaws.{both_refused, both_walked}
+use Rattle.paths.proofs.RequestLaws.{good_old, good_new}
+use Rattle.walk.proofs.BothLaws.{both_refused, both_walked}
 use Rattle.walk.proofs.both.both.Goals as goal
 
 pub walk-first-requires : goal.walk-first-requires

@@ -4,19 +4,18 @@ use borrow.Author.Rules.{rules}
 use Rattle.layout.specs.View.{view_of}
 use Rattle.layout.specs.Limits.{step_limit}
 use Rattle.component.specs.State.{position_of, Fit}
-use Rattle.component.specs.StateLaws.{begins_at, begins_fit}
+use Rattle.component.proofs.StateLaws.{begins_at, begins_fit}
 use Rattle.walk.specs.Walk.{walk_from, begun}
-use Rattle.walk.specs.WalkLaws.{begun_bare, begun_walks}
-use Rattle.walk.specs.AnswerLaws.{ended_as}
+use Rattle.walk.proofs.WalkLaws.{begun_bare, begun_walks}
+use Rattle.walk.proofs.AnswerLaws.{ended_as}
 use Rattle.walk.proofs.resolve.from_start.Goals as goal
 
 pub returns-then-is_bare : goal.returns-then-is_bare
 returns-then-is_bare c =
     let args = c.args in
     let v = view_of args.h args.image.now in
-    let start = c.start-1 in
     ended_as _ _ _ c.stop-then-is_bare.ensures
-    (begun_bare v args.who args.last args.start _ _ args.path.now start.given.1 (sym c.is_bare.ensures ∙ c.if-is_bare.true))
+    (begun_bare v args.who args.last args.start _ _ args.path.now c.in-At.is (sym c.is_bare.ensures ∙ c.if-is_bare.true))
 
 pub run-requires : goal.run-requires
 run-requires c =
@@ -36,10 +35,9 @@ pub returns-else-is_bare : goal.returns-else-is_bare
 returns-else-is_bare c =
     let args = c.args in
     let v = view_of args.h args.image.now in
-    let start = c.start-1 in
     let is-bare = c.is_bare in
     let if1 = c.if-is_bare in
     let p = ap position_of c.begin-w.ensures ∙ begins_at args.path.now _ _ in
     ended_as _ _ _ c.run.ensures
-    (begun_walks v args.who args.last args.start _ _ args.path.now start.given.1 (sym is-bare.ensures ∙ if1.false)
+    (begun_walks v args.who args.last args.start _ _ args.path.now c.in-At.is (sym is-bare.ensures ∙ if1.false)
     ∙ sym (ap (λ w. walk_from v args.who args.last step_limit w) p))

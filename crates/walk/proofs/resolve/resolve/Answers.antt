@@ -3,8 +3,8 @@ use mathlib.Core.Path.{sym, ◌∙◌, ap}
 use borrow.Author.Rules.{rules}
 use Rattle.layout.specs.View.{view_of}
 use Rattle.walk.specs.Walk.{begun}
-use Rattle.walk.specs.WalkLaws.{walk_empty, walk_long, walk_begins}
-use Rattle.walk.specs.AnswerLaws.{ended_as}
+use Rattle.walk.proofs.WalkLaws.{walk_empty, walk_long, walk_begins}
+use Rattle.walk.proofs.AnswerLaws.{ended_as}
 use Rattle.walk.proofs.resolve.resolve.Goals as goal
 
 pub returns-then-path-eq0 : goal.returns-then-path-eq0

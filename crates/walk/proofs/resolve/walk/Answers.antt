@@ -1,8 +1,8 @@
 -- `walk::resolve::walk` meets its contract: the definition's bound and the facts of its ends are the answer's. Assumes nothing.
 use borrow.Author.Rules.{rules}
 use Rattle.layout.specs.View.{view_of}
-use Rattle.layout.specs.ViewLaws.{readable_text}
-use Rattle.walk.specs.AnswerLaws.{walk_answered}
+use Rattle.layout.proofs.ViewLaws.{readable_text}
+use Rattle.walk.proofs.AnswerLaws.{walk_answered}
 use Rattle.walk.proofs.resolve.walk.Goals as goal
 
 pub returns : goal.returns

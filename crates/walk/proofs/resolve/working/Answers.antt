@@ -2,7 +2,7 @@
 use mathlib.Core.Path.{◌∙◌}
 use native.Mathlib.Omega.{arith}
 use borrow.Author.Rules.{rules}
-use Rattle.seq.specs.BytesLaws.{put_zeros}
+use Rattle.seq.proofs.BytesLaws.{put_zeros}
 use Rattle.paths.specs.WorkingPath.{working_path}
 use Rattle.layout.specs.Limits.{path_bytes}
 use Rattle.walk.proofs.resolve.working.Goals as goal

@@ -1,0 +1,4 @@
+pub mod FindLaws
+pub mod ApplyLaws
+pub mod Laws
+pub mod Bench

@@ -1,0 +1,5 @@
+pub mod DecisionLaws
+pub mod StateLaws
+pub mod Splice
+pub mod Turns
+pub mod WayLaws

@@ -1,0 +1,37 @@
+-- What the state of a walk says of its position: where it begins, and what a component leaves of it. Assumes nothing.
+use Rattle.std.specs.Prelude.{◌≡◌, refl, Bool, false, List, ℕ, ◌-◌, ◌≤◌, length}
+use Rattle.std.proofs.Common.{sym, ap, ◌∙◌, subst, arith}
+use Rattle.seq.proofs.BytesLaws.{part_length}
+use Rattle.layout.specs.Limits.{path_limit}
+use Rattle.paths.specs.Path.{bare}
+use Rattle.paths.proofs.WorkingPathLaws.{filled_length, filled_part}
+use Rattle.component.specs.declared.state.Found.{Found}
+use Rattle.component.specs.declared.state.Found.TheVariants.{Missing}
+use Rattle.component.specs.declared.state.Leave.TheVariants.{Goes}
+use Rattle.component.specs.declared.state.Turn.{Turn}
+use Rattle.component.specs.declared.state.Walk.{Walk}
+use Rattle.component.specs.Step.{Step, goes}
+use Rattle.component.specs.State.{rest_from, position_of, leave_of, Ranged, Fit, Left, Turned, beginning}
+
+-- where a walk begins
+module _ (path : List ℕ) (directory : ℕ) (waived : Bool) where
+  pub begins_at : position_of (beginning path directory waived) ≡ record { rest = path; directory = directory; links = 0; steps = 0; waived = waived }
+  begins_at = rw (filled_part path (length path) refl)
+
+  pub begins_fit : length path ≤ path_limit → bare path ≡ false → Fit (beginning path directory waived)
+  begins_fit short more =
+      record { within = omega arith; short = short; whole = filled_length path (omega arith); more = rw (filled_part path (length path) refl) more }
+
+-- what an answer says where the walk goes on, and what it has left to read
+pub turned_goes : (r : Turn) (x : Step) → Turned r x → r.leave ≡ Goes → x ≡ goes (position_of r.walk)
+turned_goes r x turned e = sym turned.is ∙ ap (λ y. leave_of r.walk y) e
+
+pub turned_fit : (r : Turn) (x : Step) → Turned r x → r.leave ≡ Goes → Fit r.walk
+turned_fit r x turned e = subst (λ y. Left r.walk y) e turned.left
+
+pub fit_short : (w : Walk) → Fit w → length (rest_from w w.at) ≤ path_limit
+fit_short w fit = let l = part_length w.path w.at (w.len - w.at) (omega (arith, fit.within, fit.short, fit.whole)) in omega (arith, fit.short)
+
+-- a missing name is a range of the working path
+pub missing_range : (path : List ℕ) (f : Found) (d a e : ℕ) (slash : Bool) → Ranged path f → f ≡ Missing d a e slash → (a ≤ e) × (e ≤ length path)
+missing_range path f d a e slash ranged is = subst (λ (x : Found). Ranged path x) is ranged

@@ -1,0 +1,10 @@
+pub mod EntryLaws
+pub mod EntryFits
+pub mod StateTests
+pub mod TextLaws
+pub mod ConsistentLaws
+pub mod Bench
+pub mod RecordFactLaws
+pub mod SoundFacts
+pub mod CheckedLaws
+pub mod FactLaws

@@ -1,0 +1,15 @@
+pub mod PickLaws
+pub mod TurnLaws
+pub mod StoreLaws
+pub mod SettleLaws
+pub mod OpeningLaws
+pub mod InvariantLaws
+pub mod FinishLaws
+pub mod CrashProof
+pub mod OrderLaws
+pub mod FormLaws
+pub mod Planned
+pub mod ChainLaws
+pub mod Example
+pub mod FormExample
+pub mod QueuePlacesLaws

@@ -1,0 +1,11 @@
+pub mod Begun
+pub mod Reached
+pub mod Called
+pub mod Exchanges
+pub mod Demand1Proof
+pub mod RetoldLaws
+pub mod OutlivesProof
+pub mod Planned
+pub mod Demand2Proof
+pub mod Demand3Proof
+pub mod ExchangeDemand3Proof

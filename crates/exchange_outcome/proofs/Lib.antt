@@ -1,0 +1,9 @@
+pub mod ExchangePlanLaws
+pub mod PairedLaws
+pub mod SlotLaws
+pub mod PlanRows
+pub mod Applied
+pub mod Finished
+pub mod Consistent
+pub mod Way
+pub mod Bench

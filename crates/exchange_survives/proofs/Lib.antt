@@ -1,0 +1,4 @@
+pub mod Slots
+pub mod Recovers
+pub mod Safe
+pub mod SurvivesProof

@@ -1,0 +1,9 @@
+pub mod BuffersLaws
+pub mod RecoveryLaws
+pub mod Owed
+pub mod Safe
+pub mod After
+pub mod MixedLaws
+pub mod Levels
+pub mod Example
+pub mod JobRowsLaws

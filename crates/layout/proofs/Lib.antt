@@ -1,0 +1,6 @@
+pub mod PlaceLaws
+pub mod ContentsLaws
+pub mod RecordLaws
+pub mod Commute
+pub mod ViewLaws
+pub mod Bench

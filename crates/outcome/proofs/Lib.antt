@@ -1,0 +1,10 @@
+pub mod RenamePlanLaws
+pub mod Rows
+pub mod Whole
+pub mod Inodes
+pub mod CalledLaws
+pub mod Finished
+pub mod Applied
+pub mod Consistent
+pub mod Bench
+pub mod PlanRows

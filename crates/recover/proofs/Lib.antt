@@ -1,0 +1,4 @@
+pub mod JobLaws
+pub mod Bounds
+pub mod OutcomeLaws
+pub mod Outs

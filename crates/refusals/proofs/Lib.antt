@@ -1,0 +1,3 @@
+pub mod WithinLaws
+pub mod DecideLaws
+pub mod PassesLaws

@@ -1,0 +1,7 @@
+pub mod Way
+pub mod Pending
+pub mod Behind
+pub mod Recovers
+pub mod PlanSurvivesProof
+pub mod Safe
+pub mod SurvivesProof

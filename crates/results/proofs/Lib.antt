@@ -1,0 +1,4 @@
+pub mod Records
+pub mod Again
+pub mod Owed
+pub mod ResultRows

@@ -1,0 +1,3 @@
+pub mod TalliesLaws
+pub mod RoundsLaws
+pub mod TopsLaws

@@ -1,0 +1,5 @@
+pub mod WalkLaws
+pub mod Bound
+pub mod EndLaws
+pub mod AnswerLaws
+pub mod BothLaws

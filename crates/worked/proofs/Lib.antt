@@ -1,0 +1,3 @@
+pub mod Renamed
+pub mod Recovered
+pub mod Exchanged
