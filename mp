@@ -9,40 +9,39 @@ say() { echo "mp: $*" >&2; }
 
 needs() { command -v "$1" >/dev/null 2>&1 || { say "the command $1 is needed to build $2, and it is not on the PATH"; exit 2; }; }
 
-# Whether a file is missing, or older than something in the folders behind it.
+# Whether a file is missing, or older than something in the folders behind it; what the prover keeps in out/ is none of it.
 is_old() {
     file=$1
     shift
-    [ ! -e "$file" ] || [ -n "$(find "$@" -type f -newer "$file" -print | head -n 1)" ]
+    [ ! -e "$file" ] || [ -n "$(find "$@" -name out -prune -o -type f -newer "$file" -print | head -n 1)" ]
 }
 
 # How many crates the library is made of: itself, and all that it uses.
 crates() {
-    awk '{ sub(/#.*/, "") } split($0, side, ":") == 2 { uses[side[1]] = side[2] }
+    awk '{ sub(/#.*/, "") } split($0, side, ":") == 2 { sub(/ .*/, "", side[1]); uses[side[1]] = side[2] }
         function reach(name,  list, i) {
             if (name in seen) return
             seen[name]
             count++
             for (i = split(uses[name], list, " "); i; i--) if (list[i] in uses) reach(list[i])
         }
-        END { reach("mirepillar"); print count }' "$root/crates.txt"
+        END { reach("mirepillar_c"); print count }' "$root/crates.txt"
 }
 
-# The prover tells much; what a person waits for is how far it is. Crates are proved two or more at a time, and then the library is made of them.
+# The prover tells much; what a person waits for is how far it is. Crates are proved one after the other, and not again where they have not changed.
 prove() {
-    cd "$root"
-    rt check mirepillar && rt staticlib mirepillar && touch "$archive"
+    "$root/tools/archive" && touch "$archive"
 }
 progress() { # TOTAL
-    say "proving 1 of $1"
-    done=0
+    begun=0
     while IFS= read -r line; do
         case $line in
-        'rt: '*' proved ('*)
-            done=$((done + 1))
-            [ $done -ge "$1" ] || say "proving $((done + 1)) of $1"
+        'rt: chose '*' for '*)
+            begun=$((begun + 1))
+            say "proving ${line##* }, $begun of at most $1"
             ;;
-        'rt: '*NOT* | 'rt: '*FAILED*) say "${line#rt: }" ;;
+        'rt: the library '*' did not build'* | 'rt: mend '*) say "${line#rt: }" ;;
+        'rattle build: '*) say "${line#rattle build: }" ;;
         esac
     done
 }

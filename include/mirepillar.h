@@ -1,5 +1,5 @@
 /*
- * Mirepillar's C interface: link with libmirepillar.a, which `rt staticlib mirepillar` makes.
+ * Mirepillar's C interface: link with libmirepillar.a, which tools/archive makes.
  *
  * A buffer is a pointer and its length in bytes, a list of groups a pointer and their number. Where
  * the length is 0 the pointer is not used and may be NULL. Any bytes may be given: no function asks for more than buffers that do not overlap.
@@ -8,8 +8,8 @@
  *
  * The functions keep nothing between calls: any threads may call them at once, as long as no buffer
  * that one call writes is given to another. They take no memory from the heap, open no file and do
- * not sleep. The stack that they need beside their buffers, on x86-64 and at most: mp_check 12,936 bytes,
- * mp_rename 14,392, mp_repair 13,832, mp_land 152 (tests/stack/run reads it from the compiled code).
+ * not sleep. The stack that they need beside their buffers, on x86-64 and at most: mp_check 12,920 bytes,
+ * mp_rename 14,424, mp_repair 13,816, mp_land 176 (tests/stack/run reads it from the compiled code).
  */
 #ifndef MIREPILLAR_H
 #define MIREPILLAR_H

@@ -19,10 +19,7 @@ fn main() {
     println!("cargo:rerun-if-env-changed={FOLDER}");
     println!("cargo:rerun-if-changed={}", archive.display());
     if !archive.exists() {
-        eprintln!(
-            "{} does not exist: make it with `rt staticlib mirepillar`, or name its folder in {FOLDER}.",
-            archive.display()
-        );
+        eprintln!("{} does not exist: make it with tools/archive, or name its folder in {FOLDER}.", archive.display());
         std::process::exit(1);
     }
     println!("cargo:rustc-link-search=native={}", folder.display());

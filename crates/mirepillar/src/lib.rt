@@ -1,4 +1,4 @@
-// The C interface: include/mirepillar.h declares these functions.
+// The jobs as a program calls them: every answer is one number. The crate mirepillar_c exports them to C, and include/mirepillar.h declares them.
 #![tactic(auto)]
 
 ghost use Rattle.std.specs.Prelude.{◌≡◌};
@@ -13,8 +13,7 @@ use paths::request::{Request, Starts};
 use rename::Renamed;
 
 // The job check. The number is the whole result.
-#[unsafe(no_mangle)]
-pub extern "C" fn mp_check(image: &[u8]) -> u64
+pub fn mp_check(image: &[u8]) -> u64
     ensures { result ≡ check_number image.now }
 {
     let number = consistency::check(image);
@@ -30,8 +29,7 @@ fn pack(r: Renamed) -> u64
 }
 
 // The job rename, or with its flag the exchange. The groups are those beside the effective one; of a list that is too long none is read. The starts of old and new are from and into.
-#[unsafe(no_mangle)]
-pub extern "C" fn mp_rename(
+pub fn mp_rename(
     image: &[u8],
     user: u32,
     group: u32,
@@ -63,16 +61,14 @@ pub extern "C" fn mp_rename(
 }
 
 // The job land, with its row taken as all 64 bits. The number is the whole result.
-#[unsafe(no_mangle)]
-pub extern "C" fn mp_land(image: &mut [u8], plan: &[u8], row: u64) -> u64
+pub fn mp_land(image: &mut [u8], plan: &[u8], row: u64) -> u64
     ensures { (result ≡ apply_number image.old plan.now row) × (image.new ≡ applied_image image.old plan.now row) }
 {
     apply::land(image, plan, row) as u64
 }
 
 // The job repair. Its result has no counts.
-#[unsafe(no_mangle)]
-pub extern "C" fn mp_repair(image: &[u8], plan: &mut [u8], scratch: &mut [u8]) -> u64
+pub fn mp_repair(image: &[u8], plan: &mut [u8], scratch: &mut [u8]) -> u64
     ensures { (result ≡ packed (without_walks (recovered plan.old scratch.old image.now))) × (plan.new ≡ (recovered plan.old scratch.old image.now).plan) × (scratch.new ≡ (recovered plan.old scratch.old image.now).scratch) }
 {
     let a = recover::recover(image, plan, scratch);
