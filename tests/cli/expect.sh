@@ -6,9 +6,6 @@ wrong() {
     exit 1
 }
 
-# What this machine cannot show is told in a line of its own, which the gate passes on.
-left_out() { echo "left out: $1"; }
-
 # Runs a command, and keeps its status, standard output and standard error.
 run() {
     status=0

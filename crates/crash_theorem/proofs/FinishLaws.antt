@@ -1,7 +1,7 @@
 -- Recovery can always be carried through: after a crash some further events end with its rows all applied. Assumes nothing.
 use Rattle.std.specs.Prelude.{◌≡◌, refl, Bool, true, false, ◌||◌, List, [], ◌∷◌, ℕ, zero, suc, ◌≤◌, T, length}
 use Rattle.std.proofs.Common.{sym, subst, ⊎_elim, arith}
-use Rattle.std.proofs.Math.Option.{Option, none, some}
+use Rattle.std.proofs.Math.Option.{Option, some}
 use Rattle.crash_theorem.specs.Pick.{null, Pick, here, there, Picked, pick}
 use Rattle.crash_theorem.proofs.PickLaws.{empty_null}
 use Rattle.crash_theorem.specs.Turn.{lowest}

@@ -5,7 +5,6 @@ use Rattle.std.proofs.Common.{ap, ◌∙◌, arith}
 use Rattle.std.proofs.Math.Bool.{not}
 use Rattle.std.proofs.Math.Dec.{eqb}
 use borrow.Author.Tests.{eqb-true, eqb-false, eq-eqb, ne_eqb, not-true, not-false, leb-false}
-use Rattle.seq.specs.Search.{first}
 use Rattle.seq.specs.Truth.{not_both, refuted}
 use Rattle.seq.proofs.SearchLaws.{first_passes}
 use Rattle.layout.specs.Limits.{absent, inode_limit}

@@ -24,7 +24,6 @@ use Rattle.outcome.specs.Outcome.{finished}
 use Rattle.outcome.specs.RenamePlan.{rename_plan}
 use Rattle.outcome.proofs.Rows.{has_apart, has_either}
 use Rattle.outcome.specs.Called.{Called}
-use Rattle.outcome.proofs.CalledLaws.{in_image}
 use Rattle.outcome.proofs.PlanRows.{results_are, section_spared, entry_spared, text_spared, inode_spared, well_formed}
 
 -- ---- which rows there are

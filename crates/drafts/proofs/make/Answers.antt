@@ -1,7 +1,6 @@
 -- `drafts::make` meets its contract. Assumes nothing.
 use mathlib.Core.Path.{◌≡◌}
 use mathlib.Core.Bool.{true}
-use borrow.Author.Rules.{rules}
 use Rattle.seq.specs.Truth.{fails, holds}
 use Rattle.layout.proofs.RecordLaws.{field_of}
 use Rattle.layout.specs.View.{journal_at}

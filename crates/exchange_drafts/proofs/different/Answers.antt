@@ -1,5 +1,4 @@
 -- `exchange_drafts::different` meets its contract. Assumes nothing.
-use borrow.Author.Rules.{rules}
 use Rattle.seq.specs.Truth.{fails, holds}
 use Rattle.exchange_drafts.proofs.different.Goals as goal
 

@@ -2,7 +2,6 @@
 use mathlib.Core.Path.{◌≡◌, ap, ◌∙◌}
 use Prim.Native.Nat.{ℕ, ◌+◌}
 use native.Mathlib.Omega.{arith}
-use borrow.Author.Rules.{rules}
 use Rattle.layout.specs.View.{view_of, inode_at}
 use Rattle.results.specs.Results.{holder_bytes}
 use Rattle.exchanges.specs.Exchange.{children_exchanged}

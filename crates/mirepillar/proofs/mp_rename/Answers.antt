@@ -1,6 +1,5 @@
 -- `mirepillar::mp_rename` meets its contract. Assumes nothing.
 use mathlib.Core.Path.{ap, ◌∙◌}
-use borrow.Author.Rules.{rules}
 use Rattle.rename.proofs.Bounds.{answers_small}
 use Rattle.mirepillar.specs.Result.{packed}
 use Rattle.mirepillar.proofs.mp_rename.Goals as goal

@@ -1,7 +1,6 @@
 -- `mirepillar::mp_repair` meets its contract. Assumes nothing.
 use mathlib.Core.Path.{ap, ◌∙◌}
 use lib.Dec.{lit≤}
-use borrow.Author.Rules.{rules}
 use Rattle.recover.specs.declared.Answer.{Answer}
 use Rattle.recover.proofs.Outs.{answers_few}
 use Rattle.mirepillar.specs.Result.{packed}

@@ -1,7 +1,6 @@
 -- `moves::move_of` meets its contract. Assumes nothing.
 use mathlib.Core.Path.{ap, ◌∙◌}
 use Rattle.moves.specs.Plan.{move_with, move_of}
-use borrow.Author.Rules.{rules}
 use Rattle.moves.proofs.move_of.Goals as goal
 
 pub returns : goal.returns

@@ -1,12 +1,10 @@
 -- `recounts::children_edited` meets its contract. Assumes nothing.
-use mathlib.Core.Path.{◌≡◌, sym}
-use Prim.Native.Nat.{◌≤◌, ◌-◌}
+use mathlib.Core.Path.{sym}
 use native.Mathlib.Omega.{arith}
 use borrow.Author.Rules.{rules}
-use Rattle.seq.specs.Search.{count}
 use Rattle.seq.proofs.SearchLaws.{count_none, count_turn, count_pass, count_out}
 use Rattle.layout.specs.View.{view_of}
-use Rattle.recounts.specs.Recount.{holds_after, children_after}
+use Rattle.recounts.specs.Recount.{children_after}
 use Rattle.recounts.proofs.children_edited.Goals as goal
 use Rattle.recounts.proofs.children_edited.Goals.{then-holds_after, else-holds_after}
 

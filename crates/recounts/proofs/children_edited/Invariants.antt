@@ -1,14 +1,10 @@
 -- `recounts::children_edited` keeps this in its loops. Assumes nothing.
 -- Invariant: found is how many slots before j will hold a child directory of d, so at most j. Measure: the slots left.
-use mathlib.Core.Path.{◌≡◌, sym}
-use mathlib.Core.Logic.{⊎_elim}
+use mathlib.Core.Path.{◌≡◌}
 use Prim.Native.Nat.{◌≤◌, ◌-◌}
-use native.Mathlib.Omega.{arith}
-use borrow.Author.Rules.{rules}
 use Rattle.seq.specs.Search.{count}
-use Rattle.seq.proofs.SearchLaws.{count_none, count_turn, count_pass, count_out}
 use Rattle.layout.specs.View.{view_of}
-use Rattle.recounts.specs.Recount.{holds_after, children_after}
+use Rattle.recounts.specs.Recount.{holds_after}
 use Rattle.recounts.proofs.children_edited.Given as goal
 
 abbrev pub invariant-loop-j : goal.invariant-loop-j

@@ -3,7 +3,6 @@ use mathlib.Core.Path.{◌≡◌, ◌∙◌, ap}
 use Prim.Native.Nat.{◌+◌, ◌≤◌}
 use native.Mathlib.Omega.{arith}
 use lib.Dec.{eqb}
-use borrow.Author.Rules.{rules}
 use Rattle.seq.specs.Count.{bit}
 use Rattle.seq.proofs.SearchLaws.{count_le}
 use Rattle.seq.specs.Truth.{holds}

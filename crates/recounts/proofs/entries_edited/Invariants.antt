@@ -1,14 +1,10 @@
 -- `recounts::entries_edited` keeps this in its loops. Assumes nothing.
 -- Invariant: found is how many slots before j will target inode i, so at most j. Measure: the slots left.
-use mathlib.Core.Path.{◌≡◌, sym}
-use mathlib.Core.Logic.{⊎_elim}
+use mathlib.Core.Path.{◌≡◌}
 use Prim.Native.Nat.{◌≤◌, ◌-◌}
-use native.Mathlib.Omega.{arith}
-use borrow.Author.Rules.{rules}
 use Rattle.seq.specs.Search.{count}
-use Rattle.seq.proofs.SearchLaws.{count_none, count_turn, count_pass, count_out}
 use Rattle.layout.specs.View.{view_of}
-use Rattle.recounts.specs.Recount.{targets_after, entries_after}
+use Rattle.recounts.specs.Recount.{targets_after}
 use Rattle.recounts.proofs.entries_edited.Given as goal
 
 abbrev pub invariant-loop-j : goal.invariant-loop-j

@@ -2,7 +2,6 @@
 use mathlib.Core.Path.{sym, ap, ◌∙◌}
 use Prim.Native.Nat.{◌+◌}
 use native.Mathlib.Omega.{arith}
-use borrow.Author.Rules.{rules}
 use Rattle.recounts.proofs.Links.{links_directory, links_other}
 use Rattle.recounts.proofs.links_after.Goals as goal
 

@@ -1,5 +1,4 @@
 -- `recounts::makes_child` meets its contract. Assumes nothing.
-use borrow.Author.Rules.{rules}
 use borrow.Author.Tests.{eq-eqb, ne_eqb}
 use Rattle.recounts.proofs.makes_child.Goals as goal
 

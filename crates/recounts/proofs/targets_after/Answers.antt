@@ -1,6 +1,5 @@
 -- `recounts::targets_after` meets its contract. Assumes nothing.
 use mathlib.Core.Path.{sym, ◌∙◌}
-use borrow.Author.Rules.{rules}
 use borrow.Author.Tests.{eq-eqb, ne_eqb}
 use Rattle.layout.specs.Fields.{entry_name_length, entry_target}
 use Rattle.layout.proofs.RecordLaws.{field_of}

@@ -5,7 +5,6 @@ use Prim.Native.Nat.{ℕ}
 use native.Mathlib.Omega.{arith}
 use Rattle.recover.specs.Outcome.{applied_from}
 use Rattle.recover.proofs.Outs.{recovered_as, ready_exact, settle_refused, settle_done}
-use borrow.Author.Rules.{rules}
 use Rattle.recover.proofs.settle.Goals as goal
 
 pub returns-then-check-ne0 : goal.returns-then-check-ne0

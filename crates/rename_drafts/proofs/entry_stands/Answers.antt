@@ -1,7 +1,6 @@
 -- `rename_drafts::entry_stands` meets its contract. Assumes nothing.
 use mathlib.Core.Path.{sym, ◌∙◌}
 use borrow.Author.Tests.{eq-eqb, ne_eqb}
-use borrow.Author.Rules.{rules}
 use Rattle.layout.specs.View.{view_of}
 use Rattle.layout.specs.Fields.{entry_name_length, entry_target}
 use Rattle.layout.proofs.RecordLaws.{field_of}

@@ -1,5 +1,4 @@
 -- `rename_drafts::fits` meets its contract. Assumes nothing.
-use borrow.Author.Rules.{rules}
 use Rattle.seq.specs.Truth.{fails, holds}
 use Rattle.rename_drafts.specs.PendingRename.{rename_fits}
 use Rattle.rename_drafts.proofs.fits.Goals as goal

@@ -1,7 +1,6 @@
 -- `rename_drafts::in_range` meets its contract. Assumes nothing.
 use mathlib.Core.Path.{sym, ◌∙◌}
 use borrow.Author.Tests.{lt-ltb, le-ltb}
-use borrow.Author.Rules.{rules}
 use Rattle.seq.specs.Truth.{fails, holds}
 use Rattle.rename_drafts.proofs.Fit.{range_last}
 use Rattle.rename_drafts.proofs.in_range.Goals as goal

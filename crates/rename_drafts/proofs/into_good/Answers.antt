@@ -1,6 +1,5 @@
 -- `rename_drafts::into_good` meets its contract. Assumes nothing.
 use borrow.Author.Tests.{eq-eqb, ne_eqb}
-use borrow.Author.Rules.{rules}
 use Rattle.seq.specs.Truth.{fails, holds}
 use Rattle.rename_drafts.specs.PendingRename.{into_good}
 use Rattle.rename_drafts.proofs.into_good.Goals as goal

@@ -1,5 +1,4 @@
 -- `rename_drafts::move_from` meets its contract. Assumes nothing.
-use borrow.Author.Rules.{rules}
 use Rattle.layout.specs.View.{view_of}
 use Rattle.layout.specs.Fields.{entry_parent}
 use Rattle.layout.proofs.RecordLaws.{field_of}

@@ -1,5 +1,4 @@
 -- `exchanges::rows::put` meets its contract. Assumes nothing.
-use borrow.Author.Rules.{rules}
 use Rattle.exchanges.proofs.ExchangeRows.{exchange_filled}
 use Rattle.exchanges.proofs.rows.put.Goals as goal
 

@@ -1,5 +1,4 @@
 -- `exchanges::rows::put_parent` meets its contract. Assumes nothing.
-use borrow.Author.Rules.{rules}
 use Rattle.plan.proofs.WriteLaws.{row_put}
 use Rattle.exchanges.specs.Exchange.{parent_row}
 use Rattle.exchanges.proofs.rows.put_parent.Goals as goal

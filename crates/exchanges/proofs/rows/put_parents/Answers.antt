@@ -1,5 +1,4 @@
 -- `exchanges::rows::put_parents` meets its contract. Assumes nothing.
-use borrow.Author.Rules.{rules}
 use Rattle.exchanges.proofs.ExchangeRows.{parents_one, parents_two}
 use Rattle.exchanges.proofs.rows.put_parents.Goals as goal
 

@@ -1,5 +1,4 @@
 -- `exchanges::rows::put_taken` meets its contract. Assumes nothing.
-use borrow.Author.Rules.{rules}
 use Rattle.plan.proofs.WriteLaws.{row_put}
 use Rattle.exchanges.specs.Exchange.{slot_row}
 use Rattle.exchanges.proofs.rows.put_taken.Goals as goal

@@ -1,6 +1,5 @@
 -- `moves::rows::make_entry` meets its contract. Assumes nothing.
 use mathlib.Core.Path.{refl}
-use borrow.Author.Rules.{rules}
 use Rattle.moves.specs.Entries.{entry_made, entry_taken}
 use Rattle.moves.proofs.rows.make_entry.Goals as goal
 

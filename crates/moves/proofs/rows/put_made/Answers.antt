@@ -1,7 +1,6 @@
 -- `moves::rows::put_made` meets its contract. Assumes nothing.
 use Rattle.plan.proofs.WriteLaws.{row_put}
 use Rattle.moves.specs.Plan.{entry_row}
-use borrow.Author.Rules.{rules}
 use Rattle.moves.proofs.rows.put_made.Goals as goal
 
 pub returns : goal.returns

@@ -1,8 +1,7 @@
 -- `recover::outcome::apply` meets its contract. Assumes nothing.
-use mathlib.Core.Path.{◌≡◌, sym, ap, ◌∙◌}
+use mathlib.Core.Path.{sym, ap, ◌∙◌}
 use mathlib.Core.List.{List}
-use Prim.Native.Nat.{ℕ, ◌+◌, ◌-◌, ◌≤◌}
-use lib.ListN.{length}
+use Prim.Native.Nat.{ℕ, ◌+◌, ◌-◌}
 use borrow.Author.Rules.{rules}
 use Rattle.recover.specs.Outcome.{applied_from}
 use Rattle.recover.proofs.OutcomeLaws.{applied_first, applied_turn, applied_end}

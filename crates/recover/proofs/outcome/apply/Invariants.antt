@@ -1,12 +1,9 @@
 -- `recover::outcome::apply` keeps this in its loops. Assumes nothing.
 -- Invariant: the rows from i on, over the image so far, give what all rows give over the first; its length stays. Measure: the rows left.
-use mathlib.Core.Path.{◌≡◌, sym, ap, ◌∙◌}
-use mathlib.Core.List.{List}
-use Prim.Native.Nat.{ℕ, ◌+◌, ◌-◌, ◌≤◌}
+use mathlib.Core.Path.{◌≡◌}
+use Prim.Native.Nat.{◌-◌, ◌≤◌}
 use lib.ListN.{length}
-use borrow.Author.Rules.{rules}
 use Rattle.recover.specs.Outcome.{applied_from}
-use Rattle.recover.proofs.OutcomeLaws.{applied_first, applied_turn, applied_end}
 use Rattle.recover.proofs.outcome.apply.Given as goal
 
 abbrev pub invariant-loop-i : goal.invariant-loop-i

@@ -1,6 +1,5 @@
 -- `rename::flagged::judge` meets its contract. Assumes nothing.
 use mathlib.Core.Path.{sym, ◌∙◌}
-use borrow.Author.Rules.{rules}
 use Rattle.layout.specs.View.{view_of}
 use Rattle.rename.proofs.FlagLaws.{exchange_missing, exchange_there, kept_there, rename_missing, rename_free}
 use Rattle.rename.proofs.flagged.judge.Goals as goal

@@ -1,5 +1,4 @@
 -- `rename::found::case_of` meets its contract, field by field. Assumes nothing.
-use borrow.Author.Rules.{rules}
 use Rattle.rename.proofs.found.case_of.Goals as goal
 
 pub returns : goal.returns

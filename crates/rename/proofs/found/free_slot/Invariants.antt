@@ -1,16 +1,10 @@
 -- `rename::found::free_slot` keeps this in its loops. Assumes nothing.
 -- Invariant: no slot before j is free. Measure: the slots left.
-use mathlib.Core.Path.{◌≡◌, sym, ◌∙◌}
+use mathlib.Core.Path.{◌≡◌}
 use mathlib.Core.Bool.{false, not}
 use Prim.Native.Nat.{◌≤◌, ◌-◌}
-use borrow.Author.Rules.{rules}
-use borrow.Author.Tests.{eq-eqb, ne_eqb}
 use Rattle.seq.specs.Search.{any}
-use Rattle.seq.proofs.SearchLaws.{any_none, any_miss, first_hit, first_out}
-use Rattle.layout.specs.Fields.{entry_name_length}
-use Rattle.layout.proofs.RecordLaws.{field_of}
 use Rattle.layout.specs.View.{view_of, entry_used}
-use Rattle.rename.specs.Order.{free_slot}
 use Rattle.rename.proofs.found.free_slot.Given as goal
 
 abbrev pub invariant-loop-j : goal.invariant-loop-j

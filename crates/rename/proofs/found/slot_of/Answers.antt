@@ -3,7 +3,6 @@ use mathlib.Core.Path.{sym, ap, ◌∙◌}
 use Rattle.layout.specs.View.{view_of}
 use Rattle.component.specs.State.{finding_of}
 use Rattle.rename.specs.Order.{slot_of}
-use borrow.Author.Rules.{rules}
 use Rattle.rename.proofs.found.slot_of.Goals as goal
 
 pub returns-in-Existing : goal.returns-in-Existing

@@ -1,6 +1,5 @@
 -- `results::records::counted` meets its contract. Assumes nothing.
 use mathlib.Core.Path.{ap, ◌∙◌}
-use borrow.Author.Rules.{rules}
 use Rattle.encode.specs.Inode.{with_links, with_modified, with_changed}
 use Rattle.results.specs.Results.{holder_bytes}
 use Rattle.results.proofs.records.counted.Goals as goal

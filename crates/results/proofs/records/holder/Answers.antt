@@ -1,7 +1,6 @@
 -- `results::records::holder` meets its contract. Assumes nothing.
 use mathlib.Core.Path.{ap, ◌∙◌}
 use Prim.Native.Nat.{ℕ}
-use borrow.Author.Rules.{rules}
 use Rattle.layout.specs.View.{inode_at}
 use Rattle.results.specs.Results.{holder_bytes}
 use Rattle.results.proofs.records.holder.Goals as goal

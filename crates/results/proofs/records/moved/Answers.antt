@@ -1,6 +1,5 @@
 -- `results::records::moved` meets its contract. Assumes nothing.
 use mathlib.Core.Path.{ap, sym, ◌∙◌}
-use borrow.Author.Rules.{rules}
 use Rattle.layout.specs.Fields.{inode_kind}
 use Rattle.encode.specs.Inode.{with_field, with_changed}
 use Rattle.results.proofs.RecordLaws.{moved_directory, moved_other}

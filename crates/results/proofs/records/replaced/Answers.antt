@@ -2,7 +2,6 @@
 use mathlib.Core.Path.{ap, ap₂, sym, ◌∙◌}
 use mathlib.Core.List.{List}
 use Prim.Native.Nat.{ℕ}
-use borrow.Author.Rules.{rules}
 use Rattle.encode.specs.Inode.{with_links, with_changed}
 use Rattle.results.proofs.RecordLaws.{replaced_freed, replaced_kept}
 use Rattle.results.proofs.records.replaced.Goals as goal

@@ -1,6 +1,5 @@
 -- `results::records::retarget` meets its contract. Assumes nothing.
 use mathlib.Core.Path.{sym, ap, ◌∙◌}
-use borrow.Author.Rules.{rules}
 use Rattle.seq.proofs.BytesLaws.{put_whole}
 use Rattle.encode.specs.Entry.{retargeted}
 use Rattle.results.proofs.records.retarget.Goals as goal

@@ -1,6 +1,5 @@
 -- `results::rows::put_always` meets its contract. Assumes nothing.
 use mathlib.Core.Path.{refl}
-use borrow.Author.Rules.{rules}
 use Rattle.plan.proofs.WriteLaws.{row_put}
 use Rattle.results.specs.Results.{old_row}
 use Rattle.results.proofs.ResultRows.{always_filled}

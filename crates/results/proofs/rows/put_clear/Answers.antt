@@ -2,7 +2,6 @@
 use mathlib.Core.Path.{refl}
 use Rattle.plan.proofs.WriteLaws.{row_put}
 use Rattle.results.specs.Results.{clear_row}
-use borrow.Author.Rules.{rules}
 use Rattle.results.proofs.rows.put_clear.Goals as goal
 
 pub returns : goal.returns

@@ -1,5 +1,4 @@
 -- `results::rows::put_holder` meets its contract. Assumes nothing.
-use borrow.Author.Rules.{rules}
 use Rattle.plan.proofs.WriteLaws.{row_put}
 use Rattle.results.specs.Results.{holder_row}
 use Rattle.results.proofs.rows.put_holder.Goals as goal

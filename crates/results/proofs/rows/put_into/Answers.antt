@@ -1,5 +1,4 @@
 -- `results::rows::put_into` meets its contract. Assumes nothing.
-use borrow.Author.Rules.{rules}
 use Rattle.results.proofs.ResultRows.{into_one, into_none}
 use Rattle.results.proofs.rows.put_into.Goals as goal
 

@@ -1,5 +1,4 @@
 -- `results::rows::put_start` meets its contract. Assumes nothing.
-use borrow.Author.Rules.{rules}
 use Rattle.plan.proofs.WriteLaws.{row_put}
 use Rattle.results.specs.Start.{start_row}
 use Rattle.results.proofs.rows.put_start.Goals as goal
