@@ -193,13 +193,13 @@ def main():
     for _, new, _ in SPLIT:
         if not os.path.isfile("crates/" + new.replace(".", "/") + ".antt"):
             parts[new.split(".")[-1]]()
-    paths = [p for part in ("specs", "proofs", "src", "must-fail") for p in glob.glob(f"crates/*/{part}/**/*", recursive=True)]
+    paths = [p for part in ("specs", "proofs", "src", "must-fail", "more-edits") for p in glob.glob(f"crates/*/{part}/**/*", recursive=True)]
     for path in sorted(paths):
         if path.endswith((".antt", ".rt", ".edit", ".control")):
             was = read(path)
             text = turn_imports(was, path)
             for name, file in EDITS.items():
-                if path.startswith(f"crates/{name}."):
+                if path.startswith((f"crates/{name}.", f"crates/{name}.".replace("must-fail", "more-edits"))):
                     text = re.sub(r"(?m)^file: .*$", f"file: {file}", text)
             if text != was:
                 write(path, text)

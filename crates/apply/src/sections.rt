@@ -43,6 +43,7 @@ fn coverable(k: usize) -> bool
 }
 
 // Whether n bytes from at on are one of count records of width bytes, the first of them at start.
+#[tactic(auto, using(crate::proofs::FindLaws::one_between, crate::proofs::FindLaws::one_index))]
 fn one_of(start: usize, width: usize, count: usize, at: usize, n: usize) -> bool
     requires { 1 ≤ width }
     ensures { result ≡ one_of start width count at n }
