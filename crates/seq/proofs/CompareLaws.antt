@@ -7,7 +7,7 @@ use native.Mathlib.Omega.{arith}
 use Rattle.std.proofs.Math.Decide.{dec_lt}
 use Rattle.std.proofs.Math.ListN.{length, get_or}
 use borrow.Author.Tests.{eqb-true, eq-eqb, ne_eqb, not-true, not-false}
-use Rattle.seq.specs.Search.{any, first}
+use Rattle.seq.specs.Search.{any}
 use Rattle.seq.proofs.SearchLaws.{any_miss, any_hit, any_not, first_hit, all_of}
 use Rattle.seq.specs.Truth.{not_both, refuted}
 use Rattle.seq.specs.Bytes.{part, equal_bytes}

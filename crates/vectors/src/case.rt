@@ -1,6 +1,7 @@
 // The cases of the jobs: each begins with an image, and all but those of the check go on with a plan or a buffer for one.
-use crate::reader::Number;
+use crate::reader::{Number, Streams};
 use crate::{check, image, land, reader, renames, repairs, request};
+use std::io;
 
 #[derive(Clone, Copy)]
 pub enum Job {
@@ -13,64 +14,68 @@ pub enum Job {
 }
 
 // Answers a case whose image is made, with the plan's buffer cut to its length.
-fn planned(fd: i32, job: Job, image: &mut [u8], plan: &mut [u8], scratch: &mut [u8]) -> bool {
+fn planned(
+    streams: &mut Streams,
+    job: Job,
+    image: &mut [u8],
+    plan: &mut [u8],
+    scratch: &mut [u8],
+) -> io::Result<bool> {
     match job {
-        Job::Check => check::answer(image),
-        Job::Land => land::planned(fd, image, plan),
-        Job::Rename => renames::buffered(fd, request::Job::Rename, image, plan),
-        Job::Groups => renames::buffered(fd, request::Job::Groups, image, plan),
-        Job::Flags => renames::buffered(fd, request::Job::Flags, image, plan),
-        Job::Repair => repairs::buffered(fd, image, plan, scratch),
+        Job::Check => check::answer(streams, image),
+        Job::Land => land::planned(streams, image, plan),
+        Job::Rename => renames::buffered(streams, request::Job::Rename, image, plan),
+        Job::Groups => renames::buffered(streams, request::Job::Groups, image, plan),
+        Job::Flags => renames::buffered(streams, request::Job::Flags, image, plan),
+        Job::Repair => repairs::buffered(streams, image, plan, scratch),
     }
 }
 
 // Reads the length of a plan, or of a buffer for one. The check has none.
-fn plan_length(fd: i32, job: Job) -> Number {
+fn plan_length(streams: &mut Streams, job: Job) -> io::Result<Number> {
     match job {
-        Job::Check => Number::Read(0),
-        _ => reader::number16(fd),
+        Job::Check => Ok(Number::Read(0)),
+        _ => reader::number16(streams),
     }
 }
 
 // Makes the image, which fills its buffer, and reads the rest of the case.
 fn imaged(
-    fd: i32,
+    streams: &mut Streams,
     job: Job,
     base: &[u8],
     image: &mut [u8],
     plan: &mut [u8],
     scratch: &mut [u8],
-) -> bool {
-    if !image::make(fd, base, image) {
-        return false;
+) -> io::Result<bool> {
+    if !image::make(streams, base, image)? {
+        return Ok(false);
     }
-    let number = plan_length(fd, job);
-    let Number::Read(len) = number else {
-        return false;
+    let Number::Read(len) = plan_length(streams, job)? else {
+        return Ok(false);
     };
     if plan.len() < len {
-        reader::complain(b"a plan is too long");
-        return false;
+        reader::complain(streams, "a plan is too long")?;
+        return Ok(false);
     }
-    planned(fd, job, image, &mut plan[..len], scratch)
+    planned(streams, job, image, &mut plan[..len], scratch)
 }
 
 // Reads a case and prints its line.
 pub fn case(
-    fd: i32,
+    streams: &mut Streams,
     job: Job,
     base: &[u8],
     image: &mut [u8],
     plan: &mut [u8],
     scratch: &mut [u8],
-) -> bool {
-    let number = reader::number32(fd);
-    let Number::Read(len) = number else {
-        return false;
+) -> io::Result<bool> {
+    let Number::Read(len) = reader::number32(streams)? else {
+        return Ok(false);
     };
     if image.len() < len {
-        reader::complain(b"an image is too long");
-        return false;
+        reader::complain(streams, "an image is too long")?;
+        return Ok(false);
     }
-    imaged(fd, job, base, &mut image[..len], plan, scratch)
+    imaged(streams, job, base, &mut image[..len], plan, scratch)
 }

@@ -2,8 +2,10 @@
 #![tactic(auto)]
 
 use case::Job;
-use libc::STDERR_FILENO;
-use reader::Tag;
+use reader::{Streams, Tag};
+use std::fs::File;
+use std::io;
+use std::io::Write;
 
 mod buffer;
 mod case;
@@ -41,95 +43,101 @@ const FLAGS_CASE: u8 = 9;
 
 // Reads the rest of an item, and answers it where it is a case.
 fn item(
-    fd: i32,
+    streams: &mut Streams,
     tag: u8,
     base: &mut [u8],
     image: &mut [u8],
     plan: &mut [u8],
     scratch: &mut [u8],
-) -> bool {
+) -> io::Result<bool> {
     if tag == BASE {
-        return image::read_base(fd, base);
+        return image::read_base(streams, base);
     }
     if tag == CHECK_CASE {
-        return case::case(fd, Job::Check, base, image, plan, scratch);
+        return case::case(streams, Job::Check, base, image, plan, scratch);
     }
     if tag == WALK_CASE {
-        return walks::case(fd, base, image, plan);
+        return walks::case(streams, base, image, plan);
     }
     if tag == LAND_CASE {
-        return case::case(fd, Job::Land, base, image, plan, scratch);
+        return case::case(streams, Job::Land, base, image, plan, scratch);
     }
     if tag == RENAME_CASE {
-        return case::case(fd, Job::Rename, base, image, plan, scratch);
+        return case::case(streams, Job::Rename, base, image, plan, scratch);
     }
     if tag == REPAIR_CASE {
-        return case::case(fd, Job::Repair, base, image, plan, scratch);
+        return case::case(streams, Job::Repair, base, image, plan, scratch);
     }
     if tag == GROUPS_CASE {
-        return case::case(fd, Job::Groups, base, image, plan, scratch);
+        return case::case(streams, Job::Groups, base, image, plan, scratch);
     }
     if tag == COMPARE_CASE {
-        return compares::case(fd);
+        return compares::case(streams);
     }
     if tag == FLAGS_CASE {
-        return case::case(fd, Job::Flags, base, image, plan, scratch);
+        return case::case(streams, Job::Flags, base, image, plan, scratch);
     }
-    reader::complain(b"an item has an unknown tag");
-    false
+    reader::complain(streams, "an item has an unknown tag")?;
+    Ok(false)
 }
 
 // Answers the cases of a file; false where something is wrong with it.
-fn all(fd: i32, base: &mut [u8], image: &mut [u8], plan: &mut [u8], scratch: &mut [u8]) -> bool {
-    let mut left: usize = TOO_MANY;
-    while 0 < left {
-        let found = reader::next(fd);
-        match found {
-            Tag::End => return true,
-            Tag::Failed => return false,
+fn all(
+    streams: &mut Streams,
+    base: &mut [u8],
+    image: &mut [u8],
+    plan: &mut [u8],
+    scratch: &mut [u8],
+) -> io::Result<bool> {
+    for _ in 0..TOO_MANY {
+        match reader::next(streams)? {
+            Tag::End => return Ok(true),
+            Tag::Failed => return Ok(false),
             Tag::Item(tag) => {
-                if !item(fd, tag, base, image, plan, scratch) {
-                    return false;
+                if !item(streams, tag, base, image, plan, scratch)? {
+                    return Ok(false);
                 }
             }
         }
-        left -= 1;
     }
-    reader::complain(b"the file has too many items");
-    false
+    reader::complain(streams, "the file has too many items")?;
+    Ok(false)
 }
 
-// Answers the cases of the file of that name.
-fn run(path: &[u8]) {
-    let fd = os::open_read(path);
-    if fd < 0 {
-        io::write_all(STDERR_FILENO, b"vectors: cannot open ");
-        os::fail(path);
-        return;
-    }
+// Answers the cases of the file of that name. What is wrong with it is told; an error is only what cannot be written.
+fn run(rt: &HostRuntime, path: &str) -> io::Result<()> {
+    let mut errors = rt.stderr();
+    let file = match File::open(rt, path) {
+        Ok(file) => file,
+        Err(e) => return writeln!(errors, "vectors: cannot open {path}: {e}"),
+    };
+    let mut streams = Streams {
+        file,
+        lines: rt.stdout(),
+        errors,
+    };
     let mut base = image::base_buffer();
     let mut image = image::buffer();
     let mut plan = plan::buffer();
     let mut scratch = image::buffer();
-    if !all(fd, &mut base, &mut image, &mut plan, &mut scratch) {
-        io::write_all(STDERR_FILENO, b"vectors: stopped in the file ");
-        io::write_all(STDERR_FILENO, path);
-        io::write_all(STDERR_FILENO, b"\n");
+    let whole = all(&mut streams, &mut base, &mut image, &mut plan, &mut scratch)?;
+    if !whole {
+        writeln!(streams.errors, "vectors: stopped in the file {path}")?;
     }
-    libc::close(fd);
+    Ok(())
 }
 
-fn main() {
-    run(b"check");
-    run(b"land");
-    run(b"walk");
-    run(b"rename");
-    run(b"repair");
-    run(b"groups");
-    run(b"sticky");
-    run(b"links");
-    run(b"portable");
-    run(b"compare");
-    run(b"crowded");
-    run(b"exchange");
+fn main(rt: HostRuntime) -> io::Result<()> {
+    run(&rt, "check")?;
+    run(&rt, "land")?;
+    run(&rt, "walk")?;
+    run(&rt, "rename")?;
+    run(&rt, "repair")?;
+    run(&rt, "groups")?;
+    run(&rt, "sticky")?;
+    run(&rt, "links")?;
+    run(&rt, "portable")?;
+    run(&rt, "compare")?;
+    run(&rt, "crowded")?;
+    run(&rt, "exchange")
 }

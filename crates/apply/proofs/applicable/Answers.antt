@@ -2,7 +2,6 @@
 use mathlib.Core.Path.{sym, ◌∙◌}
 use borrow.Author.Tests.{eq-eqb, ne_eqb, lt-ltb, le-ltb}
 use Rattle.plan.specs.Fit.{applicable}
-use borrow.Author.Rules.{rules}
 use Rattle.apply.proofs.applicable.Goals as goal
 
 pub returns-then-row : goal.returns-then-row

@@ -11,7 +11,6 @@ use Rattle.plan.proofs.FitLaws.{applicable_is, applicable_fits}
 use Rattle.plan.specs.FitFacts.{Applicable}
 use Rattle.apply.proofs.FindLaws.{laid_bounded}
 use Rattle.apply.proofs.ApplyLaws.{row_copied}
-use borrow.Author.Rules.{rules}
 use Rattle.apply.proofs.apply_row.Goals as goal
 
 pub applicable-requires : goal.applicable-requires

@@ -2,7 +2,6 @@
 use mathlib.Core.Path.{sym, ◌∙◌}
 use Rattle.layout.proofs.ContentsLaws.{contents_good, contents_bad}
 use Rattle.apply.proofs.ApplyLaws.{apply_short, apply_bad, apply_read}
-use borrow.Author.Rules.{rules}
 use Rattle.apply.proofs.land.Goals as goal
 
 pub returns-then-plan-lt-BYTES : goal.returns-then-plan-lt-BYTES

@@ -2,7 +2,6 @@
 use borrow.Author.Tests.{le-leb, lt-leb}
 use Rattle.plan.specs.Form.{row_at}
 use Rattle.plan.specs.Fit.{is_fitting_row}
-use borrow.Author.Rules.{rules}
 use Rattle.apply.proofs.row_fits.Goals as goal
 
 pub returns-then-group-lt1 : goal.returns-then-group-lt1

@@ -1,6 +1,5 @@
 -- `consistency::check` meets its contract. Assumes nothing.
 use mathlib.Core.Path.{sym, ◌∙◌}
-use borrow.Author.Rules.{rules}
 use Rattle.layout.proofs.ContentsLaws.{contents_good, contents_bad}
 use Rattle.consistency.proofs.ConsistentLaws.{check_bad, check_read}
 use Rattle.consistency.proofs.check.Goals as goal

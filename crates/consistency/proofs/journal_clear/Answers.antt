@@ -1,6 +1,5 @@
 -- `consistency::journal_clear` meets its contract. Assumes nothing.
 use mathlib.Core.Path.{◌∙◌, ap}
-use borrow.Author.Rules.{rules}
 use Rattle.seq.specs.Bytes.{zeros}
 use Rattle.consistency.specs.Sound.{journal_clear}
 use Rattle.consistency.proofs.journal_clear.Goals as goal

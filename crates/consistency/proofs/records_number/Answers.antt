@@ -1,5 +1,4 @@
 -- `consistency::records_number` meets its contract. Assumes nothing.
-use borrow.Author.Rules.{rules}
 use Rattle.seq.specs.Truth.{fails, holds}
 use Rattle.consistency.specs.Consistent.{records_number}
 use Rattle.consistency.proofs.records_number.Goals as goal

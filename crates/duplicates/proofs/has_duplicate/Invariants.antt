@@ -1,22 +1,15 @@
 -- `duplicates::has_duplicate` keeps this in its loops. Assumes nothing.
 -- Invariant: nothing is found yet; no two entries before j clash, and the two arrays chain the entries before j by bucket. In the inner loop j is in its chain
 -- too, and no entry of that chain from `at` on clashes with j. Measure: the entries left; `at`, since a chain leads to ever earlier entries.
-use mathlib.Core.Path.{◌≡◌, sym, ◌∙◌}
+use mathlib.Core.Path.{◌≡◌}
 use mathlib.Core.Bool.{false}
-use Prim.Native.Nat.{◌≤◌, ◌<◌, ◌-◌, ◌+◌}
-use native.Mathlib.Omega.{arith}
-use lib.ListN.{get_or, set}
-use borrow.Author.Rules.{rules}
+use Prim.Native.Nat.{◌≤◌, ◌-◌, ◌+◌}
 use Rattle.seq.specs.Search.{any}
-use Rattle.seq.proofs.SearchLaws.{any_none, any_miss, any_hit, any_false, any_out}
 use Rattle.layout.specs.Limits.{entry_limit}
 use Rattle.layout.specs.View.{view_of}
-use Rattle.tables.specs.Chain.{Last, Heads, Nexts, Passed}
-use Rattle.tables.specs.ChainLaws.{heads_none, nexts_none, heads_skip, nexts_skip, heads_turn, nexts_turn, passed_none, passed_turn, passed_all}
+use Rattle.tables.specs.Chain.{Heads, Nexts, Passed}
 use Rattle.names.specs.Name.{clash}
-use Rattle.names.specs.NameTests.{has_duplicate}
 use Rattle.duplicates.specs.Bucket.{buckets, bucket_at}
-use Rattle.duplicates.proofs.BucketLaws.{clash_bucket, free_clash}
 use Rattle.duplicates.proofs.has_duplicate.Given as goal
 
 abbrev pub invariant-loop-at : goal.invariant-loop-at

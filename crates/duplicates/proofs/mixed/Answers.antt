@@ -1,6 +1,5 @@
 -- `duplicates::mixed` meets its contract. Assumes nothing.
 use native.Mathlib.Omega.{arith}
-use borrow.Author.Rules.{rules}
 use Rattle.duplicates.specs.Bucket.{mix, mixed_of}
 use Rattle.duplicates.proofs.mixed.Goals as goal
 

@@ -1,7 +1,6 @@
 -- `exchange_steps::denied` meets its contract. Assumes nothing.
 use mathlib.Core.Bool.{and-false}
 use borrow.Author.Tests.{eq-eqb, ne_eqb}
-use borrow.Author.Rules.{rules}
 use Rattle.seq.specs.Truth.{fails, holds}
 use Rattle.exchange_steps.proofs.denied.Goals as goal
 

@@ -2,7 +2,6 @@
 use mathlib.Core.Path.{◌≡◌, sym, ◌∙◌}
 use mathlib.Core.List.{List}
 use lib.ListN.{drop}
-use borrow.Author.Rules.{rules}
 use Rattle.layout.specs.View.{View, view_of}
 use Rattle.exchange_steps.specs.Exchange.{other_rules}
 use Rattle.refusals.specs.Rules.{Rule, decide}

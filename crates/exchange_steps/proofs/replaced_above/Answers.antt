@@ -1,5 +1,4 @@
 -- `exchange_steps::replaced_above` meets its contract. Assumes nothing.
-use borrow.Author.Rules.{rules}
 use Rattle.layout.specs.View.{view_of}
 use Rattle.exchange_steps.proofs.replaced_above.Goals as goal
 

@@ -1,12 +1,8 @@
 -- `inodes::all_good` meets its contract. Assumes nothing.
-use mathlib.Core.Path.{◌≡◌}
-use mathlib.Core.Bool.{true}
-use Prim.Native.Nat.{◌≤◌, ◌-◌, ℕ}
+use Prim.Native.Nat.{ℕ}
 use lib.ListN.{length-replicate}
 use borrow.Author.Rules.{rules}
-use Rattle.seq.specs.Search.{all}
 use Rattle.seq.proofs.SearchLaws.{all_none, all_turn, all_failed, all_out}
-use Rattle.tree.specs.Inode.{inode_good}
 use Rattle.tallies.proofs.TalliesLaws.{blank}
 use Rattle.inodes.proofs.all_good.Goals as goal
 

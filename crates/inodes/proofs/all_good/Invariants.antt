@@ -2,13 +2,9 @@
 -- Invariant: every inode before i is consistent. Measure: the inodes left.
 use mathlib.Core.Path.{◌≡◌}
 use mathlib.Core.Bool.{true}
-use Prim.Native.Nat.{◌≤◌, ◌-◌, ℕ}
-use lib.ListN.{length-replicate}
-use borrow.Author.Rules.{rules}
+use Prim.Native.Nat.{◌≤◌, ◌-◌}
 use Rattle.seq.specs.Search.{all}
-use Rattle.seq.proofs.SearchLaws.{all_none, all_turn, all_failed, all_out}
 use Rattle.tree.specs.Inode.{inode_good}
-use Rattle.tallies.proofs.TalliesLaws.{blank}
 use Rattle.inodes.proofs.all_good.Given as goal
 
 abbrev pub invariant-loop-i : goal.invariant-loop-i

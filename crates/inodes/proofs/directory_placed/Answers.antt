@@ -1,6 +1,5 @@
 -- `inodes::directory_placed` meets its contract. Assumes nothing.
 use mathlib.Core.Path.{sym, ◌∙◌}
-use borrow.Author.Rules.{rules}
 use borrow.Author.Tests.{eq-eqb, ne_eqb}
 use Rattle.layout.specs.Fields.{inode_field}
 use Rattle.layout.proofs.RecordLaws.{field_of}

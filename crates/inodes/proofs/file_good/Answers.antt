@@ -1,5 +1,4 @@
 -- `inodes::file_good` meets its contract. Assumes nothing.
-use borrow.Author.Rules.{rules}
 use Rattle.seq.specs.Truth.{fails, holds}
 use Rattle.layout.specs.Fields.{inode_field}
 use Rattle.layout.proofs.RecordLaws.{field_of}

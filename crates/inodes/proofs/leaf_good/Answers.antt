@@ -1,7 +1,6 @@
 -- `inodes::leaf_good` meets its contract. Assumes nothing.
 use mathlib.Core.Path.{◌∙◌}
 use mathlib.Core.Bool.{and-false}
-use borrow.Author.Rules.{rules}
 use borrow.Author.Tests.{lt-ltb, le-ltb, le-leb, lt-leb}
 use Rattle.layout.specs.Fields.{inode_mode, inode_links}
 use Rattle.layout.proofs.RecordLaws.{field_of}

@@ -1,5 +1,4 @@
 -- `inodes::text_used` meets its contract. Assumes nothing.
-use borrow.Author.Rules.{rules}
 use Rattle.layout.specs.Fields.{text_length}
 use Rattle.layout.proofs.RecordLaws.{field_of}
 use Rattle.layout.specs.View.{view_of}

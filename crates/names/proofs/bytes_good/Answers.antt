@@ -1,13 +1,9 @@
 -- `names::bytes_good` meets its contract. Assumes nothing.
-use mathlib.Core.Path.{◌≡◌, sym}
-use mathlib.Core.Bool.{true}
-use Prim.Native.Nat.{◌≤◌, ◌-◌}
-use lib.ListN.{length, get_or}
+use mathlib.Core.Path.{sym}
 use borrow.Author.Rules.{rules}
 use borrow.Author.Tests.{eq-eqb, ne_eqb}
-use Rattle.seq.specs.Search.{all}
 use Rattle.seq.proofs.SearchLaws.{all_none, all_more, all_not, all_out}
-use Rattle.names.specs.Name.{name_byte, plain_name}
+use Rattle.names.specs.Name.{plain_name}
 use Rattle.names.proofs.bytes_good.Goals as goal
 
 pub loop-k-init : goal.loop-k-init

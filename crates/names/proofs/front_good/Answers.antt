@@ -1,9 +1,7 @@
 -- `names::front_good` meets its contract. Assumes nothing.
 use mathlib.Core.Path.{◌≡◌, refl, sym}
-use Prim.Native.Nat.{◌≤◌, ◌-◌}
 use native.Mathlib.Omega.{arith}
 use borrow.Author.Rules.{rules}
-use Rattle.seq.specs.Search.{any}
 use Rattle.seq.proofs.SearchLaws.{any_none}
 use Rattle.names.specs.FrontLaws.{any_tells}
 use Rattle.names.specs.NameTests.{front_wrong, front_good}

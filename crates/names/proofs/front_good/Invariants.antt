@@ -1,13 +1,9 @@
 -- `names::front_good` keeps this in its loops. Assumes nothing.
 -- Invariant: wrong tells whether a byte before k is. Measure: the bytes left.
-use mathlib.Core.Path.{◌≡◌, refl, sym}
+use mathlib.Core.Path.{◌≡◌}
 use Prim.Native.Nat.{◌≤◌, ◌-◌}
-use native.Mathlib.Omega.{arith}
-use borrow.Author.Rules.{rules}
 use Rattle.seq.specs.Search.{any}
-use Rattle.seq.proofs.SearchLaws.{any_none}
-use Rattle.names.specs.FrontLaws.{any_tells}
-use Rattle.names.specs.NameTests.{front_wrong, front_good}
+use Rattle.names.specs.NameTests.{front_wrong}
 use Rattle.names.proofs.front_good.Given as goal
 
 abbrev pub invariant-loop-k : goal.invariant-loop-k

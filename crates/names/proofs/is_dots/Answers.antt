@@ -1,6 +1,5 @@
 -- `names::is_dots` meets its contract. Assumes nothing.
 use mathlib.Core.Path.{sym, ◌∙◌}
-use borrow.Author.Rules.{rules}
 use Rattle.names.specs.Name.{is_dots}
 use Rattle.names.proofs.is_dots.Goals as goal
 

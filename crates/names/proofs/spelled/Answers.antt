@@ -1,7 +1,6 @@
 -- `names::spelled` meets its contract. Assumes nothing.
 use mathlib.Core.Path.{◌≡◌, sym, ◌∙◌, ap}
 use mathlib.Core.Bool.{true, false}
-use borrow.Author.Rules.{rules}
 use Rattle.seq.specs.Bytes.{part}
 use Rattle.seq.proofs.BytesLaws.{part_range}
 use Rattle.seq.specs.Truth.{fails, holds}

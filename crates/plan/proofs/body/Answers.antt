@@ -1,7 +1,6 @@
 -- `plan::body` meets its contract. Assumes nothing.
 use native.Mathlib.Omega.{arith}
 use Rattle.plan.proofs.RowLaws.{reads_body}
-use borrow.Author.Rules.{rules}
 use Rattle.plan.proofs.body.Goals as goal
 
 pub returns : goal.returns

@@ -4,7 +4,6 @@ use Prim.Native.Nat.{◌+◌, ◌*◌}
 use Rattle.seq.specs.Bytes.{put}
 use Rattle.seq.specs.Number.{bytes_of}
 use Rattle.plan.specs.Form.{header_of, row_stored}
-use borrow.Author.Rules.{rules}
 use Rattle.plan.proofs.put_row.Goals as goal
 
 pub returns : goal.returns

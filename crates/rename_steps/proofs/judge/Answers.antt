@@ -1,6 +1,5 @@
 -- `rename_steps::judge` meets its contract. Assumes nothing.
 use mathlib.Core.Path.{sym, ap, ◌∙◌}
-use borrow.Author.Rules.{rules}
 use Rattle.layout.specs.View.{View, view_of}
 use Rattle.refusals.specs.declared.case.Answer.TheVariants.{Refused}
 use Rattle.refusals.proofs.WithinLaws.{case_within}

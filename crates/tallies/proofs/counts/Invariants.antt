@@ -1,14 +1,9 @@
 -- `tallies::counts` keeps this in its loops. Assumes nothing.
 -- Invariant: the entries before slot j are counted in both tables. Measure: the slots left.
-use mathlib.Core.Path.{◌≡◌}
 use Prim.Native.Nat.{◌≤◌, ◌-◌}
-use native.Mathlib.Omega.{arith}
-use borrow.Author.Rules.{rules}
 use Rattle.layout.specs.View.{view_of}
 use Rattle.tables.specs.Table.{Table, tally}
-use Rattle.tables.specs.TableLaws.{tally_le, tally_turn}
 use Rattle.tallies.specs.Tallies.{target_slot, holder_slot}
-use Rattle.tallies.proofs.TalliesLaws.{tally_blank, entry_counts_are, child_counts_are}
 use Rattle.tallies.proofs.counts.Given as goal
 
 abbrev pub invariant-loop-j : goal.invariant-loop-j

@@ -1,6 +1,6 @@
 -- `tallies::text_owners` meets its contract. Assumes nothing.
 use mathlib.Core.Path.{◌≡◌, subst}
-use Prim.Native.Nat.{◌≤◌, ◌<◌, ◌-◌, ◌+◌, ℕ}
+use Prim.Native.Nat.{◌<◌, ◌-◌, ◌+◌, ℕ}
 use native.Mathlib.Omega.{arith}
 use borrow.Author.Rules.{rules}
 use Rattle.layout.specs.View.{view_of}

@@ -1,13 +1,8 @@
 -- `tallies::text_owners` keeps this in its loops. Assumes nothing.
-use mathlib.Core.Path.{◌≡◌, subst}
-use Prim.Native.Nat.{◌≤◌, ◌<◌, ◌-◌, ◌+◌, ℕ}
-use native.Mathlib.Omega.{arith}
-use borrow.Author.Rules.{rules}
+use Prim.Native.Nat.{◌≤◌}
 use Rattle.layout.specs.View.{view_of}
 use Rattle.tables.specs.Table.{Firsts}
-use Rattle.tables.specs.TableLaws.{firsts_none, firsts_turn}
 use Rattle.tallies.specs.Tallies.{text_slot}
-use Rattle.tallies.proofs.TalliesLaws.{text_owners_are}
 use Rattle.tallies.proofs.text_owners.Given as goal
 
 abbrev pub invariant-loop-i : goal.invariant-loop-i

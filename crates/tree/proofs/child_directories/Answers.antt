@@ -1,12 +1,10 @@
 -- `tree::child_directories` meets its contract. Assumes nothing.
-use mathlib.Core.Path.{◌≡◌, sym}
-use Prim.Native.Nat.{◌≤◌, ◌-◌}
+use mathlib.Core.Path.{sym}
 use native.Mathlib.Omega.{arith}
 use borrow.Author.Rules.{rules}
-use Rattle.seq.specs.Search.{count}
 use Rattle.seq.proofs.SearchLaws.{count_none, count_turn, count_pass, count_out}
 use Rattle.layout.specs.View.{view_of}
-use Rattle.tree.specs.Tree.{holds_directory, child_directories}
+use Rattle.tree.specs.Tree.{child_directories}
 use Rattle.tree.proofs.child_directories.Goals as goal
 use Rattle.tree.proofs.child_directories.Goals.{then-entry_holds_directory, else-entry_holds_directory}
 

@@ -1,14 +1,10 @@
 -- `tree::child_directories` keeps this in its loops. Assumes nothing.
 -- Invariant: found is how many entries before j hold a child directory of i, so at most j. Measure: the entries left.
-use mathlib.Core.Path.{◌≡◌, sym}
-use mathlib.Core.Logic.{⊎_elim}
+use mathlib.Core.Path.{◌≡◌}
 use Prim.Native.Nat.{◌≤◌, ◌-◌}
-use native.Mathlib.Omega.{arith}
-use borrow.Author.Rules.{rules}
 use Rattle.seq.specs.Search.{count}
-use Rattle.seq.proofs.SearchLaws.{count_none, count_turn, count_pass, count_out}
 use Rattle.layout.specs.View.{view_of}
-use Rattle.tree.specs.Tree.{holds_directory, child_directories}
+use Rattle.tree.specs.Tree.{holds_directory}
 use Rattle.tree.proofs.child_directories.Given as goal
 
 abbrev pub invariant-loop-j : goal.invariant-loop-j

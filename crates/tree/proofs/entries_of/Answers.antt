@@ -1,11 +1,9 @@
 -- `tree::entries_of` meets its contract. Assumes nothing.
-use mathlib.Core.Path.{◌≡◌, sym}
-use Prim.Native.Nat.{◌≤◌, ◌-◌}
+use mathlib.Core.Path.{sym}
 use borrow.Author.Rules.{rules}
-use Rattle.seq.specs.Search.{count}
 use Rattle.seq.proofs.SearchLaws.{count_none, count_turn, count_pass, count_out}
 use Rattle.layout.specs.View.{view_of}
-use Rattle.tree.specs.Tree.{targets, entries_of}
+use Rattle.tree.specs.Tree.{entries_of}
 use Rattle.tree.proofs.entries_of.Goals as goal
 use Rattle.tree.proofs.entries_of.Goals.{then-entry_targets, else-entry_targets}
 

@@ -1,13 +1,10 @@
 -- `tree::entries_of` keeps this in its loops. Assumes nothing.
 -- Invariant: found is how many entries before j target inode i, so at most j. Measure: the entries left.
-use mathlib.Core.Path.{◌≡◌, sym}
-use mathlib.Core.Logic.{⊎_elim}
+use mathlib.Core.Path.{◌≡◌}
 use Prim.Native.Nat.{◌≤◌, ◌-◌}
-use borrow.Author.Rules.{rules}
 use Rattle.seq.specs.Search.{count}
-use Rattle.seq.proofs.SearchLaws.{count_none, count_turn, count_pass, count_out}
 use Rattle.layout.specs.View.{view_of}
-use Rattle.tree.specs.Tree.{targets, entries_of}
+use Rattle.tree.specs.Tree.{targets}
 use Rattle.tree.proofs.entries_of.Given as goal
 
 abbrev pub invariant-loop-j : goal.invariant-loop-j

@@ -1,7 +1,6 @@
 -- `tree::entry_holds_directory` meets its contract. Assumes nothing.
 use mathlib.Core.Path.{sym, ◌∙◌}
 use mathlib.Core.Bool.{and-false}
-use borrow.Author.Rules.{rules}
 use borrow.Author.Tests.{eq-eqb, ne_eqb}
 use Rattle.layout.specs.Fields.{entry_name_length, entry_parent, entry_target}
 use Rattle.layout.proofs.RecordLaws.{field_of}

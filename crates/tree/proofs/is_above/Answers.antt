@@ -1,6 +1,6 @@
 -- `tree::is_above` meets its contract. Assumes nothing.
 use mathlib.Core.Path.{refl, ap, ◌≡◌, sym, ◌∙◌}
-use Prim.Native.Nat.{◌≤◌, ◌<◌, ◌-◌}
+use Prim.Native.Nat.{◌-◌}
 use native.Mathlib.Omega.{arith}
 use borrow.Author.Rules.{rules}
 use Rattle.seq.specs.Truth.{fails, holds}

@@ -1,7 +1,6 @@
 -- `apply::sections::coverable` meets its contract. Assumes nothing.
 use mathlib.Core.Path.{sym}
 use Rattle.apply.proofs.FindLaws.{coverable_else}
-use borrow.Author.Rules.{rules}
 use Rattle.apply.proofs.sections.coverable.Goals as goal
 
 pub returns-in_default : goal.returns-in_default

@@ -1,13 +1,9 @@
 -- `apply::sections::covers` meets its contract. Assumes nothing.
-use mathlib.Core.Bool.{false}
-use Rattle.seq.specs.Search.{any}
 use Rattle.seq.proofs.SearchLaws.{any_none, any_turn, any_found, any_out}
-use Rattle.layout.specs.Place.{base}
-use Rattle.plan.specs.Fit.{covers_section, covers}
+use Rattle.plan.specs.Fit.{covers}
 use Rattle.plan.proofs.FitLaws.{record_some}
 use Rattle.apply.proofs.FindLaws.{section_is, section_next, section_room}
-use mathlib.Core.Path.{◌≡◌, ◌∙◌}
-use Prim.Native.Nat.{◌≤◌, ◌-◌}
+use mathlib.Core.Path.{◌∙◌}
 use native.Mathlib.Omega.{arith}
 use borrow.Author.Rules.{rules}
 use Rattle.apply.proofs.sections.covers.Goals as goal

@@ -2,15 +2,10 @@
 -- Invariant: start is where section k begins, and no section before k has the bytes as a record. Measure: the sections left.
 use mathlib.Core.Bool.{false}
 use Rattle.seq.specs.Search.{any}
-use Rattle.seq.proofs.SearchLaws.{any_none, any_turn, any_found, any_out}
 use Rattle.layout.specs.Place.{base}
-use Rattle.plan.specs.Fit.{covers_section, covers}
-use Rattle.plan.proofs.FitLaws.{record_some}
-use Rattle.apply.proofs.FindLaws.{section_is, section_next, section_room}
-use mathlib.Core.Path.{◌≡◌, ◌∙◌}
+use Rattle.plan.specs.Fit.{covers_section}
+use mathlib.Core.Path.{◌≡◌}
 use Prim.Native.Nat.{◌≤◌, ◌-◌}
-use native.Mathlib.Omega.{arith}
-use borrow.Author.Rules.{rules}
 use Rattle.apply.proofs.sections.covers.Given as goal
 
 abbrev pub invariant-loop-k : goal.invariant-loop-k

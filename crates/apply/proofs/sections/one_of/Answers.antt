@@ -1,7 +1,6 @@
 -- `apply::sections::one_of` meets its contract. Assumes nothing.
 use mathlib.Core.Path.{sym}
 use Rattle.apply.proofs.FindLaws.{one_size, one_before, one_between, one_index}
-use borrow.Author.Rules.{rules}
 use Rattle.apply.proofs.sections.one_of.Goals as goal
 
 pub returns-then-n-width : goal.returns-then-n-width

@@ -1,6 +1,5 @@
 -- `apply::sections::one_of_section` meets its contract. Assumes nothing.
 use Rattle.seq.specs.Truth.{fails, holds}
-use borrow.Author.Rules.{rules}
 use Rattle.apply.proofs.sections.one_of_section.Goals as goal
 
 pub returns-then-not-coverable : goal.returns-then-not-coverable

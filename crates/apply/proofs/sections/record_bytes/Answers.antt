@@ -2,7 +2,6 @@
 use mathlib.Core.Path.{sym}
 use native.Mathlib.Omega.{arith}
 use Rattle.apply.proofs.FindLaws.{bytes_last}
-use borrow.Author.Rules.{rules}
 use Rattle.apply.proofs.sections.record_bytes.Goals as goal
 
 pub returns-in_default : goal.returns-in_default

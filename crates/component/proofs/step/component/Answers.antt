@@ -2,7 +2,6 @@
 use mathlib.Core.Path.{sym, ◌∙◌}
 use Prim.Native.Nat.{◌-◌}
 use native.Mathlib.Omega.{arith}
-use borrow.Author.Rules.{rules}
 use Rattle.seq.specs.Bytes.{part}
 use Rattle.seq.proofs.BytesLaws.{part_length}
 use Rattle.layout.specs.View.{view_of}

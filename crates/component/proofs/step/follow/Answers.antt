@@ -2,7 +2,6 @@
 use mathlib.Core.Path.{sym, ap}
 use Prim.Native.Nat.{◌+◌}
 use lib.ListN.{length}
-use borrow.Author.Rules.{rules}
 use Rattle.component.proofs.Splice.{rest_length}
 use Rattle.component.specs.State.{position_of, rest_from}
 use Rattle.component.proofs.Turns.{follows_many, follows_long, follows_short}

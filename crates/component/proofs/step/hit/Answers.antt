@@ -1,8 +1,6 @@
 -- `component::step::hit` meets its contract. Assumes nothing.
 use mathlib.Core.Path.{◌≡◌, sym, ◌∙◌}
 use Prim.Native.Nat.{◌<◌}
-use native.Mathlib.Omega.{arith}
-use borrow.Author.Rules.{rules}
 use Rattle.seq.specs.Bytes.{part}
 use Rattle.layout.specs.Fields.{entry_target}
 use Rattle.layout.proofs.RecordLaws.{field_of}

@@ -1,6 +1,5 @@
 -- `component::step::is_barred` meets its contract. Assumes nothing.
 use mathlib.Core.Path.{sym, ◌∙◌}
-use borrow.Author.Rules.{rules}
 use borrow.Author.Tests.{not-true, not-false}
 use Rattle.seq.specs.Bytes.{part}
 use Rattle.component.proofs.step.is_barred.Goals as goal

@@ -1,6 +1,4 @@
 -- `component::step::join` meets its contract. Assumes nothing.
-use native.Mathlib.Omega.{arith}
-use borrow.Author.Rules.{rules}
 use Rattle.seq.specs.Bytes.{part}
 use Rattle.component.proofs.Splice.{joins}
 use Rattle.component.proofs.step.join.Goals as goal

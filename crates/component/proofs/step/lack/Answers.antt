@@ -1,6 +1,5 @@
 -- `component::step::lack` meets its contract. Assumes nothing.
 use Prim.Native.Nat.{◌-◌}
-use borrow.Author.Rules.{rules}
 use Rattle.seq.specs.Bytes.{part}
 use Rattle.component.proofs.Splice.{slash_behind_lem}
 use Rattle.component.specs.State.{position_of, rest_from}

@@ -1,5 +1,4 @@
 -- `component::step::may_search` meets its contract. Assumes nothing.
-use borrow.Author.Rules.{rules}
 use Rattle.component.proofs.step.may_search.Goals as goal
 
 pub returns-then-w : goal.returns-then-w

@@ -1,8 +1,6 @@
 -- `component::step::miss` meets its contract. Assumes nothing.
 use mathlib.Core.Path.{sym, ◌∙◌}
 use Prim.Native.Nat.{◌-◌}
-use native.Mathlib.Omega.{arith}
-use borrow.Author.Rules.{rules}
 use Rattle.seq.specs.Bytes.{part}
 use Rattle.component.specs.State.{position_of, rest_from}
 use Rattle.component.proofs.Turns.{misses_last, misses_more}

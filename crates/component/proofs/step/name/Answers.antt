@@ -1,7 +1,6 @@
 -- `component::step::name` meets its contract. Assumes nothing.
 use mathlib.Core.Path.{sym, ◌∙◌}
 use Prim.Native.Nat.{◌-◌}
-use borrow.Author.Rules.{rules}
 use Rattle.seq.specs.Bytes.{part}
 use Rattle.layout.specs.View.{view_of}
 use Rattle.component.specs.State.{position_of, rest_from}

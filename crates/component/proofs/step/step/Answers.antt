@@ -1,7 +1,6 @@
 -- `component::step::step` meets its contract: the type number decides. Assumes nothing.
 use mathlib.Core.Path.{sym, ◌∙◌}
 use native.Mathlib.Omega.{arith}
-use borrow.Author.Rules.{rules}
 use Rattle.layout.specs.View.{view_of}
 use Rattle.layout.proofs.ViewLaws.{is_kind_below, kind_of_lem, other_kind}
 use Rattle.component.specs.State.{position_of}

@@ -1,11 +1,6 @@
 -- `consistency::entries::all_good` meets its contract. Assumes nothing.
-use mathlib.Core.Path.{◌≡◌}
-use mathlib.Core.Bool.{true}
-use Prim.Native.Nat.{◌≤◌, ◌-◌}
 use borrow.Author.Rules.{rules}
-use Rattle.seq.specs.Search.{all}
 use Rattle.seq.proofs.SearchLaws.{all_none, all_turn, all_failed, all_out}
-use Rattle.consistency.specs.Entry.{entry_good}
 use Rattle.consistency.proofs.entries.all_good.Goals as goal
 
 pub loop-j-init : goal.loop-j-init

@@ -3,9 +3,7 @@
 use mathlib.Core.Path.{◌≡◌}
 use mathlib.Core.Bool.{true}
 use Prim.Native.Nat.{◌≤◌, ◌-◌}
-use borrow.Author.Rules.{rules}
 use Rattle.seq.specs.Search.{all}
-use Rattle.seq.proofs.SearchLaws.{all_none, all_turn, all_failed, all_out}
 use Rattle.consistency.specs.Entry.{entry_good}
 use Rattle.consistency.proofs.entries.all_good.Given as goal
 

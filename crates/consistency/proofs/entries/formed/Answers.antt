@@ -1,7 +1,5 @@
 -- `consistency::entries::formed` meets its contract. Assumes nothing.
 use mathlib.Core.Path.{sym, ◌∙◌, ap}
-use Prim.Native.Nat.{◌-◌}
-use borrow.Author.Rules.{rules}
 use borrow.Author.Tests.{le-leb, lt-leb}
 use Rattle.seq.specs.Bytes.{zeros}
 use Rattle.layout.specs.Fields.{entry_name_length}

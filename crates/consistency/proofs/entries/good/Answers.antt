@@ -1,7 +1,6 @@
 -- `consistency::entries::good` meets its contract. Assumes nothing.
 use mathlib.Core.Path.{sym, ◌∙◌, ap}
 use native.Mathlib.Omega.{arith}
-use borrow.Author.Rules.{rules}
 use Rattle.seq.specs.Truth.{fails, holds}
 use Rattle.layout.specs.Fields.{entry_name_length}
 use Rattle.layout.specs.View.{view_of}

@@ -1,6 +1,5 @@
 -- `consistency::handles::good` meets its contract. Assumes nothing.
 use mathlib.Core.Path.{sym, ◌∙◌, ap}
-use borrow.Author.Rules.{rules}
 use Rattle.seq.specs.Bytes.{zeros}
 use Rattle.layout.specs.Fields.{handle_state}
 use Rattle.layout.proofs.RecordLaws.{field_of}

@@ -1,11 +1,6 @@
 -- `consistency::texts::all_good` meets its contract. Assumes nothing.
-use mathlib.Core.Path.{◌≡◌}
-use mathlib.Core.Bool.{true}
-use Prim.Native.Nat.{◌≤◌, ◌-◌}
 use borrow.Author.Rules.{rules}
-use Rattle.seq.specs.Search.{all}
 use Rattle.seq.proofs.SearchLaws.{all_none, all_turn, all_failed, all_out}
-use Rattle.consistency.specs.Others.{text_good}
 use Rattle.consistency.proofs.texts.all_good.Goals as goal
 
 pub loop-t-init : goal.loop-t-init

@@ -1,7 +1,6 @@
 -- `consistency::texts::good` meets its contract. Assumes nothing.
 use mathlib.Core.Path.{ap, ◌∙◌}
 use native.Mathlib.Omega.{arith}
-use borrow.Author.Rules.{rules}
 use Rattle.seq.specs.Bytes.{no_zero}
 use Rattle.consistency.proofs.TextLaws.{text_long, text_unpadded, text_zero, text_free_lem, text_linked_lem}
 use Rattle.consistency.proofs.texts.good.Goals as goal

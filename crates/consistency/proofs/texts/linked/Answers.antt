@@ -1,7 +1,6 @@
 -- `consistency::texts::linked` meets its contract. Assumes nothing.
 use mathlib.Core.Path.{◌∙◌}
 use native.Mathlib.Omega.{arith}
-use borrow.Author.Rules.{rules}
 use Rattle.layout.specs.View.{view_of}
 use Rattle.tables.specs.TableLaws.{any_first}
 use Rattle.tree.specs.Tree.{has_text}

@@ -1,7 +1,6 @@
 -- `encode::entry::write` meets its contract. Assumes nothing.
 use mathlib.Core.Path.{ap, ◌∙◌}
 use lib.ListN.{length}
-use borrow.Author.Rules.{rules}
 use Rattle.seq.specs.Bytes.{put}
 use Rattle.seq.specs.Number.{bytes_of}
 use Rattle.encode.specs.Entry.{entry_head}

@@ -1,6 +1,5 @@
 -- `encode::journal::formed` meets its contract. Assumes nothing.
 use mathlib.Core.Bool.{and-false}
-use borrow.Author.Rules.{rules}
 use borrow.Author.Tests.{eq-eqb, ne_eqb}
 use Rattle.seq.specs.Truth.{fails, holds}
 use Rattle.encode.specs.Journal.{journal_formed}

@@ -1,6 +1,5 @@
 -- `encode::journal::head` meets its contract. Assumes nothing.
 use mathlib.Core.Path.{refl}
-use borrow.Author.Rules.{rules}
 use Rattle.seq.specs.Number.{bytes_of}
 use Rattle.encode.specs.Journal.{journal_head}
 use Rattle.encode.proofs.journal.head.Goals as goal

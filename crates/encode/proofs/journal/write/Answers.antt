@@ -1,7 +1,6 @@
 -- `encode::journal::write` meets its contract. Assumes nothing.
 use mathlib.Core.Path.{ap, ap₂, ◌∙◌}
 use lib.ListN.{replicate}
-use borrow.Author.Rules.{rules}
 use Rattle.seq.specs.Bytes.{put}
 use Rattle.seq.specs.Number.{bytes_of}
 use Rattle.encode.specs.JournalLaws.{journal_put}

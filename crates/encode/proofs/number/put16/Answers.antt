@@ -2,7 +2,6 @@
 use native.Mathlib.Numerals.{add-one}
 use native.Mathlib.Omega.{arith}
 use lib.ListN.{length-set}
-use borrow.Author.Rules.{rules}
 use Rattle.seq.specs.Bytes.{put}
 use Rattle.seq.specs.Number.{bytes_of}
 use Rattle.encode.proofs.number.put16.Goals as goal

@@ -1,5 +1,4 @@
 -- `encode::number::put32` meets its contract. Assumes nothing.
-use borrow.Author.Rules.{rules}
 use Rattle.seq.proofs.NumberLaws.{put_two}
 use Rattle.encode.proofs.number.put32.Goals as goal
 

@@ -1,5 +1,4 @@
 -- `encode::number::put64` meets its contract. Assumes nothing.
-use borrow.Author.Rules.{rules}
 use Rattle.seq.proofs.NumberLaws.{put_four}
 use Rattle.encode.proofs.number.put64.Goals as goal
 

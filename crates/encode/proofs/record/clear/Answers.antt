@@ -1,10 +1,8 @@
 -- `encode::record::clear` meets its contract. Assumes nothing.
 use mathlib.Core.Path.{◌≡◌, refl, sym}
-use Prim.Native.Nat.{◌≤◌, ◌-◌}
 use native.Mathlib.Omega.{arith}
-use lib.ListN.{length, length-set, replicate, length-replicate}
+use lib.ListN.{length, length-set, length-replicate}
 use borrow.Author.Rules.{rules}
-use Rattle.seq.specs.Bytes.{put}
 use Rattle.seq.proofs.BytesLaws.{put_none, put_zero, put_whole}
 use Rattle.encode.proofs.record.clear.Goals as goal
 

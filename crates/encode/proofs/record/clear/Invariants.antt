@@ -1,12 +1,9 @@
 -- `encode::record::clear` keeps this in its loops. Assumes nothing.
 -- Invariant: the first k bytes are zero, the others as they were, and none was added. Measure: the bytes left.
-use mathlib.Core.Path.{◌≡◌, refl, sym}
+use mathlib.Core.Path.{◌≡◌}
 use Prim.Native.Nat.{◌≤◌, ◌-◌}
-use native.Mathlib.Omega.{arith}
-use lib.ListN.{length, length-set, replicate, length-replicate}
-use borrow.Author.Rules.{rules}
+use lib.ListN.{length, replicate}
 use Rattle.seq.specs.Bytes.{put}
-use Rattle.seq.proofs.BytesLaws.{put_none, put_zero, put_whole}
 use Rattle.encode.proofs.record.clear.Given as goal
 
 abbrev pub invariant-loop-k : goal.invariant-loop-k

@@ -1,12 +1,9 @@
 -- `layout::bytes::bytes_zero` keeps this in its loops. Assumes nothing.
 -- Invariant: the k bytes from `at` on are zero. Measure: the bytes left.
-use mathlib.Core.Path.{◌≡◌, sym}
+use mathlib.Core.Path.{◌≡◌}
 use mathlib.Core.Bool.{true}
 use Prim.Native.Nat.{◌≤◌, ◌-◌}
-use borrow.Author.Rules.{rules}
-use borrow.Author.Tests.{eq-eqb, ne_eqb}
 use Rattle.seq.specs.Bytes.{zeros}
-use Rattle.seq.proofs.SearchLaws.{all_none, all_more, all_not, all_out}
 use Rattle.layout.proofs.bytes.bytes_zero.Given as goal
 
 abbrev pub invariant-loop-k : goal.invariant-loop-k

@@ -1,13 +1,9 @@
 -- `layout::bytes::copy` keeps this in its loops. Assumes nothing.
 -- Invariant: the first k bytes of `from` stand at `at`, the others of d are as they were, and none was added. Measure: the bytes left to copy.
-use mathlib.Core.Path.{refl, ◌≡◌, sym}
+use mathlib.Core.Path.{◌≡◌}
 use Prim.Native.Nat.{◌≤◌, ◌-◌}
-use native.Mathlib.Omega.{arith}
-use lib.ListN.{length-set, length, take}
-use lib.Seq.{take-length}
-use borrow.Author.Rules.{rules}
+use lib.ListN.{length, take}
 use Rattle.seq.specs.Bytes.{put}
-use Rattle.seq.proofs.BytesLaws.{put_none, put_more}
 use Rattle.layout.proofs.bytes.copy.Given as goal
 
 abbrev pub invariant-loop-k : goal.invariant-loop-k

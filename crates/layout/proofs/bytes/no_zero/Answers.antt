@@ -1,13 +1,8 @@
 -- `layout::bytes::no_zero` meets its contract. Assumes nothing.
-use mathlib.Core.Path.{◌≡◌, sym}
-use mathlib.Core.Bool.{true, not}
-use Prim.Native.Nat.{◌≤◌, ◌-◌}
-use lib.Dec.{eqb}
-use lib.ListN.{length, get_or}
+use mathlib.Core.Path.{sym}
 use borrow.Author.Rules.{rules}
 use borrow.Author.Tests.{eq-eqb, ne_eqb}
 use Rattle.seq.specs.Bytes.{no_zero}
-use Rattle.seq.specs.Search.{all}
 use Rattle.seq.proofs.SearchLaws.{all_none, all_more, all_not, all_out}
 use Rattle.layout.proofs.bytes.no_zero.Goals as goal
 

@@ -1,15 +1,11 @@
 -- `layout::bytes::no_zero` keeps this in its loops. Assumes nothing.
 -- Invariant: no byte before k is zero. Measure: the bytes left.
-use mathlib.Core.Path.{◌≡◌, sym}
+use mathlib.Core.Path.{◌≡◌}
 use mathlib.Core.Bool.{true, not}
 use Prim.Native.Nat.{◌≤◌, ◌-◌}
 use lib.Dec.{eqb}
 use lib.ListN.{length, get_or}
-use borrow.Author.Rules.{rules}
-use borrow.Author.Tests.{eq-eqb, ne_eqb}
-use Rattle.seq.specs.Bytes.{no_zero}
 use Rattle.seq.specs.Search.{all}
-use Rattle.seq.proofs.SearchLaws.{all_none, all_more, all_not, all_out}
 use Rattle.layout.proofs.bytes.no_zero.Given as goal
 
 abbrev pub invariant-loop-k : goal.invariant-loop-k

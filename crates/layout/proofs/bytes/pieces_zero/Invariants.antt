@@ -1,13 +1,9 @@
 -- `layout::bytes::pieces_zero` keeps this in its loops. Assumes nothing.
 -- Invariant: the k pieces from `at` on are zero. Measure: the pieces left.
-use mathlib.Core.Path.{◌≡◌, sym, ◌∙◌}
+use mathlib.Core.Path.{◌≡◌}
 use mathlib.Core.Bool.{true}
 use Prim.Native.Nat.{◌*◌, ◌≤◌, ◌-◌}
-use native.Mathlib.Omega.{arith}
-use borrow.Author.Rules.{rules}
 use Rattle.seq.specs.Bytes.{zeros}
-use Rattle.seq.proofs.SearchLaws.{all_none}
-use Rattle.seq.proofs.ZeroLaws.{piece_zero, piece_other}
 use Rattle.layout.proofs.bytes.pieces_zero.Given as goal
 
 abbrev pub invariant-loop-k : goal.invariant-loop-k

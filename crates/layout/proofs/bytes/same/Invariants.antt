@@ -1,15 +1,11 @@
 -- `layout::bytes::same` keeps this in its loops. Assumes nothing.
 -- Invariant: the two are equal before byte k. Measure: the bytes left.
-use mathlib.Core.Path.{◌≡◌, sym}
-use mathlib.Core.Bool.{false, true}
+use mathlib.Core.Path.{◌≡◌}
+use mathlib.Core.Bool.{true}
 use Prim.Native.Nat.{◌≤◌, ◌-◌}
 use lib.Dec.{eqb}
 use lib.ListN.{length, get_or}
-use borrow.Author.Rules.{rules}
-use borrow.Author.Tests.{eq-eqb, ne_eqb}
-use Rattle.seq.specs.Bytes.{equal_bytes}
 use Rattle.seq.specs.Search.{all}
-use Rattle.seq.proofs.SearchLaws.{all_none, all_more, all_not, all_out}
 use Rattle.layout.proofs.bytes.same.Given as goal
 
 abbrev pub invariant-loop-k : goal.invariant-loop-k

@@ -1,13 +1,8 @@
 -- `layout::compare::compare` meets its contract. Assumes nothing.
-use mathlib.Core.Path.{◌≡◌}
-use mathlib.Core.Bool.{false}
-use Prim.Native.Nat.{◌≤◌, ◌-◌}
 use native.Mathlib.Omega.{arith}
 use borrow.Author.Rules.{rules}
 use Rattle.seq.specs.Truth.{fails, holds}
-use Rattle.seq.specs.Search.{any}
 use Rattle.seq.proofs.SearchLaws.{any_none, any_miss}
-use Rattle.seq.specs.Compare.{piece_differs}
 use Rattle.seq.proofs.CompareLaws.{lengths_differ, piece_differs_lem}
 use Rattle.layout.proofs.compare.compare.Goals as goal
 

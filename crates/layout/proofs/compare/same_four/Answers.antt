@@ -2,7 +2,6 @@
 use mathlib.Core.Path.{ap₂, ◌∙◌}
 use native.Mathlib.Omega.{arith}
 use lib.Dec.{eqb}
-use borrow.Author.Rules.{rules}
 use Rattle.seq.proofs.CompareLaws.{number_tells}
 use Rattle.layout.proofs.compare.same_four.Goals as goal
 

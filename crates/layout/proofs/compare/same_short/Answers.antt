@@ -1,7 +1,6 @@
 -- `layout::compare::same_short` meets its contract. Assumes nothing.
 use mathlib.Core.Path.{sym, ◌∙◌}
 use native.Mathlib.Omega.{arith}
-use borrow.Author.Rules.{rules}
 use Rattle.seq.specs.Truth.{fails, holds}
 use Rattle.seq.specs.Bytes.{part}
 use Rattle.seq.proofs.CompareLaws.{ends_differ, ends_decide}

@@ -1,6 +1,5 @@
 -- `layout::contents::name_is` meets its contract. Assumes nothing.
 use mathlib.Core.Path.{sym}
-use borrow.Author.Rules.{rules}
 use borrow.Author.Tests.{eq-eqb, ne_eqb}
 use Rattle.layout.specs.Contents.{name_is}
 use Rattle.layout.proofs.ContentsLaws.{name_last}

@@ -1,7 +1,6 @@
 -- `layout::contents::row_is` meets its contract. Assumes nothing.
 use mathlib.Core.Path.{sym, ◌∙◌, ap}
 use lib.Dec.{leb}
-use borrow.Author.Rules.{rules}
 use Rattle.seq.specs.Truth.{fails, holds}
 use Rattle.layout.proofs.ContentsLaws.{row_name, row_offset_lem, row_few, row_count}
 use Rattle.layout.proofs.contents.row_is.Goals as goal

@@ -1,5 +1,4 @@
 -- `layout::contents::shape_of` meets its contract. Assumes nothing.
-use borrow.Author.Rules.{rules}
 use Rattle.layout.proofs.ContentsLaws.{shape_is}
 use Rattle.layout.proofs.contents.shape_of.Goals as goal
 

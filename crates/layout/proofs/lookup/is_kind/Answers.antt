@@ -1,5 +1,4 @@
 -- `layout::lookup::is_kind` meets its contract. Assumes nothing.
-use borrow.Author.Rules.{rules}
 use borrow.Author.Tests.{lt-ltb, le-ltb}
 use Rattle.layout.specs.View.{view_of}
 use Rattle.layout.proofs.lookup.is_kind.Goals as goal

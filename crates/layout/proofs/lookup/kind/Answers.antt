@@ -1,5 +1,4 @@
 -- `layout::lookup::kind` meets its contract. Assumes nothing.
-use borrow.Author.Rules.{rules}
 use borrow.Author.Tests.{lt-ltb, le-ltb}
 use Rattle.layout.specs.View.{view_of, kind_of}
 use Rattle.layout.proofs.lookup.kind.Goals as goal

@@ -1,7 +1,6 @@
 -- `layout::number::get16` meets its contract. Assumes nothing.
 use Prim.Native.Nat.{◌+◌}
 use native.Mathlib.Omega.{arith}
-use borrow.Author.Rules.{rules}
 use Rattle.seq.specs.Number.{number_at}
 use Rattle.layout.proofs.number.get16.Goals as goal
 

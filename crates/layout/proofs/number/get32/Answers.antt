@@ -1,6 +1,5 @@
 -- `layout::number::get32` meets its contract. Assumes nothing.
 use native.Mathlib.Omega.{arith}
-use borrow.Author.Rules.{rules}
 use Rattle.seq.proofs.NumberLaws.{number_two}
 use Rattle.layout.proofs.number.get32.Goals as goal
 

@@ -1,6 +1,5 @@
 -- `layout::number::get64` meets its contract. Assumes nothing.
 use native.Mathlib.Omega.{arith}
-use borrow.Author.Rules.{rules}
 use Rattle.seq.proofs.NumberLaws.{number_four}
 use Rattle.layout.proofs.number.get64.Goals as goal
 

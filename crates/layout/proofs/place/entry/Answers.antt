@@ -1,7 +1,6 @@
 -- `layout::place::entry` meets its contract. Assumes nothing.
 use native.Mathlib.Omega.{arith}
 use lib.Dec.{lit<}
-use borrow.Author.Rules.{rules}
 use Rattle.layout.proofs.PlaceLaws.{place_inside}
 use Rattle.layout.proofs.place.entry.Goals as goal
 

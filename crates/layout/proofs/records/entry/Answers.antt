@@ -2,7 +2,6 @@
 use mathlib.Core.Path.{refl}
 use native.Mathlib.Omega.{arith}
 use lib.Dec.{lit<}
-use borrow.Author.Rules.{rules}
 use Rattle.layout.proofs.PlaceLaws.{place_inside}
 use Rattle.layout.proofs.RecordLaws.{reads_record}
 use Rattle.layout.proofs.records.entry.Goals as goal

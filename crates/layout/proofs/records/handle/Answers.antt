@@ -1,7 +1,6 @@
 -- `layout::records::handle` meets its contract. Assumes nothing.
 use mathlib.Core.Path.{refl}
 use lib.Dec.{lit<}
-use borrow.Author.Rules.{rules}
 use Rattle.layout.proofs.RecordLaws.{reads_record}
 use Rattle.layout.proofs.records.handle.Goals as goal
 

@@ -1,6 +1,5 @@
 -- `layout::text::bytes` meets its contract. Assumes nothing.
 use mathlib.Core.Path.{◌∙◌, ap}
-use borrow.Author.Rules.{rules}
 use Rattle.seq.specs.Bytes.{part}
 use Rattle.seq.proofs.BytesLaws.{part_range}
 use Rattle.layout.proofs.text.bytes.Goals as goal

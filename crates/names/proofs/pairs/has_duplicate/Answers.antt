@@ -1,12 +1,8 @@
 -- `names::pairs::has_duplicate` meets its contract. Assumes nothing.
-use mathlib.Core.Path.{◌≡◌, sym, ◌∙◌}
-use mathlib.Core.Bool.{false}
-use Prim.Native.Nat.{◌≤◌, ◌-◌}
+use mathlib.Core.Path.{sym, ◌∙◌}
 use borrow.Author.Rules.{rules}
-use Rattle.seq.specs.Search.{any}
 use Rattle.seq.proofs.SearchLaws.{any_none, any_miss, any_hit, any_turn, any_out}
 use Rattle.layout.specs.View.{view_of}
-use Rattle.names.specs.Name.{clash}
 use Rattle.names.specs.NameTests.{has_duplicate}
 use Rattle.names.proofs.pairs.has_duplicate.Goals as goal
 

@@ -1,14 +1,11 @@
 -- `names::pairs::has_duplicate` keeps this in its loops. Assumes nothing.
 -- Invariant: nothing is found yet; no two entries before j clash, and in the inner loop none before i clashes with j. Measure: the entries left; those before j.
-use mathlib.Core.Path.{◌≡◌, sym, ◌∙◌}
+use mathlib.Core.Path.{◌≡◌}
 use mathlib.Core.Bool.{false}
 use Prim.Native.Nat.{◌≤◌, ◌-◌}
-use borrow.Author.Rules.{rules}
 use Rattle.seq.specs.Search.{any}
-use Rattle.seq.proofs.SearchLaws.{any_none, any_miss, any_hit, any_turn, any_out}
 use Rattle.layout.specs.View.{view_of}
 use Rattle.names.specs.Name.{clash}
-use Rattle.names.specs.NameTests.{has_duplicate}
 use Rattle.names.proofs.pairs.has_duplicate.Given as goal
 
 abbrev pub invariant-loop-i : goal.invariant-loop-i

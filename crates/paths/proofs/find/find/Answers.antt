@@ -1,13 +1,10 @@
 -- `paths::find::find` meets its contract. Assumes nothing.
-use mathlib.Core.Path.{◌≡◌, sym, ◌∙◌}
-use mathlib.Core.Bool.{false}
-use Prim.Native.Nat.{◌≤◌, ◌-◌}
+use mathlib.Core.Path.{sym, ◌∙◌}
 use native.Mathlib.Omega.{arith}
 use borrow.Author.Rules.{rules}
-use Rattle.seq.specs.Search.{any}
 use Rattle.seq.proofs.SearchLaws.{any_none, any_miss, first_hit, first_out}
 use Rattle.layout.specs.View.{view_of}
-use Rattle.paths.specs.Lookup.{is_named, lookup}
+use Rattle.paths.specs.Lookup.{lookup}
 use Rattle.paths.proofs.find.find.Goals as goal
 
 pub loop-j-init : goal.loop-j-init

@@ -1,14 +1,11 @@
 -- `paths::find::find` keeps this in its loops. Assumes nothing.
 -- Invariant: no entry before j has the name in directory d. Measure: the entries left.
-use mathlib.Core.Path.{◌≡◌, sym, ◌∙◌}
+use mathlib.Core.Path.{◌≡◌}
 use mathlib.Core.Bool.{false}
 use Prim.Native.Nat.{◌≤◌, ◌-◌}
-use native.Mathlib.Omega.{arith}
-use borrow.Author.Rules.{rules}
 use Rattle.seq.specs.Search.{any}
-use Rattle.seq.proofs.SearchLaws.{any_none, any_miss, first_hit, first_out}
 use Rattle.layout.specs.View.{view_of}
-use Rattle.paths.specs.Lookup.{is_named, lookup}
+use Rattle.paths.specs.Lookup.{is_named}
 use Rattle.paths.proofs.find.find.Given as goal
 
 abbrev pub invariant-loop-j : goal.invariant-loop-j

@@ -1,9 +1,6 @@
 -- `paths::find::held_from` meets its contract. Assumes nothing.
 use mathlib.Core.Path.{refl, sym, ◌∙◌}
-use Prim.Native.Nat.{◌≤◌, ◌-◌}
 use borrow.Author.Rules.{rules}
-use Rattle.layout.specs.View.{view_of}
-use Rattle.paths.specs.LookupFacts.{Skips}
 use Rattle.paths.proofs.LookupLaws.{skip_more}
 use Rattle.paths.proofs.find.held_from.Goals as goal
 

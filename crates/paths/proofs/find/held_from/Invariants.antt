@@ -1,11 +1,8 @@
 -- `paths::find::held_from` keeps this in its loops. Assumes nothing.
 -- Invariant: a search of directory d that has come to the first slot may go on at j. Measure: the entries left.
-use mathlib.Core.Path.{refl, sym, ◌∙◌}
 use Prim.Native.Nat.{◌≤◌, ◌-◌}
-use borrow.Author.Rules.{rules}
 use Rattle.layout.specs.View.{view_of}
 use Rattle.paths.specs.LookupFacts.{Skips}
-use Rattle.paths.proofs.LookupLaws.{skip_more}
 use Rattle.paths.proofs.find.held_from.Given as goal
 
 abbrev pub invariant-loop-j : goal.invariant-loop-j

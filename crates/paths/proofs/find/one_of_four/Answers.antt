@@ -1,7 +1,6 @@
 -- `paths::find::one_of_four` meets its contract. Assumes nothing.
 use mathlib.Core.Path.{sym, ◌∙◌}
 use mathlib.Core.Bool.{false≢true}
-use borrow.Author.Rules.{rules}
 use Rattle.paths.proofs.LookupLaws.{skip_four}
 use Rattle.paths.proofs.find.one_of_four.Goals as goal
 

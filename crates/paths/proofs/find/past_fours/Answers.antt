@@ -1,8 +1,5 @@
 -- `paths::find::past_fours` meets its contract. Assumes nothing.
-use Prim.Native.Nat.{◌≤◌, ◌-◌}
 use borrow.Author.Rules.{rules}
-use Rattle.layout.specs.View.{view_of}
-use Rattle.paths.specs.LookupFacts.{Skips}
 use Rattle.paths.proofs.LookupLaws.{skip_none, skip_join}
 use Rattle.paths.proofs.find.past_fours.Goals as goal
 

@@ -1,12 +1,7 @@
 -- `paths::find::run_from` meets its contract. Assumes nothing.
-use mathlib.Core.Path.{◌≡◌, sym, ◌∙◌}
-use mathlib.Core.Bool.{false}
-use Prim.Native.Nat.{◌≤◌, ◌-◌}
+use mathlib.Core.Path.{sym, ◌∙◌}
 use borrow.Author.Rules.{rules}
-use Rattle.seq.specs.Search.{any}
 use Rattle.seq.proofs.SearchLaws.{any_miss}
-use Rattle.layout.specs.View.{view_of}
-use Rattle.paths.specs.Lookup.{is_named}
 use Rattle.paths.proofs.find.run_from.Goals as goal
 
 pub loop-j-preserved : goal.loop-j-preserved

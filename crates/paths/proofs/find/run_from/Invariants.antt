@@ -1,11 +1,9 @@
 -- `paths::find::run_from` keeps this in its loops. Assumes nothing.
 -- Invariant: no entry before j has the name in directory d. Measure: the entries left.
-use mathlib.Core.Path.{◌≡◌, sym, ◌∙◌}
+use mathlib.Core.Path.{◌≡◌}
 use mathlib.Core.Bool.{false}
 use Prim.Native.Nat.{◌≤◌, ◌-◌}
-use borrow.Author.Rules.{rules}
 use Rattle.seq.specs.Search.{any}
-use Rattle.seq.proofs.SearchLaws.{any_miss}
 use Rattle.layout.specs.View.{view_of}
 use Rattle.paths.specs.Lookup.{is_named}
 use Rattle.paths.proofs.find.run_from.Given as goal

@@ -1,12 +1,10 @@
 -- `paths::groups::copy` meets its contract. Assumes nothing.
 use mathlib.Core.Path.{refl, ◌≡◌, sym}
-use Prim.Native.Nat.{◌≤◌, ◌-◌}
 use native.Mathlib.Nat.{zero-add}
 use native.Mathlib.Omega.{arith}
-use lib.ListN.{length-set, length, take}
+use lib.ListN.{length-set, length}
 use lib.Seq.{take-length}
 use borrow.Author.Rules.{rules}
-use Rattle.seq.specs.Bytes.{put}
 use Rattle.seq.proofs.BytesLaws.{put_none, put_more}
 use Rattle.paths.proofs.groups.copy.Goals as goal
 

@@ -1,6 +1,5 @@
 -- `paths::groups::credentials` meets its contract. Assumes nothing.
 use native.Mathlib.Omega.{arith}
-use borrow.Author.Rules.{rules}
 use Rattle.paths.proofs.GroupLaws.{credentials_read, credentials_unread}
 use Rattle.paths.proofs.groups.credentials.Goals as goal
 

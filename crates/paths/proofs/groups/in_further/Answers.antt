@@ -1,13 +1,10 @@
 -- `paths::groups::in_further` meets its contract. Assumes nothing.
-use mathlib.Core.Path.{◌≡◌, sym}
-use mathlib.Core.Bool.{false}
-use Prim.Native.Nat.{◌≤◌, ◌<◌, ◌-◌}
+use mathlib.Core.Path.{sym}
+use Prim.Native.Nat.{◌<◌}
 use native.Mathlib.Omega.{arith}
 use borrow.Author.Rules.{rules}
-use Rattle.seq.specs.Search.{any}
 use Rattle.seq.proofs.SearchLaws.{any_none, any_miss, any_hit, any_out}
-use Rattle.layout.specs.Limits.{group_limit}
-use Rattle.paths.specs.Groups.{is_further, in_further}
+use Rattle.paths.specs.Groups.{in_further}
 use Rattle.paths.proofs.GroupLaws.{further_is, further_other, further_none}
 use Rattle.paths.proofs.groups.in_further.Goals as goal
 

@@ -1,15 +1,11 @@
 -- `paths::groups::in_further` keeps this in its loops. Assumes nothing.
 -- Invariant: no place before k that counts has the group. Measure: the places left.
-use mathlib.Core.Path.{◌≡◌, sym}
+use mathlib.Core.Path.{◌≡◌}
 use mathlib.Core.Bool.{false}
-use Prim.Native.Nat.{◌≤◌, ◌<◌, ◌-◌}
-use native.Mathlib.Omega.{arith}
-use borrow.Author.Rules.{rules}
+use Prim.Native.Nat.{◌≤◌, ◌-◌}
 use Rattle.seq.specs.Search.{any}
-use Rattle.seq.proofs.SearchLaws.{any_none, any_miss, any_hit, any_out}
 use Rattle.layout.specs.Limits.{group_limit}
-use Rattle.paths.specs.Groups.{is_further, in_further}
-use Rattle.paths.proofs.GroupLaws.{further_is, further_other, further_none}
+use Rattle.paths.specs.Groups.{is_further}
 use Rattle.paths.proofs.groups.in_further.Given as goal
 
 abbrev pub invariant-loop-k : goal.invariant-loop-k

@@ -1,5 +1,4 @@
 -- `paths::groups::in_group` meets its contract. Assumes nothing.
-use borrow.Author.Rules.{rules}
 use borrow.Author.Tests.{eq-eqb, ne_eqb}
 use Rattle.paths.specs.Groups.{in_group}
 use Rattle.paths.proofs.groups.in_group.Goals as goal

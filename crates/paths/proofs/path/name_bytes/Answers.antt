@@ -1,13 +1,9 @@
 -- `paths::path::name_bytes` meets its contract. Assumes nothing.
-use mathlib.Core.Path.{◌≡◌, sym}
-use mathlib.Core.Bool.{false}
-use Prim.Native.Nat.{◌≤◌, ◌-◌}
-use lib.ListN.{length, get_or}
+use mathlib.Core.Path.{sym}
 use borrow.Author.Rules.{rules}
 use borrow.Author.Tests.{eq-eqb, ne_eqb}
-use Rattle.seq.specs.Search.{any}
 use Rattle.seq.proofs.SearchLaws.{any_none, any_miss, first_hit, first_out}
-use Rattle.paths.specs.Path.{is_slash, until_slash}
+use Rattle.paths.specs.Path.{until_slash}
 use Rattle.paths.proofs.path.name_bytes.Goals as goal
 
 pub loop-k-init : goal.loop-k-init

@@ -1,14 +1,11 @@
 -- `paths::path::name_bytes` keeps this in its loops. Assumes nothing.
 -- Invariant: no byte before k is a slash. Measure: the bytes left.
-use mathlib.Core.Path.{◌≡◌, sym}
+use mathlib.Core.Path.{◌≡◌}
 use mathlib.Core.Bool.{false}
 use Prim.Native.Nat.{◌≤◌, ◌-◌}
 use lib.ListN.{length, get_or}
-use borrow.Author.Rules.{rules}
-use borrow.Author.Tests.{eq-eqb, ne_eqb}
 use Rattle.seq.specs.Search.{any}
-use Rattle.seq.proofs.SearchLaws.{any_none, any_miss, first_hit, first_out}
-use Rattle.paths.specs.Path.{is_slash, until_slash}
+use Rattle.paths.specs.Path.{is_slash}
 use Rattle.paths.proofs.path.name_bytes.Given as goal
 
 abbrev pub invariant-loop-k : goal.invariant-loop-k

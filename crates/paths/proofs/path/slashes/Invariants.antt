@@ -1,14 +1,11 @@
 -- `paths::path::slashes` keeps this in its loops. Assumes nothing.
 -- Invariant: every byte before k is a slash. Measure: the bytes left.
-use mathlib.Core.Path.{◌≡◌, sym}
+use mathlib.Core.Path.{◌≡◌}
 use mathlib.Core.Bool.{false, not}
 use Prim.Native.Nat.{◌≤◌, ◌-◌}
 use lib.ListN.{length, get_or}
-use borrow.Author.Rules.{rules}
-use borrow.Author.Tests.{eq-eqb, ne_eqb}
 use Rattle.seq.specs.Search.{any}
-use Rattle.seq.proofs.SearchLaws.{any_none, any_miss, first_hit, first_out}
-use Rattle.paths.specs.Path.{is_slash, slashes}
+use Rattle.paths.specs.Path.{is_slash}
 use Rattle.paths.proofs.path.slashes.Given as goal
 
 abbrev pub invariant-loop-k : goal.invariant-loop-k

@@ -2,7 +2,6 @@
 use mathlib.Core.Path.{ap, ◌∙◌}
 use native.Mathlib.Omega.{arith}
 use lib.ListN.{length}
-use borrow.Author.Rules.{rules}
 use Rattle.seq.specs.Bytes.{put}
 use Rattle.paths.proofs.WorkingPathLaws.{twice}
 use Rattle.paths.specs.WorkingPath.{working_path}

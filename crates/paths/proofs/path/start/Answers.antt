@@ -1,6 +1,5 @@
 -- `paths::path::start` meets its contract. Assumes nothing.
 use mathlib.Core.Path.{sym, ◌∙◌}
-use borrow.Author.Rules.{rules}
 use Rattle.paths.proofs.path.start.Goals as goal
 
 pub returns-then-is_absolute : goal.returns-then-is_absolute

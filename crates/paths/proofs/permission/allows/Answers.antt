@@ -1,6 +1,5 @@
 -- `paths::permission::allows` meets its contract. Assumes nothing.
 use mathlib.Core.Path.{sym, ◌∙◌}
-use borrow.Author.Rules.{rules}
 use borrow.Author.Tests.{eq-eqb}
 use Rattle.layout.specs.Fields.{inode_mode, inode_owner, inode_group}
 use Rattle.layout.proofs.RecordLaws.{field_of}

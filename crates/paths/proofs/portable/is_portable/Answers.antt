@@ -1,13 +1,9 @@
 -- `paths::portable::is_portable` meets its contract. Assumes nothing.
-use mathlib.Core.Path.{◌≡◌, sym}
-use mathlib.Core.Bool.{true}
-use Prim.Native.Nat.{◌≤◌, ◌-◌}
-use lib.ListN.{length, get_or}
+use mathlib.Core.Path.{sym}
 use borrow.Author.Rules.{rules}
 use Rattle.seq.specs.Truth.{fails, holds}
-use Rattle.seq.specs.Search.{all}
 use Rattle.seq.proofs.SearchLaws.{all_none, all_more, all_not, all_out}
-use Rattle.paths.specs.Portable.{is_portable_byte, is_portable}
+use Rattle.paths.specs.Portable.{is_portable}
 use Rattle.paths.proofs.portable.is_portable.Goals as goal
 
 pub loop-k-init : goal.loop-k-init

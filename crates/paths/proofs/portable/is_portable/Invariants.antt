@@ -1,14 +1,11 @@
 -- `paths::portable::is_portable` keeps this in its loops. Assumes nothing.
 -- Invariant: every byte before k is portable. Measure: the bytes left.
-use mathlib.Core.Path.{◌≡◌, sym}
+use mathlib.Core.Path.{◌≡◌}
 use mathlib.Core.Bool.{true}
 use Prim.Native.Nat.{◌≤◌, ◌-◌}
 use lib.ListN.{length, get_or}
-use borrow.Author.Rules.{rules}
-use Rattle.seq.specs.Truth.{fails, holds}
 use Rattle.seq.specs.Search.{all}
-use Rattle.seq.proofs.SearchLaws.{all_none, all_more, all_not, all_out}
-use Rattle.paths.specs.Portable.{is_portable_byte, is_portable}
+use Rattle.paths.specs.Portable.{is_portable_byte}
 use Rattle.paths.proofs.portable.is_portable.Given as goal
 
 abbrev pub invariant-loop-k : goal.invariant-loop-k

@@ -1,6 +1,5 @@
 -- `paths::request::good` meets its contract. Assumes nothing.
 use mathlib.Core.Bool.{and-false}
-use borrow.Author.Rules.{rules}
 use Rattle.seq.specs.Truth.{fails, holds}
 use Rattle.paths.specs.Request.{request_good}
 use Rattle.paths.proofs.request.good.Goals as goal

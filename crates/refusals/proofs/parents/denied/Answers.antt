@@ -1,5 +1,4 @@
 -- `refusals::parents::denied` meets its contract. Assumes nothing.
-use borrow.Author.Rules.{rules}
 use Rattle.seq.specs.Truth.{fails, holds}
 use Rattle.refusals.proofs.parents.denied.Goals as goal
 

@@ -1,5 +1,4 @@
 -- `refusals::parents::inside_itself` meets its contract. Assumes nothing.
-use borrow.Author.Rules.{rules}
 use Rattle.layout.specs.View.{view_of}
 use Rattle.refusals.proofs.parents.inside_itself.Goals as goal
 

@@ -1,5 +1,4 @@
 -- `refusals::parents::is_sticky` meets its contract. Assumes nothing.
-use borrow.Author.Rules.{rules}
 use Rattle.layout.specs.View.{view_of}
 use Rattle.layout.specs.Fields.{inode_mode}
 use Rattle.layout.proofs.RecordLaws.{field_of}

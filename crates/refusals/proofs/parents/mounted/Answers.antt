@@ -1,6 +1,5 @@
 -- `refusals::parents::mounted` meets its contract. Assumes nothing.
 use mathlib.Core.Path.{sym, ◌∙◌}
-use borrow.Author.Rules.{rules}
 use Rattle.refusals.proofs.parents.mounted.Goals as goal
 
 pub returns-then-mounted_in : goal.returns-then-mounted_in

@@ -1,5 +1,4 @@
 -- `refusals::parents::mounted_in` meets its contract. Assumes nothing.
-use borrow.Author.Rules.{rules}
 use Rattle.seq.specs.Truth.{fails, holds}
 use Rattle.layout.proofs.ViewLaws.{is_kind_below}
 use Rattle.refusals.proofs.parents.mounted_in.Goals as goal

@@ -1,5 +1,4 @@
 -- `refusals::parents::other_system` meets its contract. Assumes nothing.
-use borrow.Author.Rules.{rules}
 use Rattle.refusals.proofs.parents.other_system.Goals as goal
 
 pub returns : goal.returns

@@ -1,7 +1,6 @@
 -- `refusals::parents::read_only` meets its contract. Assumes nothing.
 use mathlib.Core.Path.{sym}
 use borrow.Author.Tests.{le-leb, lt-leb}
-use borrow.Author.Rules.{rules}
 use Rattle.refusals.proofs.parents.read_only.Goals as goal
 
 pub returns-then-system-ge-FIRST_READ_ONLY : goal.returns-then-system-ge-FIRST_READ_ONLY

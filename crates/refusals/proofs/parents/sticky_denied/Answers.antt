@@ -1,7 +1,6 @@
 -- `refusals::parents::sticky_denied` meets its contract. Assumes nothing.
 use mathlib.Core.Path.{sym, ◌∙◌}
 use borrow.Author.Tests.{eq-eqb, ne_eqb}
-use borrow.Author.Rules.{rules}
 use Rattle.seq.specs.Truth.{fails, holds}
 use Rattle.refusals.specs.Case.{sticky_denied}
 use Rattle.refusals.proofs.parents.sticky_denied.Goals as goal

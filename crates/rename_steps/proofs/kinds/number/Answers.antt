@@ -1,7 +1,6 @@
 -- `rename_steps::kinds::number` meets its contract. Assumes nothing.
 use mathlib.Core.Path.{sym, ◌∙◌}
 use native.Mathlib.Omega.{arith}
-use borrow.Author.Rules.{rules}
 use Rattle.layout.proofs.ViewLaws.{kind_of_lem, other_kind}
 use Rattle.rename_steps.proofs.kinds.number.Goals as goal
 

@@ -1,5 +1,4 @@
 -- `rename_steps::kinds::of_directory` meets its contract. Assumes nothing.
-use borrow.Author.Rules.{rules}
 use Rattle.rename_steps.proofs.KindLaws.{new_denied, new_passes, onto_denied, onto_full, onto_passes, onto_other}
 use Rattle.rename_steps.proofs.kinds.of_directory.Goals as goal
 

@@ -1,5 +1,4 @@
 -- `rename_steps::kinds::of_other` meets its contract. Assumes nothing.
-use borrow.Author.Rules.{rules}
 use Rattle.rename_steps.proofs.KindLaws.{other_slashed, other_new, other_directory, other_passes}
 use Rattle.rename_steps.proofs.kinds.of_other.Goals as goal
 

@@ -2,7 +2,6 @@
 use mathlib.Core.Path.{sym, ◌∙◌}
 use mathlib.Core.Bool.{and-false}
 use borrow.Author.Tests.{eq-eqb, ne_eqb}
-use borrow.Author.Rules.{rules}
 use Rattle.rename_steps.proofs.target.busy.Goals as goal
 
 pub returns-then-replaced-eq-ABSENT : goal.returns-then-replaced-eq-ABSENT

@@ -1,7 +1,6 @@
 -- `rename_steps::target::full_parent` meets its contract. Assumes nothing.
 use mathlib.Core.Bool.{and-false}
 use borrow.Author.Tests.{eq-eqb, ne_eqb}
-use borrow.Author.Rules.{rules}
 use Rattle.seq.specs.Truth.{fails, holds}
 use Rattle.layout.specs.View.{view_of}
 use Rattle.layout.specs.Fields.{inode_links}

@@ -1,12 +1,8 @@
 -- `rename_steps::target::has_entries` meets its contract. Assumes nothing.
-use mathlib.Core.Path.{◌≡◌}
-use mathlib.Core.Bool.{false}
-use Prim.Native.Nat.{◌≤◌, ◌-◌}
 use borrow.Author.Rules.{rules}
-use Rattle.seq.specs.Search.{any}
 use Rattle.seq.proofs.SearchLaws.{any_none, any_turn, any_found, any_out}
 use Rattle.layout.specs.View.{view_of}
-use Rattle.rename_steps.specs.Tests.{entry_in, has_entries}
+use Rattle.rename_steps.specs.Tests.{has_entries}
 use Rattle.rename_steps.proofs.target.has_entries.Goals as goal
 
 pub loop-j-init : goal.loop-j-init

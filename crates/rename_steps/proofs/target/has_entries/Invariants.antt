@@ -3,11 +3,9 @@
 use mathlib.Core.Path.{◌≡◌}
 use mathlib.Core.Bool.{false}
 use Prim.Native.Nat.{◌≤◌, ◌-◌}
-use borrow.Author.Rules.{rules}
 use Rattle.seq.specs.Search.{any}
-use Rattle.seq.proofs.SearchLaws.{any_none, any_turn, any_found, any_out}
 use Rattle.layout.specs.View.{view_of}
-use Rattle.rename_steps.specs.Tests.{entry_in, has_entries}
+use Rattle.rename_steps.specs.Tests.{entry_in}
 use Rattle.rename_steps.proofs.target.has_entries.Given as goal
 
 abbrev pub invariant-loop-j : goal.invariant-loop-j

@@ -1,12 +1,8 @@
 -- `rename_steps::target::is_opened` meets its contract. Assumes nothing.
-use mathlib.Core.Path.{◌≡◌}
-use mathlib.Core.Bool.{false}
-use Prim.Native.Nat.{◌≤◌, ◌-◌}
 use borrow.Author.Rules.{rules}
-use Rattle.seq.specs.Search.{any}
 use Rattle.seq.proofs.SearchLaws.{any_none, any_turn, any_found, any_out}
 use Rattle.layout.specs.View.{view_of}
-use Rattle.rename_steps.specs.Tests.{open_on, is_opened}
+use Rattle.rename_steps.specs.Tests.{is_opened}
 use Rattle.rename_steps.proofs.target.is_opened.Goals as goal
 
 pub loop-n-init : goal.loop-n-init

@@ -1,6 +1,5 @@
 -- `rename_steps::target::number` meets its contract. Assumes nothing.
 use mathlib.Core.Path.{sym, ◌∙◌}
-use borrow.Author.Rules.{rules}
 use Rattle.rename_steps.proofs.target.number.Goals as goal
 
 pub returns-then-busy : goal.returns-then-busy

@@ -1,7 +1,6 @@
 -- `rename_steps::target::open_on` meets its contract. Assumes nothing.
 use mathlib.Core.Path.{sym, ◌∙◌}
 use borrow.Author.Tests.{eq-eqb, ne_eqb}
-use borrow.Author.Rules.{rules}
 use Rattle.layout.specs.View.{view_of}
 use Rattle.layout.specs.Fields.{handle_state, handle_inode}
 use Rattle.layout.proofs.RecordLaws.{field_of}

@@ -1,12 +1,7 @@
 use mathlib.Core.Path.{◌≡◌}
-use Prim.Native.Nat.{◌≤◌, ◌-◌}
 use native.Mathlib.Omega.{arith}
-use lib.ListN.{length}
 use borrow.Author.Rules.{rules}
-use Rattle.layout.specs.View.{view_of}
-use Rattle.tables.specs.Table.{Table}
 use Rattle.tables.specs.TableLaws.{table_none, table_turn}
-use Rattle.tallies.specs.Tallies.{above}
 use Rattle.tallies.proofs.tops.all_above.Goals as goal
 
 pub loop-i-init : goal.loop-i-init

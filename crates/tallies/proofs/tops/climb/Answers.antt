@@ -1,10 +1,8 @@
 use mathlib.Core.Path.{◌≡◌}
-use Prim.Native.Nat.{◌≤◌, ◌<◌, ◌-◌, ◌*◌}
+use Prim.Native.Nat.{◌<◌}
 use native.Mathlib.Omega.{arith}
 use lib.ListN.{get_or}
 use borrow.Author.Rules.{rules}
-use Rattle.tables.specs.Table.{Within}
-use Rattle.tallies.specs.Rounds.{round, Rooted}
 use Rattle.tallies.proofs.RoundsLaws.{round_none, round_turn, rooted_turn, within_turn}
 use Rattle.tallies.proofs.tops.climb.Goals as goal
 

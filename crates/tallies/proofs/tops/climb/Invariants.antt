@@ -1,11 +1,7 @@
 use mathlib.Core.Path.{◌≡◌}
-use Prim.Native.Nat.{◌≤◌, ◌<◌, ◌-◌, ◌*◌}
-use native.Mathlib.Omega.{arith}
-use lib.ListN.{get_or}
-use borrow.Author.Rules.{rules}
+use Prim.Native.Nat.{◌≤◌, ◌-◌, ◌*◌}
 use Rattle.tables.specs.Table.{Within}
 use Rattle.tallies.specs.Rounds.{round, Rooted}
-use Rattle.tallies.proofs.RoundsLaws.{round_none, round_turn, rooted_turn, within_turn}
 use Rattle.tallies.proofs.tops.climb.Given as goal
 
 -- `tallies::tops::climb` meets its contract. Assumes nothing.

@@ -1,11 +1,7 @@
 -- `tallies::tops::tops` meets its contract. Assumes nothing.
-use Prim.Native.Nat.{◌≤◌, ◌-◌}
 use native.Mathlib.Omega.{arith}
 use borrow.Author.Rules.{rules}
-use Rattle.layout.specs.View.{view_of}
-use Rattle.tallies.specs.Rounds.{Climbed}
 use Rattle.tallies.proofs.RoundsLaws.{table_climbed, climbed_within, round_climbed}
-use Rattle.tallies.specs.Tallies.{above}
 use Rattle.tallies.proofs.TopsLaws.{above_in, tops_far, tops_rooted}
 use Rattle.tallies.proofs.tops.tops.Goals as goal
 

@@ -1,13 +1,9 @@
 -- `tallies::tops::tops` keeps this in its loops. Assumes nothing.
 -- Invariant: each directory has come at least size steps up. Measure: what size lacks of the inodes.
 use Prim.Native.Nat.{◌≤◌, ◌-◌}
-use native.Mathlib.Omega.{arith}
-use borrow.Author.Rules.{rules}
 use Rattle.layout.specs.View.{view_of}
 use Rattle.tallies.specs.Rounds.{Climbed}
-use Rattle.tallies.proofs.RoundsLaws.{table_climbed, climbed_within, round_climbed}
 use Rattle.tallies.specs.Tallies.{above}
-use Rattle.tallies.proofs.TopsLaws.{above_in, tops_far, tops_rooted}
 use Rattle.tallies.proofs.tops.tops.Given as goal
 
 abbrev pub invariant-loop-size : goal.invariant-loop-size

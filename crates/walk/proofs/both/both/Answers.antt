@@ -1,5 +1,4 @@
 -- `walk::both::both` meets its contract. Assumes nothing.
-use borrow.Author.Rules.{rules}
 use Rattle.layout.specs.View.{view_of}
 use Rattle.paths.proofs.RequestLaws.{good_old, good_new}
 use Rattle.walk.proofs.BothLaws.{both_refused, both_walked}

@@ -1,6 +1,5 @@
 -- `walk::resolve::from_start` meets its contract. Assumes nothing.
 use mathlib.Core.Path.{sym, ◌∙◌, ap, subst}
-use borrow.Author.Rules.{rules}
 use Rattle.layout.specs.View.{view_of}
 use Rattle.layout.specs.Limits.{step_limit}
 use Rattle.component.specs.State.{position_of, Fit}

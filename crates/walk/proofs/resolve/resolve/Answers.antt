@@ -1,6 +1,5 @@
 -- `walk::resolve::resolve` meets its contract. Assumes nothing.
 use mathlib.Core.Path.{sym, ◌∙◌, ap}
-use borrow.Author.Rules.{rules}
 use Rattle.layout.specs.View.{view_of}
 use Rattle.walk.specs.Walk.{begun}
 use Rattle.walk.proofs.WalkLaws.{walk_empty, walk_long, walk_begins}

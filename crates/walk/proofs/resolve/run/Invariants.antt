@@ -1,17 +1,11 @@
 -- `walk::resolve::run` keeps this in its loops. Assumes nothing.
 -- Invariant: the position fits and is ready for a step, and the walk from it ends as the walk from the first. Measure: the budget.
-use mathlib.Core.Path.{◌≡◌, sym, ◌∙◌, refl}
-use native.Mathlib.Omega.{arith}
-use borrow.Author.Rules.{rules}
+use mathlib.Core.Path.{◌≡◌}
 use Rattle.layout.specs.View.{view_of}
 use Rattle.layout.specs.Limits.{step_limit}
 use Rattle.component.specs.State.{position_of, Fit}
-use Rattle.component.proofs.StateLaws.{turned_goes, turned_fit, fit_short}
 use Rattle.walk.specs.Walk.{walk_from}
 use Rattle.walk.specs.Budget.{budget, Ready}
-use Rattle.walk.proofs.Bound.{after_is, budget_falls, ready_new, ready_steps, ready_next, walk_goes, walk_ends}
-use Rattle.walk.specs.Answer.{end_of}
-use Rattle.walk.proofs.AnswerLaws.{refused_closes, found_closes}
 use Rattle.walk.proofs.resolve.run.Given as goal
 
 abbrev pub invariant-loop-w : goal.invariant-loop-w

@@ -1,5 +1,4 @@
 -- `walk::resolve::walk` meets its contract: the definition's bound and the facts of its ends are the answer's. Assumes nothing.
-use borrow.Author.Rules.{rules}
 use Rattle.layout.specs.View.{view_of}
 use Rattle.layout.proofs.ViewLaws.{readable_text}
 use Rattle.walk.proofs.AnswerLaws.{walk_answered}

@@ -1,7 +1,6 @@
 -- `walk::resolve::working` meets its contract. Assumes nothing.
 use mathlib.Core.Path.{◌∙◌}
 use native.Mathlib.Omega.{arith}
-use borrow.Author.Rules.{rules}
 use Rattle.seq.proofs.BytesLaws.{put_zeros}
 use Rattle.paths.specs.WorkingPath.{working_path}
 use Rattle.layout.specs.Limits.{path_bytes}

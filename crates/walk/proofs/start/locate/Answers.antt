@@ -1,6 +1,5 @@
 -- `walk::start::locate` meets its contract. Assumes nothing.
 use mathlib.Core.Path.{sym, ◌∙◌}
-use borrow.Author.Rules.{rules}
 use borrow.Author.Tests.{eq-eqb, ne_eqb, lt-ltb, le-ltb}
 use Rattle.layout.specs.Fields.{handle_state, handle_inode}
 use Rattle.layout.proofs.RecordLaws.{field_of}
