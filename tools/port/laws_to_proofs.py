@@ -1,12 +1,12 @@
 #!/usr/bin/env python3
-"""Moves theorems that must-fail edits of specs/ break, and what rests on them, from specs/ to proofs/.
+"""Moves what must-fail edits break, after the files of laws alone went from specs/ to proofs/.
 
 usage: python3 tools/port/laws_to_proofs.py        at the top of the repository
 
-A broken theorem in specs/ refuses an edit only where nothing else of specs/ rests on it, and a file of specs/ may not name its own crate's proofs/. So whole
-files go, with what uses them; of a file whose text an edit changes only what rests on the changed theorem goes, to a file of its own. Statements stay as they
-are. The lines `pub mod`, the imports of the whole tree and the edits' lines `file:` follow. It can be run again: what has moved stays, and imports written
-since are turned.
+A broken theorem refuses an edit only where nothing else of specs/, or of the edited file, rests on it, and a file of specs/ may not name its own crate's
+proofs/. So the four files go whose definitions hold proofs, and of a file whose text an edit changes what rests on the changed theorem goes to a file of its
+own. Statements stay as they are. The lines `pub mod`, the imports of the whole tree and the edits' lines `file:` follow. It can be run again: what has moved
+stays, and imports written since are turned.
 """
 
 import glob
@@ -14,37 +14,11 @@ import os
 import re
 import subprocess
 
-# OLD=NEW where rattle makes a module of the old name in proofs/.
-WHOLE = {
-    "seq": "CompareLaws",
-    "layout": "Commute PlaceLaws RecordLaws",
-    "tree": "InodeFactLaws",
-    "consistency": "CheckedLaws EntryFits FactLaws RecordFactLaws SoundFacts",
-    "edits": "Bench ExchangeWrittenLaws Finished FinishedBodies RenamedLaws WrittenLaws",
-    "paths": "GroupLaws PermissionLaws",
-    "component": "DecisionLaws Turns WayLaws",
-    "walk": "AnswerLaws EndLaws",
-    "plan": "Copied FitLaws Many RowLaws UnusedLaws WriteLaws",
-    "apply": "Laws",
-    "recounts": "Edited",
-    "results": "Again Owed Records=RecordLaws",
-    "afresh": "AfreshLaws ClearedLaws ExchangeAfreshLaws ExchangeRecountLaws RecountLaws",
-    "crash_theorem": "ChainLaws CrashProof Example FinishLaws FormExample FormLaws InvariantLaws OrderLaws Planned QueuePlacesLaws SettleLaws",
-    "image_store": "After CoveredLaws Example ImageLaws JobLaws JobRowsLaws Levels MixedLaws Operation Owed RecoveryLaws Safe",
-    "rename": "AlikeLaws Bounds FlagLaws Outs UnflaggedLaws Walked=WalkedLaws",
-    "rename_drafts": "Fit",
-    "drafts": "DraftLaws",
-    "recover": "Bounds Outs",
-    "outcome": "Applied Bench CalledLaws Consistent Finished PlanRows",
-    "exchange_outcome": "Applied Bench Consistent Finished Way",
-    "rename_survives": "PlanSurvivesProof Safe SurvivesProof",
-    "exchange_survives": "Recovers Safe Slots SurvivesProof",
-    "demands": "Demand2Proof Demand3Proof ExchangeDemand3Proof OutlivesProof RetoldLaws",
-}
+# Whole files that go from specs/ to proofs/.
+WHOLE = {"image_store": "CoveredLaws ImageLaws JobLaws Operation"}
 
-
-def names_of(files):
-    return [tuple(it.split("=")) if "=" in it else (it, it) for it in files.split()]
+# Files of proofs/ whose names differ only in case from a module that rattle makes there.
+RENAMED = {"results": ("Records", "RecordLaws"), "rename": ("Walked", "WalkedLaws")}
 
 
 def read(path):
@@ -79,41 +53,43 @@ def add_mod(lib, name):
         write(lib, text + f"pub mod {name}\n")
 
 
-# Splits: (crate, file, new file, names that go).
+# Names that go from one module to another, since an edit changes what they rest on.
 SPLIT = [
-    ("seq", "ClimbLaws", "ClimbWays", ["up_in", "short_way"]),
-    ("consistency", "Bench", "BenchConsistent", ["bench_consistent"]),
-    ("walk", "Bound", "BoundStart", ["ready_new", "start_leads", "walk_fuel", "walk_counts", "walk_bound"]),
-    ("recounts", "RecountLaws", "RecountCleared", ["recounted_cleared"]),
-    ("crash_theorem", "Form", "FormRows", ["Do", "in_form", "Carries", "Follows"]),
+    ("seq.proofs.ClimbLaws", "seq.proofs.ClimbWays", ["up_in", "short_way"]),
+    ("consistency.proofs.Bench", "consistency.proofs.BenchConsistent", ["bench_consistent"]),
+    ("walk.proofs.Bound", "walk.proofs.BoundStart", ["ready_new", "start_leads", "walk_fuel", "walk_counts", "walk_bound"]),
+    ("recounts.specs.RecountLaws", "recounts.proofs.RecountCleared", ["recounted_cleared"]),
+    ("crash_theorem.specs.Form", "crash_theorem.proofs.FormRows", ["Do", "in_form", "Carries", "Follows"]),
+    ("image_store.proofs.JobLaws", "image_store.proofs.JobForm", ["takes_fits", "takes_applies", "takes_zero", "takes_puts", "job_form"]),
+    ("rename_survives.proofs.PlanSurvivesProof", "rename_survives.proofs.PlanSurvivesWhole", ["plan_survives"]),
 ]
 
 
 def split_seq():
-    path = "crates/seq/specs/ClimbLaws.antt"
+    path = "crates/seq/proofs/ClimbLaws.antt"
     body, rest = between(read(path), "-- Places below a limit, and steps", "-- Where a step changes")
-    uses = imports_of(rest) + ["use Rattle.seq.specs.ClimbLaws.{pigeonhole, up_add}"]
+    uses = imports_of(rest) + ["use Rattle.seq.proofs.ClimbLaws.{pigeonhole, up_add}"]
     write(path, rest)
     new_file("seq", "ClimbWays", "A way to a goal is shorter than there are places, if it is the shortest.", uses, body)
 
 
 def split_consistency():
-    path = "crates/consistency/specs/Bench.antt"
+    path = "crates/consistency/proofs/Bench.antt"
     body, rest = between(read(path), "pub bench_consistent :")
-    uses = [l for l in imports_of(rest) if "Prelude" in l or "BenchTree" in l or "Consistent" in l] + ["use Rattle.consistency.specs.Bench.{bench_checked}"]
+    uses = [l for l in imports_of(rest) if "Prelude" in l or "BenchTree" in l or "Consistent" in l] + ["use Rattle.consistency.proofs.Bench.{bench_checked}"]
     write(path, rest)
     new_file("consistency", "BenchConsistent", "The bench tree is consistent, as a truth value.", uses, body)
 
 
 def split_walk():
-    path = "crates/walk/specs/Bound.antt"
+    path = "crates/walk/proofs/Bound.antt"
     text = read(path)
     new, text = between(text, "pub ready_new :", "module _ (v : View)")
     begin, text = between(text, "  -- a path that a walk begins on")
     for w in ("leads_count", "spends", "leads", "led"):
         begin = re.sub(rf"(?<![\w'.]){w}(?= (?!:))(?! =)", f"{w} v who last", begin)
     begin = begin.replace("start_leads v who last", "start_leads")
-    uses = imports_of(text) + ["use Rattle.walk.specs.Bound.{spend_most, ready_budget, leads, led, leads_count, spends}"]
+    uses = imports_of(text) + ["use Rattle.walk.proofs.Bound.{spend_most, ready_budget, leads, led, leads_count, spends}"]
     text = text.replace("\nspend_most :", "\npub spend_most :")
     write(path, text)
     head = "module _ (v : View) (who : Credentials) (last : Final) where\n"
@@ -161,74 +137,70 @@ def split_survives():
     add_mod("crates/rename_survives/proofs/Lib.antt", "PlanSurvivesWhole")
 
 
-# Names that go from one file to another (crate, part and file of old, of new).
-def turns():
-    out = []
-    for crate, file, new, names in SPLIT:
-        out.append((f"Rattle.{crate}.specs.{file}", f"Rattle.{crate}.proofs.{new}", names))
-    out.append(("Rattle.image_store.proofs.JobLaws", "Rattle.image_store.proofs.JobForm", ["takes_fits", "takes_applies", "takes_zero", "takes_puts", "job_form"]))
-    out.append(("Rattle.rename_survives.proofs.PlanSurvivesProof", "Rattle.rename_survives.proofs.PlanSurvivesWhole", ["plan_survives"]))
-    return out
-
-
 def turn_imports(text, path):
     for crate, files in WHOLE.items():
-        names = dict(names_of(files))
-        text = re.sub(rf"\bRattle\.{crate}\.specs\.({'|'.join(names)})(?=\.)", lambda m: f"Rattle.{crate}.proofs.{names[m[1]]}", text)
-    for old, new, names in turns():
-        if path.endswith("/" + new.split(".")[-2] + "/" + new.split(".")[-1] + ".antt") and f"/{new.split('.')[1]}/" in path:
+        text = re.sub(rf"\bRattle\.{crate}\.specs\.({'|'.join(files.split())})(?=\.)", rf"Rattle.{crate}.proofs.\1", text)
+    for crate, (old, new) in RENAMED.items():
+        text = re.sub(rf"\bRattle\.{crate}\.(specs|proofs)\.{old}(?=\.)", f"Rattle.{crate}.proofs.{new}", text)
+    for old, new, names in SPLIT:
+        if path == "crates/" + new.replace(".", "/") + ".antt":
             continue
 
         def parted(m):
-            items = [w.strip() for w in m[3].split(",") if w.strip()]
+            items = [w.strip() for w in m[2].split(",") if w.strip()]
             go = [w for w in items if w.split(" as ")[0] in names]
             stay = [w for w in items if w not in go]
             if not go:
                 return m[0]
-            lines = [f"{m[1]}{old}.{{{', '.join(stay)}}}{m[4]}"] if stay else []
-            return "\n".join([*lines, f"{m[1]}{new}.{{{', '.join(go)}}}{m[4]}"])
+            lines = [f"{m[1]}Rattle.{old}.{{{', '.join(stay)}}}{m[3]}"] if stay else []
+            return "\n".join([*lines, f"{m[1]}Rattle.{new}.{{{', '.join(go)}}}{m[3]}"])
 
-        text = re.sub(rf"(?m)^((?:pub |ghost )*use )({re.escape(old)})\.\{{([^}}]*)\}}(;?)$", parted, text)
+        crate, _, file = old.split(".")
+        text = re.sub(rf"(?m)^((?:pub |ghost )*use )Rattle\.{crate}\.(?:specs|proofs)\.{file}\.\{{([^}}]*)\}}(;?)$", parted, text)
     return text
 
 
+# Where the text stands that an edit changes, by the edit's name.
 EDITS = {
-    "crash_theorem/must-fail/row_left_out": ("specs/Form.antt", "proofs/FormRows.antt"),
-    "image_store/must-fail/verdict_of_first_row": ("specs/JobLaws.antt", "proofs/JobForm.antt"),
-    "image_store/must-fail/same_row_again": ("specs/Operation.antt", "proofs/Operation.antt"),
-    "rename_survives/must-fail/recovers_with_any_buffers": ("specs/PlanSurvivesProof.antt", "proofs/PlanSurvivesProof.antt"),
-    "rename_survives/must-fail/undecided_is_finished": ("specs/Safe.antt", "proofs/Safe.antt"),
+    "consistency/must-fail/bench_root_miscounted": "proofs/Bench.antt",
+    "crash_theorem/must-fail/row_left_out": "proofs/FormRows.antt",
+    "exchange_outcome/must-fail/slot_keeps_its_target": "proofs/SlotLaws.antt",
+    "image_store/must-fail/verdict_of_first_row": "proofs/JobForm.antt",
+    "image_store/must-fail/same_row_again": "proofs/Operation.antt",
+    "rename_survives/must-fail/recovers_with_any_buffers": "proofs/PlanSurvivesProof.antt",
+    "rename_survives/must-fail/undecided_is_finished": "proofs/Safe.antt",
+    "seq/must-fail/pigeonhole_one_less": "proofs/ClimbLaws.antt",
+    "walk/must-fail/bound_of_nine_paths": "proofs/Bound.antt",
+    "walk/must-fail/bound_of_one_path_less": "proofs/Bound.antt",
 }
 
 
 def main():
-    splits = {"seq": split_seq, "consistency": split_consistency, "walk": split_walk, "recounts": split_recounts, "crash_theorem": split_crash}
-    for crate, file, new, _ in SPLIT:
-        if not os.path.isfile(f"crates/{crate}/proofs/{new}.antt"):
-            os.makedirs(f"crates/{crate}/proofs", exist_ok=True)
-            splits[crate]()
+    parts = {"ClimbWays": split_seq, "BenchConsistent": split_consistency, "BoundStart": split_walk, "RecountCleared": split_recounts, "FormRows": split_crash, "JobForm": split_image_store, "PlanSurvivesWhole": split_survives}
     for crate, files in WHOLE.items():
-        for name, named in names_of(files):
-            old, new = f"crates/{crate}/specs/{name}.antt", f"crates/{crate}/proofs/{named}.antt"
+        for name in files.split():
+            old, new = f"crates/{crate}/specs/{name}.antt", f"crates/{crate}/proofs/{name}.antt"
             if os.path.isfile(old):
-                os.makedirs(os.path.dirname(new), exist_ok=True)
                 subprocess.run(["git", "mv", old, new], check=True)
                 lib = f"crates/{crate}/specs/Lib.antt"
                 write(lib, "".join(l for l in read(lib).splitlines(keepends=True) if l.strip() != f"pub mod {name}"))
-                add_mod(f"crates/{crate}/proofs/Lib.antt", named)
-    if not os.path.isfile("crates/image_store/proofs/JobForm.antt"):
-        split_image_store()
-    if not os.path.isfile("crates/rename_survives/proofs/PlanSurvivesWhole.antt"):
-        split_survives()
-    paths = [p for part in ("specs", "proofs", "src") for p in glob.glob(f"crates/*/{part}/**/*", recursive=True)]
-    paths += glob.glob("crates/*/must-fail/**/*", recursive=True)
+                add_mod(f"crates/{crate}/proofs/Lib.antt", name)
+    for crate, (old, new) in RENAMED.items():
+        if os.path.isfile(f"crates/{crate}/proofs/{old}.antt"):
+            subprocess.run(["git", "mv", f"crates/{crate}/proofs/{old}.antt", f"crates/{crate}/proofs/{new}.antt"], check=True)
+            lib = f"crates/{crate}/proofs/Lib.antt"
+            write(lib, re.sub(rf"(?m)^pub mod {old}$", f"pub mod {new}", read(lib)))
+    for _, new, _ in SPLIT:
+        if not os.path.isfile("crates/" + new.replace(".", "/") + ".antt"):
+            parts[new.split(".")[-1]]()
+    paths = [p for part in ("specs", "proofs", "src", "must-fail") for p in glob.glob(f"crates/*/{part}/**/*", recursive=True)]
     for path in sorted(paths):
         if path.endswith((".antt", ".rt", ".edit", ".control")):
             was = read(path)
             text = turn_imports(was, path)
-            for name, (old, new) in EDITS.items():
+            for name, file in EDITS.items():
                 if path.startswith(f"crates/{name}."):
-                    text = text.replace(f"file: {old}\n", f"file: {new}\n")
+                    text = re.sub(r"(?m)^file: .*$", f"file: {file}", text)
             if text != was:
                 write(path, text)
 

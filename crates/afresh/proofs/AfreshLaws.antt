@@ -17,7 +17,7 @@ use Rattle.recounts.specs.declared.Move.{Move}
 use Rattle.recounts.specs.Recount.{entries_after, links_after}
 use Rattle.results.specs.Results.{present, holder_bytes, replaced_bytes, holder_after, replaced_after, old_row, results}
 use Rattle.results.specs.InImage.{InImage}
-use Rattle.results.proofs.Records.{replaced_freed}
+use Rattle.results.proofs.RecordLaws.{replaced_freed}
 use Rattle.results.proofs.Again.{holder_kind, replaced_kind, replaced_again, afresh}
 use Rattle.afresh.specs.Recount.{Agrees}
 use Rattle.afresh.proofs.RecountLaws.{entries_agree, links_agree}

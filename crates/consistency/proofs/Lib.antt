@@ -8,3 +8,4 @@ pub mod RecordFactLaws
 pub mod SoundFacts
 pub mod CheckedLaws
 pub mod FactLaws
+pub mod BenchConsistent

@@ -5,7 +5,8 @@ use Rattle.std.proofs.Math.Option
 use Rattle.crash_theorem.specs.Pick.{All}
 use Rattle.crash_theorem.specs.Change.{Change, plan}
 use Rattle.crash_theorem.specs.Obligations.{Obligations}
-use Rattle.crash_theorem.specs.Form.{Form, store_of, Do, in_form}
+use Rattle.crash_theorem.specs.Form.{Form, store_of}
+use Rattle.crash_theorem.proofs.FormRows.{Do, in_form}
 use Rattle.crash_theorem.proofs.FormLaws.{carries_of, owed_in}
 use Rattle.crash_theorem.specs.Plan.{change}
 use Rattle.crash_theorem.proofs.Example.{Write, inside, written, refused, toy, first, recover, first_owed}

@@ -7,7 +7,8 @@ use Rattle.crash_theorem.specs.Store.{Store, Rows}
 use Rattle.crash_theorem.specs.Change.{Change, plan, goal}
 use Rattle.crash_theorem.specs.Obligations.{OnTheWay, Opens, Settles, Cover, Ahead, Behind, Orderly, Obligations}
 use Rattle.crash_theorem.specs.Order.{Sorted}
-use Rattle.crash_theorem.specs.Form.{Form, store_of, Do, in_form, Carries, Follows}
+use Rattle.crash_theorem.specs.Form.{Form, store_of}
+use Rattle.crash_theorem.proofs.FormRows.{Do, in_form, Carries, Follows}
 
 -- ---- rows that do what others say
 

@@ -13,3 +13,4 @@ pub mod ChainLaws
 pub mod Example
 pub mod FormExample
 pub mod QueuePlacesLaws
+pub mod FormRows

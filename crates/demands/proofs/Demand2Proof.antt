@@ -32,7 +32,7 @@ use Rattle.rename.specs.Order.{walks, inode_of, case_rules, early, order}
 use Rattle.rename.specs.Job.{answer, case, rows_by, plan_by, renamed, plan_after}
 use Rattle.rename.proofs.FlagLaws.{exchange_there, rename_free}
 use Rattle.rename.proofs.Known.{old_found}
-use Rattle.image_store.specs.JobLaws.{jobs}
+use Rattle.image_store.proofs.JobLaws.{jobs}
 use Rattle.outcome.proofs.Applied.{applied_in_order}
 use Rattle.outcome.proofs.Consistent.{finished_checked}
 use Rattle.exchange_outcome.proofs.Applied.{applied_in_order as exchanged-in-order}

@@ -16,10 +16,10 @@ use Rattle.crash_theorem.specs.Events as theory
 use Rattle.crash_theorem.specs.Crash.{Safe}
 use Rattle.crash_theorem.specs.Plan.{Plan}
 use Rattle.recover.specs.Job.{recovered}
-use Rattle.image_store.specs.ImageLaws.{images}
+use Rattle.image_store.proofs.ImageLaws.{images}
 use Rattle.image_store.specs.Buffers.{Buffers, enough}
 use Rattle.image_store.proofs.BuffersLaws.{is_enough}
-use Rattle.image_store.specs.JobLaws.{jobs}
+use Rattle.image_store.proofs.JobLaws.{jobs}
 use Rattle.rename_survives.specs.PlanSurvives.{plan_jobs, plan_state, PlanSurvives}
 use Rattle.demands.specs.Crashes.{Event, apply, crash, call, State, group_of, step, run, at_first, has_group}
 use Rattle.demands.specs.Outlives.{Outlives}

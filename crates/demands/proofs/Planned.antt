@@ -14,7 +14,7 @@ use Rattle.crash_theorem.specs.Events.{EventOf}
 use Rattle.exchanges.specs.Exchange.{exchange_planned}
 use Rattle.moves.specs.Plan.{planned}
 use Rattle.rename.specs.Job.{answer, move, exchange, called, plan_by, plan_after}
-use Rattle.image_store.specs.JobLaws.{jobs}
+use Rattle.image_store.proofs.JobLaws.{jobs}
 use Rattle.outcome.specs.Outcome.{finished}
 use Rattle.outcome.specs.RenamePlan.{rename_plan}
 use Rattle.outcome.specs.Called.{Called}

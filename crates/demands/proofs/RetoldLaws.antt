@@ -16,8 +16,8 @@ use Rattle.crash_theorem.specs.Finish.{OnlyApplies}
 use Rattle.crash_theorem.specs.Events as theory
 use Rattle.crash_theorem.specs.Plan.{Plan}
 use Rattle.recover.specs.Job.{recovered}
-use Rattle.image_store.specs.ImageLaws.{images}
-use Rattle.image_store.specs.JobLaws.{jobs}
+use Rattle.image_store.proofs.ImageLaws.{images}
+use Rattle.image_store.proofs.JobLaws.{jobs}
 use Rattle.image_store.specs.Recovery.{waiting_at}
 use Rattle.rename_survives.specs.PlanSurvives.{plan_jobs}
 use Rattle.demands.specs.Crashes.{Event, apply, refused, crash, Whose, call, recovery, nobody, State, group_of, taken, at_place, tried, answered, step, run, has_group}

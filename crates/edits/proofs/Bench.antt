@@ -10,7 +10,7 @@ use Rattle.layout.specs.Record.{record_at}
 use Rattle.layout.specs.View.{View, view_of}
 use Rattle.layout.specs.BenchTree.{bench}
 use Rattle.tree.specs.Tree.{entries_of, reaches}
-use Rattle.consistency.proofs.Bench.{bench_consistent}
+use Rattle.consistency.proofs.BenchConsistent.{bench_consistent}
 use Rattle.consistency.proofs.FactLaws.{consistent_is}
 use Rattle.edits.specs.ConsistentView.{ConsistentView}
 use Rattle.edits.specs.Moved.{Allowed}

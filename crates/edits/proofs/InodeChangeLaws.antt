@@ -4,7 +4,8 @@ use Rattle.std.proofs.Common.{sym, ◌∙◌, inl, inr, ⊎_elim, arith}
 use Rattle.seq.specs.Count.{Off, On, bits}
 use Rattle.seq.proofs.CountLaws.{on_or_off}
 use Rattle.seq.specs.Climb.{up}
-use Rattle.seq.proofs.ClimbLaws.{up_in, still_leads}
+use Rattle.seq.proofs.ClimbLaws.{still_leads}
+use Rattle.seq.proofs.ClimbWays.{up_in}
 use Rattle.layout.specs.View.{View}
 use Rattle.tree.specs.Tree.{holds_directory, child_directories}
 use Rattle.edits.specs.Kinds.{IsDirectory, IsUsed, EntryUsed, HandleOpen}

@@ -7,7 +7,7 @@ use Rattle.std.proofs.Common.{le_of_suc-le-suc, arith}
 use borrow.Author.Tests.{eqb-true, eq-eqb, ne_eqb}
 use Rattle.seq.specs.Truth.{and_right, not_both}
 use Rattle.seq.specs.Climb.{up}
-use Rattle.seq.proofs.ClimbLaws.{short_way}
+use Rattle.seq.proofs.ClimbWays.{short_way}
 use Rattle.layout.specs.View.{View, is_directory}
 use Rattle.tree.specs.Tree.{reaches}
 use Rattle.edits.specs.Kinds.{IsDirectory}

@@ -14,9 +14,9 @@ use Rattle.crash_theorem.specs.Pick.{All}
 use Rattle.crash_theorem.proofs.PickLaws.{all_join}
 use Rattle.crash_theorem.specs.Store.{put_all}
 use Rattle.crash_theorem.specs.Order.{Permitted, Sorted}
-use Rattle.image_store.specs.ImageLaws.{images}
-use Rattle.image_store.specs.JobLaws.{jobs}
-use Rattle.image_store.specs.Operation.{rows_in}
+use Rattle.image_store.proofs.ImageLaws.{images}
+use Rattle.image_store.proofs.JobLaws.{jobs}
+use Rattle.image_store.proofs.Operation.{rows_in}
 use Rattle.image_store.proofs.Safe.{planned_count as plan-counted, planned_whole, planned_in_order}
 use Rattle.image_store.proofs.Levels.{level_sorted}
 use Rattle.exchange_outcome.specs.Outcome.{exchanged}

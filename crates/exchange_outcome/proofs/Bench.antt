@@ -12,14 +12,14 @@ use Rattle.layout.specs.View.{view_of}
 use Rattle.layout.specs.BenchTree.{bench}
 use Rattle.tree.specs.Tree.{reaches}
 use Rattle.consistency.specs.Consistent.{check_number}
-use Rattle.consistency.proofs.Bench.{bench_consistent}
+use Rattle.consistency.proofs.BenchConsistent.{bench_consistent}
 use Rattle.consistency.specs.Facts.{Consistent}
 use Rattle.consistency.proofs.FactLaws.{consistent_is}
 use Rattle.edits.specs.Exchanged.{Side}
 use Rattle.edits.proofs.Bodies.{bodies_consistent}
 use Rattle.edits.proofs.Refusals.{not_above_of}
 use Rattle.recounts.specs.declared.Move.{Move}
-use Rattle.image_store.specs.ImageLaws.{read_of}
+use Rattle.image_store.proofs.ImageLaws.{read_of}
 use Rattle.exchange_outcome.specs.Outcome.{exchanged}
 use Rattle.exchange_outcome.specs.Paired.{Paired}
 use Rattle.exchange_outcome.proofs.Consistent.{exchange_checked}

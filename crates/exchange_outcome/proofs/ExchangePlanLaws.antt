@@ -4,7 +4,7 @@ use Rattle.std.proofs.Math.Path.{refl}
 use Rattle.layout.specs.declared.Shape.{Shape}
 use Rattle.recounts.specs.declared.Move.{Move}
 use Rattle.exchanges.specs.Exchange.{exchange_rows, exchange_planned}
-use Rattle.image_store.specs.Operation.{rows_in}
+use Rattle.image_store.proofs.Operation.{rows_in}
 use Rattle.image_store.specs.JobRows.{plan_of}
 use Rattle.exchange_outcome.specs.ExchangePlan.{exchange_plan}
 

@@ -17,7 +17,7 @@ use Rattle.crash_theorem.proofs.PickLaws.{any_left, any_right}
 use Rattle.crash_theorem.specs.Store.{Spares}
 use Rattle.crash_theorem.specs.Plan.{after_of}
 use Rattle.image_store.specs.Image.{Ok}
-use Rattle.image_store.specs.ImageLaws.{images}
+use Rattle.image_store.proofs.ImageLaws.{images}
 use Rattle.image_store.proofs.Safe.{after_stored}
 use Rattle.image_store.proofs.After.{after_ok, after_written, after_kept}
 use Rattle.outcome.proofs.Rows.{has_apart, has_either}

@@ -20,7 +20,7 @@ use Rattle.crash_theorem.proofs.PickLaws.{all_join}
 use Rattle.crash_theorem.specs.Store.{Distinct, Spares}
 use Rattle.crash_theorem.specs.Plan.{WellFormed}
 use Rattle.image_store.specs.Image.{Fits}
-use Rattle.image_store.specs.ImageLaws.{first_ok, images}
+use Rattle.image_store.proofs.ImageLaws.{first_ok, images}
 use Rattle.outcome.proofs.Rows.{writes_fit, start_fits, all_apart, distinct_when, section, index}
 use Rattle.outcome.proofs.Whole.{clear_zeros}
 use Rattle.exchange_outcome.specs.ExchangePlan.{exchange_plan}

@@ -7,7 +7,7 @@ use Rattle.results.specs.Results.{clear_row}
 use Rattle.results.specs.Start.{start_row}
 use Rattle.exchanges.specs.Exchange.{exchange_results}
 use Rattle.crash_theorem.specs.Plan.{by_journal_lem, Plan}
-use Rattle.image_store.specs.ImageLaws.{images}
+use Rattle.image_store.proofs.ImageLaws.{images}
 
 -- the rows by what they do: the journal record is set and decides, the entries and the inodes follow, the journal record is cleared
 abbrev pub exchange_plan : (h : Shape) (s : List ℕ) → Move → Plan (images h s)

@@ -26,7 +26,7 @@ use Rattle.exchange_drafts.specs.PendingExchange.{slot_stands, slots_stand, exch
 use Rattle.exchange_drafts.proofs.ExchangeFit.{exchange_finished}
 use Rattle.recover.specs.Recover.{if_consistent, recover}
 use Rattle.image_store.specs.Image.{record_of}
-use Rattle.image_store.specs.ImageLaws.{images}
+use Rattle.image_store.proofs.ImageLaws.{images}
 use Rattle.image_store.specs.Mixed.{Mixed}
 use Rattle.image_store.proofs.MixedLaws.{way_mixed}
 use Rattle.exchange_outcome.specs.Outcome.{exchanged}

@@ -12,9 +12,9 @@ use Rattle.crash_theorem.specs.Events.{EventOf, State, decided}
 use Rattle.crash_theorem.specs.Crash.{Safe}
 use Rattle.crash_theorem.specs.Plan.{Plan, WellFormed, Recovers}
 use Rattle.recover.specs.Recover.{recover}
-use Rattle.image_store.specs.ImageLaws.{images}
-use Rattle.image_store.specs.JobLaws.{jobs}
-use Rattle.image_store.specs.Operation.{rows_in}
+use Rattle.image_store.proofs.ImageLaws.{images}
+use Rattle.image_store.proofs.JobLaws.{jobs}
+use Rattle.image_store.proofs.Operation.{rows_in}
 use Rattle.exchange_outcome.specs.Outcome.{exchanged}
 use Rattle.exchange_outcome.specs.ExchangePlan.{exchange_plan}
 use Rattle.exchange_outcome.proofs.ExchangePlanLaws.{exchange_planned_lem}
@@ -26,7 +26,8 @@ use Rattle.exchange_outcome.proofs.Applied.{rows_few}
 use Rattle.exchange_outcome.proofs.Finished.{exchanged_after, old_written, new_written}
 use Rattle.exchange_outcome.proofs.Consistent.{before_consistent, exchange_consistent}
 use Rattle.rename_survives.specs.PlanSurvives.{PlanSurvives}
-use Rattle.rename_survives.proofs.PlanSurvivesProof.{plan_group, plan_safe, plan_mixed, plan_entry, plan_survives}
+use Rattle.rename_survives.proofs.PlanSurvivesProof.{plan_group, plan_safe, plan_mixed, plan_entry}
+use Rattle.rename_survives.proofs.PlanSurvivesWhole.{plan_survives}
 use Rattle.exchange_survives.specs.Run.{exchange_jobs, exchange_state, ExchangeKept, EachNamed}
 use Rattle.exchange_survives.proofs.Slots.{exchange_kept}
 use Rattle.exchange_survives.proofs.Recovers.{recovers}

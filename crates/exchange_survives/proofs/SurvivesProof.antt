@@ -4,7 +4,7 @@ use Rattle.layout.specs.declared.Shape.{Shape}
 use Rattle.plan.specs.Form.{plan_bytes}
 use Rattle.recounts.specs.declared.Move.{Move}
 use Rattle.crash_theorem.specs.Events.{EventOf}
-use Rattle.image_store.specs.JobLaws.{jobs}
+use Rattle.image_store.proofs.JobLaws.{jobs}
 use Rattle.exchange_outcome.specs.Paired.{Paired}
 use Rattle.exchange_survives.proofs.Safe.{exchange_lasts, slots_kept, named_before, named_after}
 use Rattle.exchange_survives.specs.Survives.{ExchangeSurvives}

@@ -10,8 +10,8 @@ use Rattle.crash_theorem.specs.Change.{Change}
 use Rattle.crash_theorem.specs.Events.{EventOf, State}
 use Rattle.crash_theorem.specs.Plan.{change}
 use Rattle.recover.specs.Recover.{recover}
-use Rattle.image_store.specs.ImageLaws.{images}
-use Rattle.image_store.specs.JobLaws.{jobs}
+use Rattle.image_store.proofs.ImageLaws.{images}
+use Rattle.image_store.proofs.JobLaws.{jobs}
 use Rattle.exchange_outcome.specs.ExchangePlan.{exchange_plan}
 use Rattle.rename_survives.specs.PlanSurvives.{plan_jobs, plan_state}
 

@@ -6,7 +6,7 @@ use Rattle.layout.specs.View.{view_of}
 use Rattle.recounts.specs.declared.Move.{Move}
 use Rattle.exchanges.specs.Exchange.{exchange_planned}
 use Rattle.crash_theorem.specs.Events.{EventOf, decided}
-use Rattle.image_store.specs.JobLaws.{jobs}
+use Rattle.image_store.proofs.JobLaws.{jobs}
 use Rattle.exchange_outcome.specs.Outcome.{exchanged}
 use Rattle.exchange_outcome.specs.ExchangePlan.{exchange_plan}
 use Rattle.rename_survives.specs.PlanSurvives.{PlanSurvives}

@@ -12,7 +12,7 @@ use Rattle.crash_theorem.specs.Store.{Rows, Spares}
 use Rattle.crash_theorem.proofs.StoreLaws.{all_ok, rows_same, all_other}
 use Rattle.crash_theorem.specs.Plan.{Plan, WellFormed, writes, after_of}
 use Rattle.image_store.specs.Image.{Ok, Fits}
-use Rattle.image_store.specs.ImageLaws.{record_is, images}
+use Rattle.image_store.proofs.ImageLaws.{record_is, images}
 
 module _ {h : Shape} {s₀ : List ℕ} {p : Plan (images h s₀)} (𝓦 : WellFormed (images h s₀) p) {t : List ℕ} (is : after_of (images h s₀) p ≡ t) where
   abbrev rows : Rows (images h s₀)

@@ -25,12 +25,12 @@ use Rattle.crash_theorem.specs.Obligations.{Obligations}
 use Rattle.crash_theorem.specs.Plan.{by_row, Plan, behind_of, WellFormed, Recovers}
 use Rattle.crash_theorem.proofs.Planned.{clear_settles, behind_all}
 use Rattle.image_store.specs.Image.{Fits, is_valid, record_of, accepted, put_write}
-use Rattle.image_store.specs.ImageLaws.{read_of, first_ok, images}
+use Rattle.image_store.proofs.ImageLaws.{read_of, first_ok, images}
 use Rattle.image_store.specs.Buffers.{Buffers, enough}
 use Rattle.image_store.proofs.BuffersLaws.{enough_is, is_enough, too_short}
-use Rattle.image_store.specs.JobLaws.{jobs}
+use Rattle.image_store.proofs.JobLaws.{jobs}
 use Rattle.image_store.specs.Recovery.{RecoveryJob, AnswersRows}
-use Rattle.image_store.specs.Operation.{rows_in, planned_change}
+use Rattle.image_store.proofs.Operation.{rows_in, planned_change}
 use Rattle.image_store.proofs.Safe.{planned_in_order, planned_owed, planned_recovers}
 use Rattle.image_store.specs.JobRows.{plan_of}
 

@@ -12,9 +12,10 @@ use Rattle.plan.proofs.FitLaws.{written_formed}
 use Rattle.plan.specs.Write.{Write, rows_from}
 use Rattle.plan.specs.Stands.{RowFormed, Stands, Each}
 use Rattle.crash_theorem.specs.Pick.{All}
-use Rattle.crash_theorem.specs.Form.{Do}
+use Rattle.crash_theorem.proofs.FormRows.{Do}
 use Rattle.image_store.specs.Image.{Fits}
-use Rattle.image_store.specs.JobLaws.{job_form, written_does}
+use Rattle.image_store.proofs.JobLaws.{written_does}
+use Rattle.image_store.proofs.JobForm.{job_form}
 use Rattle.image_store.specs.JobRows.{plan_of}
 
 pub jobs_append : (plan : List ℕ) (us vs : List Write) (i : ℕ)

@@ -6,7 +6,7 @@ use Rattle.plan.specs.Write.{Write}
 use Rattle.crash_theorem.specs.Pick.{All}
 use Rattle.crash_theorem.proofs.PickLaws.{all_join, all_map}
 use Rattle.crash_theorem.specs.Order.{Sorted}
-use Rattle.image_store.specs.ImageLaws.{images}
+use Rattle.image_store.proofs.ImageLaws.{images}
 
 pub level_sorted : (h : Shape) (s : List ℕ) (g : ℕ) (us ws : List Write) → All (λ w. w.group ≡ g) us → All (λ w. g ≤ w.group) ws → Sorted (images h s) ws
     → Sorted (images h s) (us ++ ws)

@@ -7,3 +7,8 @@ pub mod MixedLaws
 pub mod Levels
 pub mod Example
 pub mod JobRowsLaws
+pub mod CoveredLaws
+pub mod ImageLaws
+pub mod JobLaws
+pub mod Operation
+pub mod JobForm

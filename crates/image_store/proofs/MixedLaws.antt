@@ -12,7 +12,7 @@ use Rattle.plan.proofs.WriteLaws.{other_section}
 use Rattle.crash_theorem.specs.Obligations.{OnTheWay}
 use Rattle.crash_theorem.specs.Plan.{Plan, after_of, change}
 use Rattle.image_store.specs.Image.{record_of}
-use Rattle.image_store.specs.ImageLaws.{record_is, images}
+use Rattle.image_store.proofs.ImageLaws.{record_is, images}
 use Rattle.image_store.specs.Mixed.{Mixed}
 
 module _ {h : Shape} {s t x : List ℕ} (mixed : Mixed h s t x) where

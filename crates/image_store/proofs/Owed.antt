@@ -11,16 +11,17 @@ use Rattle.crash_theorem.specs.Change.{Change, plan}
 use Rattle.crash_theorem.specs.Events.{start}
 use Rattle.crash_theorem.specs.Obligations.{Orderly, Obligations}
 use Rattle.crash_theorem.proofs.InvariantLaws.{fits_of, start_inv}
-use Rattle.crash_theorem.specs.Form.{Do, Carries}
+use Rattle.crash_theorem.proofs.FormRows.{Do, Carries}
 use Rattle.crash_theorem.proofs.FormLaws.{carries_of, orderly_in, owed_in}
 use Rattle.crash_theorem.specs.Plan.{Plan, WellFormed, Recovers, change}
 use Rattle.crash_theorem.proofs.Planned.{orderly, journaled}
 use Rattle.image_store.specs.Image.{Fits}
-use Rattle.image_store.specs.ImageLaws.{images}
-use Rattle.image_store.specs.JobLaws.{job_form, jobs}
+use Rattle.image_store.proofs.ImageLaws.{images}
+use Rattle.image_store.proofs.JobLaws.{jobs}
+use Rattle.image_store.proofs.JobForm.{job_form}
 use Rattle.image_store.specs.Recovery.{RecoveryJob, AnswersRows}
 use Rattle.image_store.proofs.RecoveryLaws.{answers_follow}
-use Rattle.image_store.specs.Operation.{rows_in, planned_change}
+use Rattle.image_store.proofs.Operation.{rows_in, planned_change}
 use Rattle.image_store.specs.JobRows.{plan_of}
 use Rattle.image_store.proofs.JobRowsLaws.{jobs_length, jobs_append, plan_jobs_lem, plan_does}
 

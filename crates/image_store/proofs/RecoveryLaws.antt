@@ -5,11 +5,11 @@ use Rattle.std.proofs.Math.Option.{Option, none, some}
 use Rattle.layout.specs.declared.Shape.{Shape}
 use Rattle.plan.specs.Jobs.{Job, jobs_in}
 use Rattle.plan.specs.Write.{Write}
-use Rattle.crash_theorem.specs.Form.{Follows}
+use Rattle.crash_theorem.proofs.FormRows.{Follows}
 use Rattle.crash_theorem.specs.Plan.{lending}
-use Rattle.image_store.specs.ImageLaws.{images}
+use Rattle.image_store.proofs.ImageLaws.{images}
 use Rattle.image_store.proofs.BuffersLaws.{enough_is}
-use Rattle.image_store.specs.JobLaws.{job_form}
+use Rattle.image_store.proofs.JobForm.{job_form}
 use Rattle.image_store.specs.Recovery.{RecoveryJob, waiting_at, waiting_after, AnswersRows}
 use Rattle.image_store.specs.JobRows.{plan_of}
 use Rattle.image_store.proofs.JobRowsLaws.{plan_does}

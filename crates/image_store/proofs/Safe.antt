@@ -21,12 +21,13 @@ use Rattle.crash_theorem.proofs.FormLaws.{do_sorted, way_said}
 use Rattle.crash_theorem.specs.Plan.{Plan, WellFormed, Recovers, ByRow, created_of, decide_row, writes, after_of, change}
 use Rattle.crash_theorem.proofs.Planned.{decided_record, undecided_record}
 use Rattle.image_store.specs.Image.{record_of}
-use Rattle.image_store.specs.ImageLaws.{images, puts_store}
+use Rattle.image_store.proofs.ImageLaws.{images, puts_store}
 use Rattle.image_store.specs.Buffers.{Buffers, enough}
-use Rattle.image_store.specs.JobLaws.{job_form, jobs, answers_zero}
+use Rattle.image_store.proofs.JobLaws.{jobs, answers_zero}
+use Rattle.image_store.proofs.JobForm.{job_form}
 use Rattle.image_store.specs.Recovery.{RecoveryJob, AnswersRows}
 use Rattle.image_store.proofs.RecoveryLaws.{answer_zero}
-use Rattle.image_store.specs.Operation.{rows_in, planned_change, state_after}
+use Rattle.image_store.proofs.Operation.{rows_in, planned_change, state_after}
 use Rattle.image_store.proofs.Owed.{rows_fit, rows_do, first_waiting, carries, orderly_jobs, obligations_jobs}
 use Rattle.image_store.specs.JobRows.{plan_of}
 use Rattle.image_store.proofs.JobRowsLaws.{plan_count}

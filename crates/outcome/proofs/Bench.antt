@@ -14,13 +14,13 @@ use Rattle.layout.specs.BenchTree.{bench}
 use Rattle.names.specs.Name.{plain_name, is_dots}
 use Rattle.names.specs.NameTests.{name_good}
 use Rattle.consistency.specs.Consistent.{check_number}
-use Rattle.consistency.proofs.Bench.{bench_consistent}
+use Rattle.consistency.proofs.BenchConsistent.{bench_consistent}
 use Rattle.consistency.specs.Facts.{Consistent}
 use Rattle.consistency.proofs.FactLaws.{consistent_is}
 use Rattle.edits.proofs.Bench.{k, g, new_name_lem, file_replaced}
 use Rattle.recounts.specs.declared.Move.{Move}
 use Rattle.recounts.specs.Recount.{entries_after}
-use Rattle.image_store.specs.ImageLaws.{read_of}
+use Rattle.image_store.proofs.ImageLaws.{read_of}
 use Rattle.outcome.specs.Outcome.{finished}
 use Rattle.outcome.specs.Called.{Called}
 use Rattle.outcome.proofs.Consistent.{finished_checked}

@@ -34,7 +34,7 @@ use Rattle.recounts.specs.Recount.{targets_after, entries_after, children_after,
 use Rattle.results.specs.Results.{free_record}
 use Rattle.recounts.proofs.Edited.{edited_old, edited_new, edited_else}
 use Rattle.recounts.proofs.Links.{links_directory, links_other}
-use Rattle.results.proofs.Records.{replaced_freed, replaced_says}
+use Rattle.results.proofs.RecordLaws.{replaced_freed, replaced_says}
 use Rattle.afresh.specs.Recount.{Agrees, Made}
 use Rattle.afresh.proofs.RecountLaws.{entries_agree, children_agree, entries_made, children_made}
 use Rattle.afresh.proofs.Inodes.{inode_long}

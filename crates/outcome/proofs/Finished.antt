@@ -17,7 +17,7 @@ use Rattle.crash_theorem.specs.Store.{Spares}
 use Rattle.crash_theorem.specs.Plan.{after_of, writes}
 use Rattle.moves.specs.Plan.{new_entry, entry_row}
 use Rattle.image_store.specs.Image.{Ok}
-use Rattle.image_store.specs.ImageLaws.{images}
+use Rattle.image_store.proofs.ImageLaws.{images}
 use Rattle.image_store.proofs.Safe.{after_stored}
 use Rattle.image_store.proofs.After.{after_ok, after_written, after_kept}
 use Rattle.outcome.specs.Outcome.{finished}

@@ -11,7 +11,7 @@ use Rattle.edits.specs.Kinds.{IsDirectory}
 use Rattle.edits.proofs.KindsLaws.{kind?}
 use Rattle.recounts.specs.declared.Move.{Move}
 use Rattle.results.specs.Results.{holder_bytes, moved_after}
-use Rattle.results.proofs.Records.{moved_directory_says, moved_other_says, holder_says}
+use Rattle.results.proofs.RecordLaws.{moved_directory_says, moved_other_says, holder_says}
 use Rattle.afresh.proofs.Inodes.{inode_long}
 
 module _ {h : Shape} {s : List ℕ} (laid : Laid h s) (t : List ℕ) where

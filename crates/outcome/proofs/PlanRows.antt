@@ -21,7 +21,7 @@ use Rattle.crash_theorem.specs.Store.{Distinct, Spares}
 use Rattle.crash_theorem.specs.Plan.{WellFormed}
 use Rattle.moves.specs.Plan.{entry_row}
 use Rattle.image_store.specs.Image.{Fits}
-use Rattle.image_store.specs.ImageLaws.{first_ok, images}
+use Rattle.image_store.proofs.ImageLaws.{first_ok, images}
 use Rattle.outcome.specs.RenamePlan.{rename_plan, asked}
 use Rattle.outcome.proofs.Rows.{writes_fit, start_fits, all_when, all_apart, distinct_when, one_when, section, index}
 use Rattle.outcome.specs.Called.{Called}

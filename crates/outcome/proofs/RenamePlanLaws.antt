@@ -4,7 +4,7 @@ use Rattle.std.proofs.Math.Path.{refl}
 use Rattle.layout.specs.declared.Shape.{Shape}
 use Rattle.recounts.specs.declared.Move.{Move}
 use Rattle.moves.specs.Plan.{rename_rows, planned}
-use Rattle.image_store.specs.Operation.{rows_in}
+use Rattle.image_store.proofs.Operation.{rows_in}
 use Rattle.image_store.specs.JobRows.{plan_of}
 use Rattle.outcome.specs.RenamePlan.{rename_plan}
 

@@ -15,7 +15,7 @@ use Rattle.results.specs.Start.{journal_for, start_row}
 use Rattle.crash_theorem.specs.Pick.{All, Has}
 use Rattle.crash_theorem.specs.Store.{Distinct, Spares}
 use Rattle.image_store.specs.Image.{Fits}
-use Rattle.image_store.specs.ImageLaws.{images}
+use Rattle.image_store.proofs.ImageLaws.{images}
 
 -- ---- each replaces a record whole
 

@@ -21,7 +21,7 @@ use Rattle.consistency.proofs.FactLaws.{is_consistent}
 use Rattle.plan.specs.Write.{journal_key}
 use Rattle.results.specs.Results.{free_record}
 use Rattle.image_store.specs.Image.{record_of}
-use Rattle.image_store.specs.ImageLaws.{record_is}
+use Rattle.image_store.proofs.ImageLaws.{record_is}
 
 module _ {h : Shape} {x : List ℕ} (read : Read x h) (clear : journal_clear h x ≡ true) where
   pub clear_zeros : record_of h x journal_key ≡ free_record h 4

@@ -6,7 +6,7 @@ use Rattle.recounts.specs.declared.Move.{Move}
 use Rattle.results.specs.Results.{results, clear_row, into_rows, replaced_rows, text_rows}
 use Rattle.crash_theorem.specs.Plan.{by_row, Plan}
 use Rattle.moves.specs.Plan.{journal_row, entry_row}
-use Rattle.image_store.specs.ImageLaws.{images}
+use Rattle.image_store.proofs.ImageLaws.{images}
 
 module _ (h : Shape) (s : List ℕ) (m : Move) (called : List ℕ) where
   -- the rows by what they do: the journal record is set, the new entry decides, the results follow, the journal record is cleared

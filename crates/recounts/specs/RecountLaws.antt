@@ -1,5 +1,5 @@
 -- A count of the entries as two slots of them are edited, from the count as they stand. Assumes nothing.
-use Rattle.std.specs.Prelude.{◌≡◌, refl, ◌≢◌, Bool, true, false, ◌&&◌, not, [], ◌∷◌, ℕ, ◌+◌, ◌<◌, eqb, ltb}
+use Rattle.std.specs.Prelude.{◌≡◌, refl, ◌≢◌, Bool, true, ◌&&◌, not, [], ◌∷◌, ℕ, ◌+◌, ◌<◌, eqb, ltb}
 use Rattle.std.proofs.Common.{sym, ap, arith, ltb-true, eq-eqb, ne_eqb}
 use Rattle.std.proofs.lemmas.Bool.{eqb-false, not-true}
 use Rattle.seq.specs.Count.{bit}
@@ -35,8 +35,3 @@ module _ (m : Move) (n : ℕ) (two : Two m n) (p : ℕ → Bool) (old new : Bool
         ap bit here,
         ap bit there,
       )
-
--- a slot that is cleared counts for nothing
-pub recounted_cleared : (m : Move) (n : ℕ) → Two m n → (p : ℕ → Bool) (made : Bool)
-    → count (λ j. edited m j false made (p j)) n + (bit (p m.old) + bit (p m.new)) ≡ count p n + bit made
-recounted_cleared m n two p made = omega (arith, recounted m n two p false made)

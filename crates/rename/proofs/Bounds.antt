@@ -8,7 +8,7 @@ use Rattle.layout.specs.Contents.{shape_of}
 use Rattle.layout.specs.View.{View}
 use Rattle.paths.specs.declared.request.Request.{Request}
 use Rattle.component.specs.Step.{End}
-use Rattle.walk.proofs.Bound.{walk_bound}
+use Rattle.walk.proofs.BoundStart.{walk_bound}
 use Rattle.walk.specs.Both.{old_final, new_final, old_walk, walks_of}
 use Rattle.refusals.specs.declared.case.Answer.{Answer}
 use Rattle.refusals.specs.declared.case.Answer.TheVariants.{Refused, Same, Planned, Exchanged}

@@ -2,6 +2,6 @@ pub mod FlagLaws
 pub mod Outs
 pub mod Bounds
 pub mod Known
-pub mod Walked
+pub mod WalkedLaws
 pub mod AlikeLaws
 pub mod UnflaggedLaws

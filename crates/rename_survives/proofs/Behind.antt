@@ -14,7 +14,7 @@ use Rattle.crash_theorem.specs.Plan.{Plan, WellFormed, after_of, behind_of, chan
 use Rattle.crash_theorem.proofs.Planned.{behind_all, reached}
 use Rattle.recover.specs.Recover.{if_consistent, recover}
 use Rattle.image_store.specs.Image.{Fits}
-use Rattle.image_store.specs.ImageLaws.{images, puts_store}
+use Rattle.image_store.proofs.ImageLaws.{images, puts_store}
 use Rattle.rename_survives.proofs.Pending.{answered}
 
 module _ {h : Shape} {s : List ℕ} (p : Plan (images h s)) (𝓦 : WellFormed (images h s) p) {t : List ℕ} (is : after_of (images h s) p ≡ t) where

@@ -5,3 +5,4 @@ pub mod Recovers
 pub mod PlanSurvivesProof
 pub mod Safe
 pub mod SurvivesProof
+pub mod PlanSurvivesWhole

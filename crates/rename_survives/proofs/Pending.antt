@@ -25,7 +25,7 @@ use Rattle.results.specs.InImage.{InImage}
 use Rattle.drafts.specs.Draft.{kind_draft, draft}
 use Rattle.recover.specs.Recover.{if_consistent, pending_rows, recover}
 use Rattle.image_store.specs.Image.{record_of}
-use Rattle.image_store.specs.ImageLaws.{record_is}
+use Rattle.image_store.proofs.ImageLaws.{record_is}
 
 -- ---- the record's numbers fit their fields
 

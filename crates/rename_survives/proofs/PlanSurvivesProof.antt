@@ -1,20 +1,18 @@
 -- A planned operation that recovery can finish survives whatever befalls it: the crash theorem on bytes, its plan applied row by row, crashes anywhere,
 -- recovery's plans applied in turn. Assumes nothing.
-use Rattle.std.specs.Prelude.{◌≡◌, refl, ◌≢◌, Bool, true, false, not, List, ℕ, ◌≤◌, ◌<◌, T, length}
+use Rattle.std.specs.Prelude.{◌≡◌, refl, ◌≢◌, false, not, List, ℕ, ◌≤◌, ◌<◌, T, length}
 use Rattle.std.proofs.Common.{sym, ap, ◌∙◌, arith, lit<}
 use Rattle.std.proofs.Math.Option.{some}
 use Rattle.layout.specs.declared.Shape.{Shape}
 use Rattle.layout.specs.Errno.{short_buffer}
 use Rattle.layout.specs.Facts.{Valid}
 use Rattle.layout.specs.View.{entry_at}
-use Rattle.consistency.specs.Consistent.{consistent}
-use Rattle.consistency.proofs.ConsistentLaws.{consistent_checked}
 use Rattle.plan.specs.Form.{plan_rows, plan_bytes}
 use Rattle.plan.specs.Jobs.{jobs_in}
 use Rattle.plan.specs.Write.{Write, entry_key, journal_key}
 use Rattle.plan.proofs.WriteLaws.{other_section}
 use Rattle.crash_theorem.specs.Store.{Spares}
-use Rattle.crash_theorem.specs.Change.{plan, goal}
+use Rattle.crash_theorem.specs.Change.{plan}
 use Rattle.crash_theorem.specs.Events.{EventOf, decided}
 use Rattle.crash_theorem.specs.Crash.{Safe}
 use Rattle.crash_theorem.specs.Plan.{created_of, Plan, decide_row, after_of, WellFormed, Recovers}
@@ -23,19 +21,19 @@ use Rattle.recover.specs.Job.{Recovered}
 use Rattle.recover.proofs.JobLaws.{recovered_short, recovered_done}
 use Rattle.recover.proofs.Bounds.{recover_few}
 use Rattle.image_store.specs.Image.{Ok}
-use Rattle.image_store.specs.ImageLaws.{record_is, images}
+use Rattle.image_store.proofs.ImageLaws.{record_is, images}
 use Rattle.image_store.specs.Buffers.{Buffers, enough}
 use Rattle.image_store.proofs.BuffersLaws.{enough_is, too_short}
-use Rattle.image_store.specs.JobLaws.{jobs}
+use Rattle.image_store.proofs.JobLaws.{jobs}
 use Rattle.image_store.specs.Recovery.{Fills, AnswersRows}
-use Rattle.image_store.specs.Operation.{rows_in}
+use Rattle.image_store.proofs.Operation.{rows_in}
 use Rattle.image_store.proofs.Owed.{carries}
-use Rattle.image_store.proofs.Safe.{planned_first, planned_safe, planned_zero, planned_recovers, planned_refuses, planned_way, planned_undecided}
+use Rattle.image_store.proofs.Safe.{planned_first, planned_safe, planned_recovers, planned_refuses, planned_way, planned_undecided}
 use Rattle.image_store.specs.Mixed.{Mixed}
 use Rattle.image_store.proofs.MixedLaws.{way_mixed}
 use Rattle.image_store.specs.JobRows.{plan_of}
 use Rattle.rename_survives.specs.Run.{recovery_job}
-use Rattle.rename_survives.specs.PlanSurvives.{plan_jobs, plan_state, PlanSurvives}
+use Rattle.rename_survives.specs.PlanSurvives.{plan_jobs, plan_state}
 
 -- the job recovery does what the rows by record say, and refuses buffers that are too short
 pub recovery_answers : (h : Shape) (s : List ℕ) → AnswersRows h s (recover h) recovery_job
@@ -90,25 +88,3 @@ module _ {h : Shape} {s : List ℕ} {p : Plan (images h s)} (𝓦 : WellFormed (
         sym (record_is h _ (entry_key j) valid)
         ∙ planned_undecided h s p 𝓦 buffer long few (recover h) ρ recovery_job (recovery_answers h s) es e (entry_key j) (rw journal (other_section _ _ (λ z. omega arith))) spares
         ∙ record_is h p.before (entry_key j) valid
-
-  module _ {t : List ℕ} (is : after_of (images h s) p ≡ t) (before : consistent p.before ≡ true) (after : consistent t ≡ true) where
-    goal_consistent : (d : Bool) → consistent (goal (plan_jobs h s p buffer) d) ≡ true
-    goal_consistent false = before
-    goal_consistent true = ap consistent is ∙ after
-
-    -- The claim.
-    pub plan_survives : (bytes : List ℕ) → plan_of h buffer (rows_in h s p) ≡ bytes → (es : List (EventOf (jobs h s))) → PlanSurvives h s p buffer bytes t es
-    plan_survives bytes e es =
-        let safe = plan_safe es in
-        let 𝓙 = plan_jobs h s p buffer in
-        record {
-          first = plan_first ∙ ap jobs_in e;
-          recovers = plan_recovers es;
-          can_finish = safe.can_finish;
-          applies = planned_zero h s p 𝓦 buffer long few (recover h) ρ recovery_job (recovery_answers h s) es;
-          turn = safe.progress;
-          undone = λ d z. safe.outcome d ∙ ap (goal 𝓙) z;
-          done = λ d z. safe.outcome d ∙ ap (goal 𝓙) z ∙ is;
-          checked = λ d. consistent_checked _ (ap consistent (safe.outcome d) ∙ goal_consistent (decided 𝓙 (plan_state h s p buffer es)));
-          decision = safe.decision;
-        }

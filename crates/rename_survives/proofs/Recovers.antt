@@ -27,7 +27,7 @@ use Rattle.rename_drafts.specs.PendingRename.{below_or_absent, rename_fits, move
 use Rattle.rename_drafts.proofs.Fit.{rename_move, move_undone, move_finished}
 use Rattle.recover.specs.Recover.{if_consistent, recover}
 use Rattle.image_store.specs.Image.{record_of}
-use Rattle.image_store.specs.ImageLaws.{record_is, images, puts_store}
+use Rattle.image_store.proofs.ImageLaws.{record_is, images, puts_store}
 use Rattle.image_store.specs.Mixed.{Mixed}
 use Rattle.image_store.proofs.MixedLaws.{way_mixed}
 use Rattle.outcome.specs.Outcome.{finished}

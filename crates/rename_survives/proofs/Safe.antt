@@ -17,10 +17,10 @@ use Rattle.crash_theorem.specs.Plan.{Plan, WellFormed, Recovers}
 use Rattle.moves.specs.Plan.{new_entry, planned as plannedBytes}
 use Rattle.recover.specs.Recover.{recover}
 use Rattle.image_store.specs.Image.{record_of}
-use Rattle.image_store.specs.ImageLaws.{record_is, images}
-use Rattle.image_store.specs.JobLaws.{jobs}
+use Rattle.image_store.proofs.ImageLaws.{record_is, images}
+use Rattle.image_store.proofs.JobLaws.{jobs}
 use Rattle.image_store.specs.Recovery.{AnswersRows}
-use Rattle.image_store.specs.Operation.{rows_in}
+use Rattle.image_store.proofs.Operation.{rows_in}
 use Rattle.image_store.proofs.Safe.{planned_decided}
 use Rattle.outcome.specs.Outcome.{finished}
 use Rattle.outcome.specs.RenamePlan.{rename_plan}
@@ -34,7 +34,8 @@ use Rattle.outcome.proofs.PlanRows.{well_formed}
 use Rattle.rename_survives.specs.Run.{recovery_job, NamesKept, rename_jobs, rename_state}
 use Rattle.rename_survives.specs.PlanSurvives.{PlanSurvives}
 use Rattle.rename_survives.proofs.Recovers.{recovers}
-use Rattle.rename_survives.proofs.PlanSurvivesProof.{recovery_answers, plan_group, plan_safe, plan_entry, plan_survives}
+use Rattle.rename_survives.proofs.PlanSurvivesProof.{recovery_answers, plan_group, plan_safe, plan_entry}
+use Rattle.rename_survives.proofs.PlanSurvivesWhole.{plan_survives}
 
 module _ {h : Shape} {s : List ℕ} {m : Move} {called : List ℕ} (c : Called h s m called) (buffer : List ℕ) (long : plan_bytes ≤ length buffer) where
   abbrev p : Plan (images h s)

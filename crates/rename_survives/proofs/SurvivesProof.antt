@@ -4,7 +4,7 @@ use Rattle.layout.specs.declared.Shape.{Shape}
 use Rattle.plan.specs.Form.{plan_bytes}
 use Rattle.recounts.specs.declared.Move.{Move}
 use Rattle.crash_theorem.specs.Events.{EventOf}
-use Rattle.image_store.specs.JobLaws.{jobs}
+use Rattle.image_store.proofs.JobLaws.{jobs}
 use Rattle.outcome.specs.Called.{Called}
 use Rattle.rename_survives.proofs.Safe.{rename_lasts, rename_kept}
 use Rattle.rename_survives.specs.Survives.{Survives}

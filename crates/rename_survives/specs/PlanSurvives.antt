@@ -11,10 +11,10 @@ use Rattle.crash_theorem.specs.Events.{EventOf, crash, State, step, decided}
 use Rattle.crash_theorem.specs.Finish.{Finishes}
 use Rattle.crash_theorem.specs.Plan.{Plan}
 use Rattle.recover.specs.Job.{recovered}
-use Rattle.image_store.specs.ImageLaws.{images}
+use Rattle.image_store.proofs.ImageLaws.{images}
 use Rattle.image_store.specs.Buffers.{Buffers, enough}
-use Rattle.image_store.specs.JobLaws.{jobs}
-use Rattle.image_store.specs.Operation.{planned_change, state_after}
+use Rattle.image_store.proofs.JobLaws.{jobs}
+use Rattle.image_store.proofs.Operation.{planned_change, state_after}
 use Rattle.rename_survives.specs.Run.{recovery_job}
 
 -- the plan p for the image s, put into the buffer

@@ -10,10 +10,10 @@ use Rattle.crash_theorem.specs.Events.{EventOf, State}
 use Rattle.crash_theorem.specs.Plan.{change}
 use Rattle.recover.specs.Recover.{recover}
 use Rattle.recover.specs.Job.{recovered}
-use Rattle.image_store.specs.ImageLaws.{images}
-use Rattle.image_store.specs.JobLaws.{jobs}
+use Rattle.image_store.proofs.ImageLaws.{images}
+use Rattle.image_store.proofs.JobLaws.{jobs}
 use Rattle.image_store.specs.Recovery.{RecoveryJob}
-use Rattle.image_store.specs.Operation.{planned_change, state_after}
+use Rattle.image_store.proofs.Operation.{planned_change, state_after}
 use Rattle.outcome.specs.RenamePlan.{rename_plan}
 
 -- a rename as the crash theorem sees it

@@ -5,7 +5,7 @@ use Rattle.layout.specs.declared.Shape.{Shape}
 use Rattle.recounts.specs.declared.Move.{Move}
 use Rattle.crash_theorem.specs.Events.{EventOf}
 use Rattle.moves.specs.Plan.{planned}
-use Rattle.image_store.specs.JobLaws.{jobs}
+use Rattle.image_store.proofs.JobLaws.{jobs}
 use Rattle.outcome.specs.Outcome.{finished}
 use Rattle.outcome.specs.RenamePlan.{rename_plan}
 use Rattle.rename_survives.specs.Run.{NamesKept, rename_state}

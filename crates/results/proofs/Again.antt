@@ -11,7 +11,7 @@ use Rattle.layout.proofs.Commute.{put_swap, put_again, put_both_again}
 use Rattle.layout.specs.Fields.{inode_kind}
 use Rattle.encode.specs.Inode.{with_links, with_field, with_changed}
 use Rattle.results.specs.Results.{moved_bytes, holder_bytes, replaced_bytes}
-use Rattle.results.proofs.Records.{moved_directory, moved_other, replaced_freed, replaced_kept}
+use Rattle.results.proofs.RecordLaws.{moved_directory, moved_other, replaced_freed, replaced_kept}
 
 -- a number that is put has as many bytes
 ends : (k v at n : ℕ) → at + k ≤ n → at + length (bytes_of k v) ≤ n

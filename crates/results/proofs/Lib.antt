@@ -1,4 +1,4 @@
-pub mod Records
+pub mod RecordLaws
 pub mod Again
 pub mod Owed
 pub mod ResultRows

@@ -8,9 +8,9 @@ use Rattle.std.proofs.Math.Decide.{dec_le}
 use Rattle.std.proofs.Math.Nat.{le_refl}
 use native.Mathlib.Omega.{arith}
 use Rattle.std.proofs.Math.Dec.{eqb}
-use borrow.Author.Tests.{eqb-true, eq-eqb, ne_eqb}
-use Rattle.seq.specs.Search.{any, first, count}
-use Rattle.seq.proofs.SearchLaws.{any_none, any_false, any_hit, first_upto, first_passes, count_le}
+use borrow.Author.Tests.{eq-eqb, ne_eqb}
+use Rattle.seq.specs.Search.{any, count}
+use Rattle.seq.proofs.SearchLaws.{any_none, any_false, any_hit, count_le}
 use Rattle.seq.specs.Count.{bit}
 use Rattle.seq.proofs.CountLaws.{count_one, count_never}
 use Rattle.seq.specs.Climb.{up}
@@ -70,38 +70,6 @@ module _ (f : ℕ → ℕ) (top x k : ℕ) (stay : f top ≡ top) (back : up f (
 
   pub no_circle : (n : ℕ) → up f n x ≡ top → x ≡ top
   no_circle n = within n n (le_refl n)
-
--- Places below a limit, and steps that do not leave them.
-module _ (In : ℕ → Type 0) (limit : ℕ) (below : (i : ℕ) → In i → i < limit) (f : ℕ → ℕ) (inside : (i : ℕ) → In i → In (f i)) where
-  pub up_in : (n i : ℕ) → In i → In (up f n i)
-  unfolding up
-  up_in zero i h = h
-  up_in (suc n) i h = up_in n (f i) (inside i h)
-
-  -- a way to a goal has fewer steps than there are places, if it is the shortest
-  pub short_way : (i goal k : ℕ) → In i → up f k i ≡ goal → (m : ℕ) × (m < limit) × (up f m i ≡ goal)
-  short_way i goal k h e = (m, pigeonhole (λ n. up f n i) limit (suc m) (λ n _. below _ (up_in n i h)) apart, there)
-    where
-      at_goal : ℕ → Bool
-      at_goal n = eqb (up f n i) goal
-
-      m : ℕ
-      m = first at_goal (suc k)
-
-      least : (n : ℕ) → n < suc k → up f n i ≡ goal → m ≤ n
-      least n l z = first_upto at_goal (suc k) n l (eq-eqb _ _ z)
-
-      upto : m ≤ k
-      upto = least k (le_refl (suc k)) e
-
-      there : up f m i ≡ goal
-      there = eqb-true _ _ (first_passes at_goal (suc k) (omega (arith, upto)))
-
-      apart : (a b : ℕ) → a < b → b < suc m → up f a i ≢ up f b i
-      apart a b l u z =
-          let rest : b + (m - b) ≡ m = omega arith in
-          let again : up f (a + (m - b)) i ≡ goal = up_add f a (m - b) i ∙ ap (up f (m - b)) z ∙ sym (up_add f b (m - b) i) ∙ rw rest there in
-          omega (arith, least (a + (m - b)) (omega (arith, upto)) again)
 
 -- Where a step changes, the old way up from its new end meets no changed step: every place still leads to the top.
 module _ (In Changed : ℕ → Type 0) (changed : (i : ℕ) → Dec (Changed i)) (f g : ℕ → ℕ) (top : ℕ) (inside : (i : ℕ) → In i → In (g i))

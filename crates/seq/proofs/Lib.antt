@@ -6,3 +6,4 @@ pub mod BytesLaws
 pub mod NumberLaws
 pub mod ZeroLaws
 pub mod CompareLaws
+pub mod ClimbWays

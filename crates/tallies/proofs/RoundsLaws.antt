@@ -4,7 +4,8 @@ use Rattle.std.proofs.Common.{sym, ap, ◌∙◌, add-one, arith, length-set, ge
 use Prim.Native.Nat.{ℕ, zero, suc, ◌+◌, ◌-◌, ◌≤◌, ◌<◌}
 use Rattle.std.proofs.Math.Decide.{ℕ_discrete}
 use Rattle.seq.specs.Climb.{up}
-use Rattle.seq.proofs.ClimbLaws.{up_add, stays, up_in, short_way}
+use Rattle.seq.proofs.ClimbLaws.{up_add, stays}
+use Rattle.seq.proofs.ClimbWays.{up_in, short_way}
 use Rattle.tables.specs.Table.{Table, Within}
 use Rattle.tallies.specs.Rounds.{round, Rooted, Far, Climbed, Midway}
 

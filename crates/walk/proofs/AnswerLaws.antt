@@ -14,7 +14,7 @@ use Rattle.component.specs.Step.{End, Step}
 use Rattle.component.specs.State.{leave_of, Left, Turned}
 use Rattle.walk.specs.declared.resolve.Walked.{Walked}
 use Rattle.walk.specs.Walk.{walk}
-use Rattle.walk.proofs.Bound.{walk_bound}
+use Rattle.walk.proofs.BoundStart.{walk_bound}
 use Rattle.walk.specs.Ends.{Facts}
 use Rattle.walk.proofs.EndLaws.{walk_facts}
 use Rattle.walk.specs.Answer.{answer_of, Ended, Closes, Answered}

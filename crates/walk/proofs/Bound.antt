@@ -1,9 +1,9 @@
 -- How far a walk goes (rule 61), and that its end owes nothing to the fuel it is defined with. Assumes nothing.
-use Rattle.std.specs.Prelude.{◌≡◌, Bool, List, length}
+use Rattle.std.specs.Prelude.{◌≡◌, length}
 use Rattle.std.proofs.Math.Path.{refl}
-use Rattle.std.proofs.Common.{sym, subst, inl, inr, ⊎_elim, le_trans, zero-add, arith, length-append}
+use Rattle.std.proofs.Common.{sym, subst, inl, inr, ⊎_elim, le_trans, arith, length-append}
 use Rattle.std.proofs.Math.Bool.{false}
-use Prim.Native.Nat.{ℕ, zero, suc, ◌+◌, ◌*◌, ◌-◌, ◌/◌, ◌≤◌, ◌<◌, zero-le}
+use Prim.Native.Nat.{ℕ, zero, suc, ◌+◌, ◌*◌, ◌-◌, ◌/◌, ◌≤◌, ◌<◌}
 use Rattle.layout.specs.Limits.{symlink_limit, path_limit, path_components, step_limit}
 use Rattle.layout.specs.View.{View}
 use Rattle.paths.specs.declared.request.Credentials.{Credentials}
@@ -13,8 +13,7 @@ use Rattle.component.specs.declared.state.Final.{Final}
 use Rattle.component.specs.Step.{Position, End, Step, goes, ends, walk_step}
 use Rattle.component.specs.Ways.{Way, refuses, moves, follows, exists, lacks}
 use Rattle.component.proofs.WayLaws.{step_way}
-use Rattle.walk.specs.Walk.{start_at, walk_from, walk}
-use Rattle.walk.proofs.WalkLaws.{by_walk}
+use Rattle.walk.specs.Walk.{walk_from}
 use Rattle.walk.specs.Budget.{Goes, After, budget, Ready, Leads, ending, going}
 
 -- rule 61 in a number: it moves with `symlink_limit`, and stands in no other definition or law
@@ -49,7 +48,7 @@ spend_symlink : (limit links a b : ℕ) → links < limit → a ≤ path_limit �
     → path_components * (limit - (links + 1)) + (a + 1) / 2 < path_components * (limit - links) + (b + 1) / 2
 spend_symlink limit links a b few short some = omega arith
 
-spend_most : (limit links a : ℕ) → a ≤ path_limit → path_components * (limit - links) + (a + 1) / 2 ≤ path_components * (limit + 1)
+pub spend_most : (limit links a : ℕ) → a ≤ path_limit → path_components * (limit - links) + (a + 1) / 2 ≤ path_components * (limit + 1)
 spend_most limit links a short = omega arith
 
 falls_behind : (w u : Position) → bare w.rest ≡ false → bare u.rest ≡ false → u.links ≡ w.links → u.rest ≡ behind w.rest
@@ -73,15 +72,6 @@ ready_steps w r = let b = budget_more w r.more in omega arith
 
 pub ready_budget : (w : Position) → Ready w → budget w ≤ step_limit
 ready_budget w r = omega arith
-
-pub ready_new : (w : Position) → bare w.rest ≡ false → length w.rest ≤ path_limit → w.links ≡ 0 → w.steps ≡ 0 → Ready w
-unfolding budget
-ready_new w more short none unread = record {
-  more = more;
-  few = rw none zero-le;
-  short = short;
-  within = rw (unread, zero-add) (spend_most symlink_limit w.links _ (le_trans (skip_le w.rest) short));
-}
 
 module _ (v : View) (who : Credentials) (last : Final) where
   pub ready_next : (w u : Position) → Ready w → walk_step v who last w ≡ goes u → Ready u
@@ -140,31 +130,3 @@ module _ (v : View) (who : Credentials) (last : Final) where
   walk_goes w u r s =
       let q = ready_next w u r s in
       led step_limit (going s (leads step_limit u q.more (ready_budget u q))) r.more (ready_budget w r)
-
-  -- a path that a walk begins on
-  module _ (directory : ℕ) (waived : Bool) (path : List ℕ) (short : length path ≤ path_limit) (more : bare path ≡ false) where
-    abbrev begin : Position
-    begin = start_at directory waived path
-
-    ready : Ready begin
-    ready = ready_new begin more short refl refl
-
-    pub start_leads : Leads v who last begin (walk_from v who last step_limit begin)
-    start_leads = leads step_limit begin more (ready_budget begin ready)
-
-    -- its end is the same whatever the fuel from the bound on: the clause for no fuel is never what it ends by
-    pub walk_fuel : (n : ℕ) → step_limit ≤ n → walk_from v who last n begin ≡ walk_from v who last step_limit begin
-    walk_fuel n enough = led n start_leads more (le_trans (ready_budget begin ready) enough)
-
-    -- a walk that begins counts
-    pub walk_counts : 0 < (walk_from v who last step_limit begin).steps
-    walk_counts = leads_count start_leads
-
-    start_bound : (walk_from v who last step_limit begin).steps ≤ step_limit
-    start_bound = le_trans (spends start_leads more) ready.within
-
-  -- rule 61: no walk begins more component checks than that
-  pub walk_bound : (current start : ℕ) (path : List ℕ) → (walk v who last current start path).steps ≤ step_limit
-  walk_bound current start path =
-      by_walk v who last (λ e. e.steps ≤ step_limit) path (λ n some. zero-le)
-      (λ short more directory waived. start_bound directory waived path short more) current start

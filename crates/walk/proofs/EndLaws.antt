@@ -19,7 +19,8 @@ use Rattle.component.proofs.WayLaws.{step_way}
 use Rattle.walk.specs.Walk.{halt_number, walk}
 use Rattle.walk.proofs.WalkLaws.{by_walk}
 use Rattle.walk.specs.Budget.{Leads, ending, going}
-use Rattle.walk.proofs.Bound.{after_is, start_leads}
+use Rattle.walk.proofs.Bound.{after_is}
+use Rattle.walk.proofs.BoundStart.{start_leads}
 use Rattle.walk.specs.Ends.{Existing, walk_number, Facts}
 
 -- a refusal, by a number of either list

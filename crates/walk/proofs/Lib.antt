@@ -3,3 +3,4 @@ pub mod Bound
 pub mod EndLaws
 pub mod AnswerLaws
 pub mod BothLaws
+pub mod BoundStart

@@ -11,7 +11,8 @@ use Rattle.seq.specs.Truth.{holds}
 use Rattle.layout.specs.View.{view_of, is_directory}
 use Rattle.tree.specs.Tree.{holds_directory, child_directories}
 use Rattle.recounts.specs.Recount.{holds_after, children_after}
-use Rattle.recounts.specs.RecountLaws.{two_is, recounted_cleared}
+use Rattle.recounts.specs.RecountLaws.{two_is}
+use Rattle.recounts.proofs.RecountCleared.{recounted_cleared}
 use Rattle.recounts.proofs.children_after.Goals as goal
 
 pub returns-then-not-edits_two : goal.returns-then-not-edits_two

@@ -10,7 +10,8 @@ use Rattle.seq.specs.Truth.{holds}
 use Rattle.layout.specs.View.{view_of}
 use Rattle.tree.specs.Tree.{targets, entries_of}
 use Rattle.recounts.specs.Recount.{targets_after, entries_after}
-use Rattle.recounts.specs.RecountLaws.{two_is, recounted_cleared}
+use Rattle.recounts.specs.RecountLaws.{two_is}
+use Rattle.recounts.proofs.RecountCleared.{recounted_cleared}
 use Rattle.recounts.proofs.entries_after.Goals as goal
 
 pub returns-then-not-edits_two : goal.returns-then-not-edits_two

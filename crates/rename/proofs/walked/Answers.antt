@@ -1,5 +1,5 @@
 -- `rename::walked` meets its contract: a walk refuses, or the steps answer. Assumes nothing.
-use Rattle.rename.proofs.Walked.{image_readable, refused_walk, walked_case, steps_refuse, case_same, walked_move, planned_name, steps_plan, walked_exchange, steps_exchange}
+use Rattle.rename.proofs.WalkedLaws.{image_readable, refused_walk, walked_case, steps_refuse, case_same, walked_move, planned_name, steps_plan, walked_exchange, steps_exchange}
 use Rattle.rename.specs.Answers.{WalksBegin}
 use borrow.Author.Rules.{rules}
 use Rattle.rename.proofs.walked.Goals as goal

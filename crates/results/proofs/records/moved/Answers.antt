@@ -3,7 +3,7 @@ use mathlib.Core.Path.{ap, sym, ◌∙◌}
 use borrow.Author.Rules.{rules}
 use Rattle.layout.specs.Fields.{inode_kind}
 use Rattle.encode.specs.Inode.{with_field, with_changed}
-use Rattle.results.proofs.Records.{moved_directory, moved_other}
+use Rattle.results.proofs.RecordLaws.{moved_directory, moved_other}
 use Rattle.results.proofs.records.moved.Goals as goal
 
 pub returns-then-kind-ne2 : goal.returns-then-kind-ne2

@@ -4,7 +4,7 @@ use mathlib.Core.List.{List}
 use Prim.Native.Nat.{ℕ}
 use borrow.Author.Rules.{rules}
 use Rattle.encode.specs.Inode.{with_links, with_changed}
-use Rattle.results.proofs.Records.{replaced_freed, replaced_kept}
+use Rattle.results.proofs.RecordLaws.{replaced_freed, replaced_kept}
 use Rattle.results.proofs.records.replaced.Goals as goal
 
 pub returns-then-entries_after-eq0 : goal.returns-then-entries_after-eq0

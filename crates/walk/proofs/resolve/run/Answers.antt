@@ -4,7 +4,8 @@ use native.Mathlib.Omega.{arith}
 use Rattle.layout.specs.View.{view_of}
 use Rattle.component.specs.State.{position_of}
 use Rattle.component.proofs.StateLaws.{turned_goes, turned_fit, fit_short}
-use Rattle.walk.proofs.Bound.{after_is, budget_falls, ready_new, ready_steps, ready_next, walk_goes, walk_ends}
+use Rattle.walk.proofs.Bound.{after_is, budget_falls, ready_steps, ready_next, walk_goes, walk_ends}
+use Rattle.walk.proofs.BoundStart.{ready_new}
 use Rattle.walk.specs.Answer.{end_of}
 use Rattle.walk.proofs.AnswerLaws.{refused_closes, found_closes}
 use Rattle.walk.proofs.resolve.run.Goals as goal

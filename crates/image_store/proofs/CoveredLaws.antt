@@ -11,7 +11,7 @@ use Rattle.layout.proofs.PlaceLaws.{apart}
 use Rattle.plan.specs.Fit.{coverable, covers_record, covers_section, covers}
 use Rattle.plan.specs.FitFacts.{Covered}
 use Rattle.plan.proofs.FitLaws.{one_covers, record_some}
-use Rattle.image_store.specs.ImageLaws.{same_key}
+use Rattle.image_store.proofs.ImageLaws.{same_key}
 use Rattle.image_store.specs.Covered.{key_at}
 
 -- the first number that passes is one that does

@@ -6,8 +6,8 @@ use Rattle.plan.specs.Write.{Write}
 use Rattle.crash_theorem.specs.Change.{Change}
 use Rattle.crash_theorem.specs.Events.{EventOf, State, start, run}
 use Rattle.crash_theorem.specs.Plan.{Plan, ahead_of, decide_row, behind_of, after_of, PendingOf}
-use Rattle.image_store.specs.ImageLaws.{images}
-use Rattle.image_store.specs.JobLaws.{jobs}
+use Rattle.image_store.proofs.ImageLaws.{images}
+use Rattle.image_store.proofs.JobLaws.{jobs}
 use Rattle.image_store.specs.Recovery.{RecoveryJob, waiting_after}
 use Rattle.image_store.specs.JobRows.{plan_of}
 
