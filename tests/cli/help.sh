@@ -26,14 +26,15 @@ long_word=$(head -c 5000 /dev/zero | tr '\0' 9)
 run "$mp" land --seed "$long_word" a b
 [ "$(wc -c <err)" -lt 300 ] || wrong "a long word is repeated whole: $(wc -c <err) bytes"
 
-# What the script needs to build, and is not there.
-mkdir -p bare/crates/mirepillar_c bare/tools empty_path
-printf 'seq: # nothing\nlayout: seq\nother: layout\nmirepillar: layout seq json\nmirepillar_c staticlib: mirepillar\n' >bare/crates.txt
-touch bare/crates/newer
-cp "$root/mp" bare/mp
-cp "$root/tools/archive" bare/tools/archive
+# What the script needs to build, and is not there. Outside of the repository, in which rt would take the crates.txt for its own.
+bare=$(mktemp -d)
+mkdir -p "$bare/crates/mirepillar_c" "$bare/tools" empty_path
+printf 'seq: # nothing\nlayout: seq\nother: layout\nmirepillar: layout seq json\nmirepillar_c staticlib: mirepillar\n' >"$bare/crates.txt"
+touch "$bare/crates/newer"
+cp "$root/mp" "$bare/mp"
+cp "$root/tools/archive" "$bare/tools/archive"
 for command in sh dirname readlink find head mkdir tee awk touch cmp cp; do ln -sf "$(command -v $command)" empty_path/$command; done
-expect 2 '' 'mp: the command rt is needed to build the proved library, and it is not on the PATH' env PATH="$folder/empty_path" bare/mp help
+expect 2 '' 'mp: the command rt is needed to build the proved library, and it is not on the PATH' env PATH="$folder/empty_path" "$bare/mp" help
 cat >empty_path/rt <<'END'
 #!/bin/sh
 echo 'rt: chose --jobs 2 for seq'
@@ -42,12 +43,13 @@ echo 'rt: the library layout did not build, so nothing above it was checked' >&2
 exit 1
 END
 chmod +x empty_path/rt
-expect 2 '' 'mp: proving layout, 2 of at most 4' env PATH="$folder/empty_path" bare/mp help
-expect 2 '' 'mp: the library layout did not build' env PATH="$folder/empty_path" bare/mp help
-expect 2 '' "mp: the library was not built; $folder/bare/target/staticlib.log tells why" env PATH="$folder/empty_path" bare/mp help
-mkdir -p bare/target/staticlib bare/tools/mp bare/bindings/rust
-touch bare/target/staticlib/libmirepillar.a
-expect 2 '' 'mp: the command cargo is needed to build the tool, and it is not on the PATH' env PATH="$folder/empty_path" bare/mp help
+expect 2 '' 'mp: proving layout, 2 of at most 4' env PATH="$folder/empty_path" "$bare/mp" help
+expect 2 '' 'mp: the library layout did not build' env PATH="$folder/empty_path" "$bare/mp" help
+expect 2 '' "mp: the library was not built; $bare/target/staticlib.log tells why" env PATH="$folder/empty_path" "$bare/mp" help
+mkdir -p "$bare/target/staticlib" "$bare/tools/mp" "$bare/bindings/rust"
+touch "$bare/target/staticlib/libmirepillar.a"
+expect 2 '' 'mp: the command cargo is needed to build the tool, and it is not on the PATH' env PATH="$folder/empty_path" "$bare/mp" help
+rm -rf "$bare"
 
 # The script finds its root from anywhere, also by a symlink and with CDPATH set.
 ln -sf "$root/mp" by_symlink

@@ -1,7 +1,7 @@
 #!/usr/bin/env python3
-"""Says of each must-fail edit, and of each edit and control kept in more-edits/, whether its old texts stand exactly once.
+"""Says of each must-fail edit, and of each control beside one, whether its old texts stand exactly once.
 
-usage: python3 tools/port/edits_fit.py        at the top of the repository. Pairs apply in order, as rt applies them.
+usage: python3 tools/port/edits_fit.py        at the top of the repository; more-edits/ too. Pairs apply in order, as rt applies them.
 """
 
 import glob
@@ -37,11 +37,10 @@ def misfit(path):
 
 def main():
     counts, bad = {}, 0
-    paths = [p for at in ("must-fail", "more-edits") for p in glob.glob(f"crates/*/{at}/**/*", recursive=True)]
-    for path in sorted(paths):
+    for path in sorted(glob.glob("crates/*/must-fail/**/*", recursive=True) + glob.glob("crates/*/more-edits/*")):
         if not os.path.isfile(path) or path.endswith(".md"):
             continue
-        kind = path.split("/")[2] + " ." + path.rsplit(".", 1)[1]
+        kind = "more" if path.endswith(".edit") and "/more-edits/" in path else path.rsplit(".", 1)[1]
         counts[kind] = counts.get(kind, 0) + 1
         said = misfit(path)
         if said:
