@@ -1,5 +1,5 @@
 -- The results as rows of a plan: each part where it is asked for, all of them in order, and how many they are. Assumes nothing.
-use Rattle.std.specs.Prelude.{◌≡◌, refl, ◌≢◌, Bool, true, false, not, List, [], ◌∷◌, ◌++◌, ℕ, ◌+◌, ◌≤◌, eqb, length}
+use Rattle.std.specs.Prelude.{◌≡◌, refl, ◌≢◌, Bool, true, false, not, List, [], ◌∷◌, ◌++◌, ℕ, ◌+◌, ◌≤◌, ◌<◌, eqb, length}
 use Rattle.std.proofs.Common.{arith, length-append, eq-eqb, ne_eqb}
 use Rattle.seq.specs.Truth.{not_both}
 use Rattle.layout.specs.declared.Shape.{Shape}
@@ -9,6 +9,7 @@ use Rattle.plan.specs.Write.{Write, row_from}
 use Rattle.plan.specs.Filled.{Filled}
 use Rattle.plan.proofs.WriteLaws.{filled_none, filled_one, filled_join}
 use Rattle.recounts.specs.declared.Move.{Move}
+use Rattle.results.specs.InImage.{InImage}
 use Rattle.results.specs.Results.{present, when, old_row, moved_row, holder_row, replaced_row, text_row, always_rows, into_rows, replaced_rows, text_rows, results}
 
 -- a row where it is asked for
@@ -78,3 +79,7 @@ module _ (h : Shape) (s : List ℕ) (m : Move) where
       → Filled h r k (replaced_rows h s m) t l → Filled h t l (text_rows h s m) u n → Filled h p i (results h s m) u n
   unfolding results
   results_filled a b c d = filled_join h (filled_join h (filled_join h a b) c) d
+
+-- the replaced inode is one of the image, where there is one
+pub replaced_in : (h : Shape) (m : Move) → InImage h m → (m.replaced ≡ absent → ⊥) → m.replaced < h.inodes
+replaced_in h m i n = i.replaced n

@@ -73,6 +73,7 @@ fn put_always(plan: &mut [u8], at: usize, image: &[u8], h: Shape, m: Move) -> us
 }
 
 // The new parent, where it is another directory than the old one.
+#[tactic(auto, using(crate::proofs::ResultRows::into_one))]
 fn put_into(plan: &mut [u8], at: usize, image: &[u8], h: Shape, m: Move) -> usize
     requires { (plan_bytes ≤ length plan.old) × (at < plan_rows) × Laid h image.now × InImage h m }
     ensures { Filled h plan.old at (into_rows h image.now m) plan.new result }
@@ -85,6 +86,7 @@ fn put_into(plan: &mut [u8], at: usize, image: &[u8], h: Shape, m: Move) -> usiz
 }
 
 // The replaced inode, where there is one.
+#[tactic(auto, using(crate::proofs::ResultRows::replaced_in))]
 fn put_replaced(plan: &mut [u8], at: usize, image: &[u8], h: Shape, m: Move) -> usize
     requires { (plan_bytes ≤ length plan.old) × (at < plan_rows) × Laid h image.now × InImage h m }
     ensures { Filled h plan.old at (replaced_rows h image.now m) plan.new result }

@@ -13,9 +13,6 @@ returns-then-m-eq-ABSENT c =
 pub replaced-r-requires : goal.replaced-r-requires
 replaced-r-requires c = (search rules, c.requires.3.replaced c.if-m-eq-ABSENT.false)
 
-pub inode-requires : goal.inode-requires
-inode-requires c = (search rules, c.requires.3.replaced c.if-m-eq-ABSENT.false)
-
 pub returns : goal.returns
 returns c =
     let args = c.args in
