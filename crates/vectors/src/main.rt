@@ -13,7 +13,7 @@ mod check;
 mod compares;
 mod image;
 mod land;
-mod plan;
+mod plans;
 mod reader;
 mod renames;
 mod repairs;
@@ -118,7 +118,7 @@ fn run(rt: &HostRuntime, path: &str) -> io::Result<()> {
     };
     let mut base = image::base_buffer();
     let mut image = image::buffer();
-    let mut plan = plan::buffer();
+    let mut plan = plans::buffer();
     let mut scratch = image::buffer();
     let whole = all(&mut streams, &mut base, &mut image, &mut plan, &mut scratch)?;
     if !whole {
