@@ -40,6 +40,7 @@ fn join(w: Walk, text: &[u8], e: usize, len: usize) -> Turn
 }
 
 // A symlink ahead of other components is followed, unless it is one too many or the joined path is too long.
+#[tactic(auto, using(crate::proofs::Turns::follows_many))]
 fn follow(w: Walk, text: &[u8], e: usize) -> Turn
     requires { ReadUpTo w e × (bare (rest_from w e) ≡ false) × (length text.now ≤ path_limit) }
     ensures { Turned result (follow (position_of w) text.now (rest_from w e)) }
