@@ -1,15 +1,16 @@
 -- The ways out of applying a row. Assumes nothing.
-use Rattle.std.specs.Prelude.{◌≡◌, Bool, List, ℕ, ◌≤◌, ◌<◌, eqb, length}
+use Rattle.std.specs.Prelude.{◌≡◌, Bool, List, ℕ, ◌+◌, ◌≤◌, ◌<◌, eqb, length}
 use Rattle.std.proofs.Math.Path.{refl}
 use Rattle.std.proofs.Math.Bool.{true, false, cond}
 use Rattle.std.proofs.Common.{lt-ltb, le-ltb}
 use Rattle.seq.specs.Bytes.{put}
 use Rattle.layout.specs.declared.Shape.{Shape}
 use Rattle.layout.specs.Errno.{short_buffer, inconsistent, bad_row}
-use Rattle.layout.specs.Facts.{Read}
+use Rattle.layout.specs.Facts.{Laid, Read}
 use Rattle.layout.specs.Contents.{layout_good, shape_of}
-use Rattle.plan.specs.Form.{plan_bytes, row_offset, row_at}
+use Rattle.plan.specs.Form.{plan_rows, plan_bytes, body_bytes, row_length, row_offset, row_at}
 use Rattle.plan.specs.Fit.{applicable}
+use Rattle.plan.proofs.FitLaws.{applicable_is, applicable_fits}
 use Rattle.apply.specs.Apply.{applied, applied_image, apply_number, row_number}
 use Rattle.apply.specs.OneRow.{row_image}
 
@@ -32,6 +33,14 @@ module _ (image plan : List ℕ) (i : ℕ) where
         pick : (b : Bool) → cond (eqb (cond b 0 bad_row) 0) (applied image (row_at plan i)) image ≡ cond b (applied image (row_at plan i)) image
         pick true = refl
         pick false = refl
+
+-- a row that can be applied is one of the plan's, and its bytes lie in its body and in the image
+pub fitting : (h : Shape) (image plan : List ℕ) (i : ℕ) → Laid h image → applicable h plan i ≡ true
+    → (i < plan_rows) × (row_length plan i ≤ body_bytes) × (row_offset plan i + row_length plan i ≤ length image)
+fitting h image plan i laid passed =
+    let good = applicable_is _ _ _ passed in
+    let fits = applicable_fits h image plan i laid good in
+    (good.below, fits.0, fits.1)
 
 -- a row that can be applied, copied
 pub row_copied : (h : Shape) (image plan : List ℕ) (i at : ℕ) (body : List ℕ) → applicable h plan i ≡ true → at ≡ row_offset plan i → body ≡ (row_at plan i).body

@@ -11,7 +11,7 @@ use Rattle.consistency.specs.Consistent.{check_number}
 use Rattle.paths.specs.declared.request.Request.{Request}
 use Rattle.plan.specs.Form.{plan_rows, plan_bytes, header_bytes, header_at, row_at}
 use Rattle.apply.specs.Apply.{apply_number, applied_image}
-use Rattle.rename.specs.declared.Renamed.{Renamed}
+use Rattle.rename.specs.Renamed.{Renamed}
 use Rattle.rename.specs.Job.{renamed, plan_after}
 
 -- The arguments of the job rename, but for the plan buffer.

@@ -8,7 +8,7 @@ use Rattle.layout.specs.BenchTree.{bench}
 use Rattle.paths.specs.declared.request.Request.{Request}
 use Rattle.paths.specs.Groups.{credentials_of}
 use Rattle.plan.specs.Form.{plan_bytes}
-use Rattle.rename.specs.declared.Renamed.{Renamed}
+use Rattle.rename.specs.Renamed.{Renamed}
 use Rattle.bench_table.specs.Line.{EntrySeen, Outcome, bytes, planned, Line, past, dirty}
 
 -- ---- what is asked

@@ -5,13 +5,13 @@ use Rattle.seq.proofs.BytesLaws.{part_length}
 use Rattle.layout.specs.Limits.{path_limit}
 use Rattle.paths.specs.Path.{bare}
 use Rattle.paths.proofs.WorkingPathLaws.{filled_length, filled_part}
-use Rattle.component.specs.declared.state.Found.{Found}
-use Rattle.component.specs.declared.state.Found.TheVariants.{Missing}
+use Rattle.component.specs.declared.state.Name.{Name}
+use Rattle.component.specs.declared.state.Name.TheVariants.{Missing}
 use Rattle.component.specs.declared.state.Leave.TheVariants.{Goes}
 use Rattle.component.specs.declared.state.Turn.{Turn}
 use Rattle.component.specs.declared.state.Walk.{Walk}
 use Rattle.component.specs.Step.{Step, goes}
-use Rattle.component.specs.State.{rest_from, position_of, leave_of, Ranged, Fit, Left, Turned, beginning}
+use Rattle.component.specs.State.{rest_from, position_of, leave_of, NameRanged, Fit, Left, Turned, beginning}
 
 -- where a walk begins
 module _ (path : List ℕ) (directory : ℕ) (waived : Bool) where
@@ -33,5 +33,5 @@ pub fit_short : (w : Walk) → Fit w → length (rest_from w w.at) ≤ path_limi
 fit_short w fit = let l = part_length w.path w.at (w.len - w.at) (omega (arith, fit.within, fit.short, fit.whole)) in omega (arith, fit.short)
 
 -- a missing name is a range of the working path
-pub missing_range : (path : List ℕ) (f : Found) (d a e : ℕ) (slash : Bool) → Ranged path f → f ≡ Missing d a e slash → (a ≤ e) × (e ≤ length path)
-missing_range path f d a e slash ranged is = subst (λ (x : Found). Ranged path x) is ranged
+pub missing_range : (path : List ℕ) (n : Name) (a e : ℕ) → NameRanged path n → n ≡ Missing a e → (a ≤ e) × (e ≤ length path)
+missing_range path n a e ranged is = subst (λ (x : Name). NameRanged path x) is ranged

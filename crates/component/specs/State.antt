@@ -2,10 +2,12 @@
 use Rattle.std.specs.Prelude.{◌≡◌, Bool, false, List, ℕ, ◌-◌, ◌≤◌, ◌<◌, length}
 use Rattle.seq.specs.Bytes.{part}
 use Rattle.layout.specs.Limits.{path_limit, step_limit, path_bytes}
+use Rattle.layout.specs.Code.{number}
 use Rattle.paths.specs.Path.{bare}
 use Rattle.paths.specs.WorkingPath.{working_path}
 use Rattle.component.specs.declared.state.Found.{Found}
-use Rattle.component.specs.declared.state.Found.TheVariants.{Existing, Missing, Nothing}
+use Rattle.component.specs.declared.state.Name.{Name}
+use Rattle.component.specs.declared.state.Name.TheVariants.{Existing, Missing}
 use Rattle.component.specs.declared.state.Leave.{Leave}
 use Rattle.component.specs.declared.state.Leave.TheVariants.{Goes, Refuses, Finds}
 use Rattle.component.specs.declared.state.Turn.{Turn}
@@ -24,25 +26,29 @@ abbrev pub position_of : Walk → Position
 position_of w = record { rest = rest_from w w.at; directory = w.directory; links = w.links; steps = w.steps; waived = w.waived }
 
 -- what a path names, with the working path that a missing name is a range of
+abbrev pub finding_by : List ℕ → ℕ → Bool → Name → Finding
+finding_by path d slash (Existing j i) = existing d j i slash
+finding_by path d slash (Missing a e) = missing d (part path a (e - a)) slash
+
 abbrev pub finding_of : List ℕ → Found → Finding
-finding_of path (Existing d j i slash) = existing d j i slash
-finding_of path (Missing d a e slash) = missing d (part path a (e - a)) slash
-finding_of path Nothing = nothing
+finding_of path f = finding_by path f.directory f.slash f.name
 
 -- how a component leaves the walk
 abbrev pub leave_of : Walk → Leave → Step
 leave_of w Goes = goes (position_of w)
-leave_of w (Refuses n) = ends (record { number = n; steps = w.steps; found = nothing })
+leave_of w (Refuses e) = ends (record { number = number e; steps = w.steps; found = nothing })
 leave_of w (Finds f) = ends (record { number = 0; steps = w.steps; found = finding_of w.path f })
 
 abbrev pub step_of : Turn → Step
 step_of r = leave_of r.walk r.leave
 
 -- a missing name lies inside the working path
+abbrev pub NameRanged : List ℕ → Name → Type 0
+NameRanged path (Existing j i) = Unit {0}
+NameRanged path (Missing a e) = (a ≤ e) × (e ≤ length path)
+
 abbrev pub Ranged : List ℕ → Found → Type 0
-Ranged path (Existing d j i slash) = Unit {0}
-Ranged path (Missing d a e slash) = (a ≤ e) × (e ≤ length path)
-Ranged path Nothing = Unit {0}
+Ranged path f = NameRanged path f.name
 
 -- A state that can be read: some component is left of a path that is short enough.
 pub record Fit (w : Walk) : Type 0 where
@@ -54,7 +60,7 @@ pub record Fit (w : Walk) : Type 0 where
 -- what is known of a state that a component leaves so
 abbrev pub Left : Walk → Leave → Type 0
 Left w Goes = Fit w
-Left w (Refuses n) = Unit {0}
+Left w (Refuses e) = Unit {0}
 Left w (Finds f) = Ranged w.path f
 
 -- A component's answer: what it stands for, and that the walk can go on from it, or a missing name be read from it.

@@ -1,10 +1,12 @@
 // The state of a walk, what a path names, and the ways in which one component leaves the walk.
 ghost use Rattle.std.specs.Prelude.{◌≡◌, false, ◌+◌, ◌≤◌, ◌<◌};
 ghost use Rattle.paths.specs.Path.{bare};
+ghost use Rattle.layout.specs.Code.{number};
 ghost use Rattle.component.specs.Step.{existing, missing, refused_by, names, go_to};
 ghost use Rattle.layout.specs.Limits.{step_limit};
 ghost use Rattle.component.specs.State.{position_of, name_in, rest_from, ReadUpTo, Turned};
 
+use layout::errno::Errno;
 use layout::limits;
 
 // Where a walk stands: the working path, of which the bytes from at up to len are unread; the directory that they are read from; the
@@ -27,30 +29,26 @@ pub struct Final {
     pub portable: bool,
 }
 
-// What a path names: an entry, or a name that its directory lacks, or nothing where the walk was refused. A missing name is a range of
-// the working path, since an enum holds no array. The flag says whether the path ends in a slash.
+// What a path names in a directory, and whether the path ends in a slash.
 #[derive(Clone, Copy)]
-pub enum Found {
-    Existing {
-        directory: usize,
-        slot: usize,
-        inode: usize,
-        slash: bool,
-    },
-    Missing {
-        directory: usize,
-        from: usize,
-        to: usize,
-        slash: bool,
-    },
-    Nothing,
+pub struct Found {
+    pub directory: usize,
+    pub name: Name,
+    pub slash: bool,
 }
 
-// How one component leaves the walk: with more to read, refused by a number, or with what the path names.
+// The last name of a path: an entry that has it, or a range of the working path where its directory lacks it.
+#[derive(Clone, Copy)]
+pub enum Name {
+    Existing { slot: usize, inode: usize },
+    Missing { from: usize, to: usize },
+}
+
+// How one component leaves the walk: with more to read, refused, or with what the path names.
 #[derive(Clone, Copy)]
 pub enum Leave {
     Goes,
-    Refuses(u8),
+    Refuses(Errno),
     Finds(Found),
 }
 
@@ -62,15 +60,15 @@ pub struct Turn {
 }
 
 // The component in hand is refused.
-pub fn refuse(w: Walk, number: u8) -> Turn
+pub fn refuse(w: Walk, why: Errno) -> Turn
     requires { w.steps < step_limit }
-    ensures { Turned result (refused_by number (position_of w)) }
+    ensures { Turned result (refused_by (number why) (position_of w)) }
 {
     let mut next = w;
     next.steps = w.steps + 1;
     Turn {
         walk: next,
-        leave: Leave::Refuses(number),
+        leave: Leave::Refuses(why),
     }
 }
 
@@ -79,10 +77,9 @@ pub fn exists(w: Walk, slot: usize, inode: usize, slash: bool) -> Turn
     requires { w.steps < step_limit }
     ensures { Turned result (names (position_of w) (existing w.directory slot inode slash)) }
 {
-    let found = Found::Existing {
+    let found = Found {
         directory: w.directory,
-        slot,
-        inode,
+        name: Name::Existing { slot, inode },
         slash,
     };
     let mut next = w;
@@ -98,10 +95,9 @@ pub fn lacks(w: Walk, a: usize, e: usize, slash: bool) -> Turn
     requires { ReadUpTo w e × (a ≤ e) }
     ensures { Turned result (names (position_of w) (missing w.directory (name_in w a e) slash)) }
 {
-    let found = Found::Missing {
+    let found = Found {
         directory: w.directory,
-        from: a,
-        to: e,
+        name: Name::Missing { from: a, to: e },
         slash,
     };
     let mut next = w;

@@ -2,71 +2,63 @@
 #![tactic(auto)]
 
 ghost use Rattle.std.specs.Prelude.{◌≡◌};
-ghost use Rattle.layout.specs.Facts.{Laid};
+ghost use Rattle.layout.specs.Code.{code};
 ghost use Rattle.consistency.specs.Sound.{journal_clear, bodies_good};
 ghost use Rattle.consistency.specs.Consistent.{records_number, check_number};
 
-use layout::contents::Contents;
-use layout::{Shape, errno, limits};
+use layout::errno::Errno;
+use layout::image::Image;
+use layout::limits;
+use tallies::Tallies;
 
 pub mod entries;
 pub mod handles;
 pub mod texts;
 
 // Whether the records in front of the journal record are consistent.
-pub fn bodies_good(image: &[u8], h: Shape) -> bool
-    requires { Laid h image.now }
-    ensures { result ≡ bodies_good h image.now }
+#[tactic(auto, using(crate::proofs::CheckedLaws::bodies_asked, crate::proofs::EntryFits::entries_named))]
+pub fn bodies_good(image: &Image<'_>) -> bool
+    ensures { result ≡ bodies_good image.now.shape image.now.bytes.now }
 {
-    if !layout::lookup::is_directory(image, h, 0) {
+    if !image.is_directory(0) {
         return false;
     }
-    let owners = tallies::text_owners(image, h);
-    if !inodes::all_good(image, h, &owners) {
-        return false;
-    }
-    if !entries::all_good(image, h) {
-        return false;
-    }
-    if duplicates::has_duplicate(image, h) {
-        return false;
-    }
-    if !texts::all_good(image, h, &owners) {
-        return false;
-    }
-    handles::all_good(image, h)
+    let tallies = Tallies::of(image);
+    inodes::all_good(&tallies)
+        && entries::all_good(image)
+        && !duplicates::has_duplicate(image)
+        && texts::all_good(&tallies)
+        && handles::all_good(image)
 }
 
 // Whether the journal record is all zero.
-pub fn journal_clear(image: &[u8], h: Shape) -> bool
-    requires { Laid h image.now }
-    ensures { result ≡ journal_clear h image.now }
+#[tactic(auto, unfolding(crate::specs::Sound::journal_clear))]
+pub fn journal_clear(image: &Image<'_>) -> bool
+    ensures { result ≡ journal_clear image.now.shape image.now.bytes.now }
 {
-    let r = layout::records::journal(image, h);
-    layout::bytes::all_zero(r, 0, limits::JOURNAL_BYTES)
+    layout::bytes::all_zero(image.journal(), 0, limits::JOURNAL_BYTES)
 }
 
-// The number of an image with a good layout.
-pub fn records_number(image: &[u8], h: Shape) -> u8
-    requires { Laid h image.now }
-    ensures { result ≡ records_number h image.now }
+// Whether an image with a good layout is consistent, and why not.
+pub fn checked(image: &Image<'_>) -> Result<(), Errno>
+    ensures { code result ≡ records_number image.now.shape image.now.bytes.now }
 {
-    if !journal_clear(image, h) {
-        return errno::JOURNAL_PENDING;
+    if !journal_clear(image) {
+        return Err(Errno::JournalPending);
     }
-    if !bodies_good(image, h) {
-        return errno::INCONSISTENT;
+    if bodies_good(image) {
+        Ok(())
+    } else {
+        Err(Errno::Inconsistent)
     }
-    0
 }
 
-// The job check: 0 for a consistent image, 203 for one whose journal record is not zero, 201 for any other bytes.
-pub fn check(image: &[u8]) -> u8
-    ensures { result ≡ check_number image.now }
+// The job check: nothing refuses a consistent image; 203 one whose journal record is not zero, and 201 any other bytes.
+pub fn check(image: &[u8]) -> Result<(), Errno>
+    ensures { code result ≡ check_number image.now }
 {
-    let found = layout::contents::read(image);
-    match found {
-        Contents::Bad => errno::INCONSISTENT,
-        Contents::Good(h) => records_number(image, h),
-    }
+    let Some(image) = Image::read(image) else {
+        return Err(Errno::Inconsistent);
+    };
+    checked(&image)
 }

@@ -22,7 +22,7 @@ use Rattle.walk.specs.Walk.{halt}
 use Rattle.walk.specs.Ends.{Facts}
 use Rattle.walk.proofs.EndLaws.{walk_facts}
 use Rattle.walk.specs.Both.{old_final, new_final, old_walk, new_walk, new_after, walks_of}
-use Rattle.refusals.specs.declared.case.Answer.TheVariants.{Planned}
+use Rattle.refusals.specs.Answered.{Planned}
 use Rattle.refusals.specs.Rules.{decide}
 use Rattle.refusals.specs.Passes.{Passes}
 use Rattle.refusals.proofs.PassesLaws.{passes}

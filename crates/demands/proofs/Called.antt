@@ -22,7 +22,7 @@ use Rattle.paths.specs.Flags.{exchange_flag}
 use Rattle.component.specs.Step.{existing}
 use Rattle.walk.specs.Ends.{Existing, Known}
 use Rattle.walk.specs.Both.{new_final}
-use Rattle.refusals.specs.declared.case.Answer.TheVariants.{Planned}
+use Rattle.refusals.specs.Answered.{Planned}
 use Rattle.refusals.specs.declared.case.Case.{Case}
 use Rattle.refusals.specs.Case.{exists}
 use Rattle.refusals.specs.Rules.{decide}

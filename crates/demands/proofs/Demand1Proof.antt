@@ -16,7 +16,7 @@ use Rattle.paths.specs.Flags.{asks_exchange}
 use Rattle.component.specs.Ways.{component_number}
 use Rattle.walk.specs.Walk.{halt_number}
 use Rattle.walk.specs.Ends.{walk_number}
-use Rattle.refusals.specs.declared.case.Answer.TheVariants.{Planned}
+use Rattle.refusals.specs.Answered.{Planned}
 use Rattle.refusals.specs.Rules.{Rule, number_of, decide}
 use Rattle.rename_steps.specs.Steps.{steps}
 use Rattle.exchange_steps.specs.Exchange.{exchange_steps}

@@ -17,8 +17,8 @@ use Rattle.edits.proofs.Bodies.{bodies_consistent}
 use Rattle.paths.specs.declared.request.Request.{Request}
 use Rattle.paths.specs.Request.{request_good}
 use Rattle.paths.specs.Flags.{exchange_flag, asks_no_replace, flags_good}
-use Rattle.refusals.specs.declared.case.Answer.{Answer}
-use Rattle.refusals.specs.declared.case.Answer.TheVariants.{Refused, Same, Planned, Exchanged}
+use Rattle.refusals.specs.Answered.{Answer}
+use Rattle.refusals.specs.Answered.{Refused, Same, Planned, Exchanged}
 use Rattle.refusals.specs.declared.case.Case.{Case}
 use Rattle.refusals.specs.Rules.{number_of, decide}
 use Rattle.rename_steps.proofs.StepsLaws.{steps_same}

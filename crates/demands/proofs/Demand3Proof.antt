@@ -14,8 +14,8 @@ use Rattle.paths.specs.declared.request.Request.{Request}
 use Rattle.paths.specs.Flags.{exchange_flag}
 use Rattle.component.specs.Step.{existing}
 use Rattle.walk.specs.Ends.{Existing}
-use Rattle.refusals.specs.declared.case.Answer.{Answer}
-use Rattle.refusals.specs.declared.case.Answer.TheVariants.{Refused, Same, Planned, Exchanged}
+use Rattle.refusals.specs.Answered.{Answer}
+use Rattle.refusals.specs.Answered.{Refused, Same, Planned, Exchanged}
 use Rattle.plan.specs.Form.{plan_bytes, entry_group}
 use Rattle.recounts.specs.declared.Move.{Move}
 use Rattle.crash_theorem.specs.Pick.{Has}

@@ -6,7 +6,7 @@ use Rattle.layout.specs.Contents.{shape_of}
 use Rattle.layout.specs.View.{View, view_of}
 use Rattle.paths.specs.declared.request.Request.{Request}
 use Rattle.component.specs.Step.{existing}
-use Rattle.refusals.specs.declared.case.Answer.TheVariants.{Exchanged}
+use Rattle.refusals.specs.Answered.{Exchanged}
 use Rattle.plan.specs.Form.{plan_bytes, journal_group}
 use Rattle.recounts.specs.declared.Move.{Move}
 use Rattle.crash_theorem.specs.Pick.{Has}

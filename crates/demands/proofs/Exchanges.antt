@@ -20,7 +20,7 @@ use Rattle.paths.specs.Flags.{exchange_flag}
 use Rattle.component.specs.Step.{Finding, existing, missing, nothing}
 use Rattle.walk.specs.Ends.{Existing, Known, Numbered}
 use Rattle.walk.specs.Both.{old_final}
-use Rattle.refusals.specs.declared.case.Answer.TheVariants.{Planned, Exchanged}
+use Rattle.refusals.specs.Answered.{Planned, Exchanged}
 use Rattle.refusals.specs.declared.case.Case.{Case}
 use Rattle.refusals.specs.Rules.{decide}
 use Rattle.exchange_steps.specs.Exchange.{exchange_steps}

@@ -5,8 +5,8 @@ use Rattle.std.proofs.lemmas.Bool.{not-false}
 use Rattle.layout.specs.Contents.{shape_of}
 use Rattle.layout.specs.View.{View, view_of}
 use Rattle.paths.specs.declared.request.Request.{Request}
-use Rattle.refusals.specs.declared.case.Answer.{Answer}
-use Rattle.refusals.specs.declared.case.Answer.TheVariants.{Planned}
+use Rattle.refusals.specs.Answered.{Answer}
+use Rattle.refusals.specs.Answered.{Planned}
 use Rattle.refusals.specs.Rules.{Rule, refuse, decide}
 use Rattle.refusals.specs.Decide.{answers}
 use Rattle.refusals.specs.Passes.{Passes}

@@ -8,8 +8,8 @@ use Rattle.consistency.specs.Consistent.{check_number}
 use Rattle.paths.specs.declared.request.Request.{Request}
 use Rattle.paths.specs.Request.{request_good}
 use Rattle.paths.specs.Flags.{asks_no_replace, flags_good}
-use Rattle.refusals.specs.declared.case.Answer.{Answer}
-use Rattle.refusals.specs.declared.case.Answer.TheVariants.{Refused, Same, Planned, Exchanged}
+use Rattle.refusals.specs.Answered.{Answer}
+use Rattle.refusals.specs.Answered.{Refused, Same, Planned, Exchanged}
 use Rattle.refusals.specs.Rules.{Rule, refuse, number_of, decide}
 use Rattle.plan.specs.Form.{plan_bytes, cleared}
 use Rattle.plan.specs.Jobs.{jobs_in}

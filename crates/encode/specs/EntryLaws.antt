@@ -1,5 +1,5 @@
 -- What is read back from an entry that was made or given another target. Assumes nothing.
-use Rattle.std.specs.Prelude.{◌≡◌, refl, true, List, ◌++◌, ℕ, ◌+◌, ◌-◌, ◌≤◌, ◌<◌, get_or, replicate}
+use Rattle.std.specs.Prelude.{◌≡◌, refl, true, List, ◌++◌, ℕ, suc, ◌+◌, ◌-◌, ◌≤◌, ◌<◌, get_or, set, replicate}
 use Rattle.std.proofs.Common.{sym, ap, ◌∙◌, inl, inr, length-append}
 use native.Mathlib.Omega.{arith}
 use Rattle.std.proofs.Math.ListN.{length, get_or-replicate}
@@ -21,6 +21,20 @@ pub entry_put : (width parent target : ℕ) (name : List ℕ) → 8 + length nam
     → put (put (replicate width 0) 0 (entry_head parent target (length name))) 8 name ≡ entry_bytes width parent target name
 unfolding entry_bytes bytes_of
 entry_put width parent target name fits = put_zeros_join width (entry_head parent target (length name)) name fits
+
+-- and the same, number by number
+pub entry_written : (width parent target : ℕ) (name : List ℕ) → 8 + length name ≤ width
+    → put (set (put (put (replicate width 0) 0 (bytes_of 2 parent)) 2 (bytes_of 2 target)) 4 (length name)) 8 name ≡ entry_bytes width parent target name
+unfolding put bytes_of
+entry_written width parent target name fits = ap (λ l. put l 8 name) head ∙ entry_put width parent target name fits
+  where
+    over : (m : ℕ) → set (put (put (replicate (8 + m) 0) 0 (bytes_of 2 parent)) 2 (bytes_of 2 target)) 4 (length name)
+        ≡ put (replicate (8 + m) 0) 0 (entry_head parent target (length name))
+    over m = let e : 8 + m ≡ suc (suc (suc (suc (suc (suc (suc (suc m))))))) = omega arith in rw e
+
+    head : set (put (put (replicate width 0) 0 (bytes_of 2 parent)) 2 (bytes_of 2 target)) 4 (length name)
+        ≡ put (replicate width 0) 0 (entry_head parent target (length name))
+    head = let e : 8 + (width - 8) ≡ width = omega arith in rw e at (over (width - 8))
 
 -- an entry as it stands, if its zeros are in order
 pub names_itself : (r : List ℕ) (width : ℕ) → length r ≡ width → 8 + entry_name_length r ≤ width → zeros r 5 3 ≡ true

@@ -4,5 +4,6 @@ pub mod InodeLaws
 pub mod Entry
 pub mod EntryLaws
 pub mod Journal
+pub mod Operation
 pub mod JournalLaws
 pub mod Bench

@@ -8,18 +8,10 @@ pub fn write(r: &mut [u8], parent: usize, target: usize, name: &[u8])
     requires { (name_offset + length name.now ≤ length r.old) × (length name.now < 256) }
     ensures { r.new ≡ entry_bytes (length r.old) parent target name.now }
 {
-    let head = [
-        (parent % 256) as u8,
-        (parent / 256 % 256) as u8,
-        (target % 256) as u8,
-        (target / 256 % 256) as u8,
-        name.len() as u8,
-        0,
-        0,
-        0,
-    ];
     crate::record::clear(r);
-    layout::bytes::copy(r, 0, &head);
+    crate::number::put16(r, 0, parent);
+    crate::number::put16(r, 2, target);
+    r[4] = name.len() as u8;
     layout::bytes::copy(r, 8, name);
 }
 

@@ -5,7 +5,7 @@ use Rattle.layout.specs.Errno.{EACCES, EINVAL, EMLINK}
 use Rattle.layout.specs.Limits.{link_limit}
 use Rattle.layout.specs.View.{View, is_directory}
 use Rattle.tree.specs.Tree.{reaches}
-use Rattle.refusals.specs.declared.case.Answer.TheVariants.{Same, Exchanged}
+use Rattle.refusals.specs.Answered.{Same, Exchanged}
 use Rattle.refusals.specs.declared.case.Case.{Case}
 use Rattle.refusals.specs.Case.{same_file, may_write}
 use Rattle.rename_steps.specs.Tests.{reparents, moved_denied}

@@ -2,7 +2,7 @@
 use Rattle.std.specs.Prelude.{◌≡◌, refl, true, List, [], ◌∷◌, ◌++◌}
 use Rattle.std.proofs.Common.{◌∙◌}
 use Rattle.layout.specs.View.{View}
-use Rattle.refusals.specs.declared.case.Answer.TheVariants.{Refused, Same, Exchanged}
+use Rattle.refusals.specs.Answered.{Refused, Same, Exchanged}
 use Rattle.refusals.specs.declared.case.Case.{Case}
 use Rattle.refusals.specs.Rules.{Rule, number_of, decide, parent_rules}
 use Rattle.exchange_steps.specs.Exchange.{other_rules, exchange_steps}
@@ -29,3 +29,6 @@ module _ (v : View) (c : Case) where
 
       pub exchange_planned_lem : number_of (decide (other_rules v c)) ≡ 0 → decide (exchange_steps v c) ≡ Exchanged
       exchange_planned_lem none = past_parents v c rest other parents ∙ decide_passed last (other_rules v c) refl none
+
+-- each way out
+pub ruleset ways = (exchange_same, exchange_parents, exchange_others, exchange_planned_lem)

@@ -2,98 +2,75 @@
 #![tactic(auto)]
 
 ghost use Rattle.std.specs.Prelude.{◌≡◌, true, ◌&&◌, not, ◌<◌, eqb};
-ghost use Rattle.layout.specs.Facts.{Laid, Readable};
+ghost use Rattle.layout.specs.Code.{code};
+ghost use Rattle.layout.specs.Seen.{seen};
 ghost use Rattle.layout.specs.Limits.{link_limit};
-ghost use Rattle.layout.specs.View.{view_of, is_directory, is_used};
-ghost use Rattle.refusals.specs.Case.{may_write};
+ghost use Rattle.layout.specs.View.{is_directory, is_used};
+ghost use Rattle.refusals.specs.Answered.{answered};
 ghost use Rattle.refusals.specs.CaseIn.{CaseIn};
 ghost use Rattle.refusals.specs.Within.{Within};
 ghost use Rattle.exchange_steps.specs.Exchange.{replaced_above, other_rules, exchange_steps};
 ghost use Rattle.refusals.specs.Rules.{number_of, decide};
 
-use layout::{Shape, errno, limits};
-use paths::permission;
-use refusals::case::{Answer, Case};
-use refusals::parents;
+use layout::errno::Errno;
+use layout::image::Image;
+use layout::limits;
+use refusals::case::{Case, Verdict};
+use refusals::{parents, reparented};
 
 // Step 7 on the other side: the replaced inode is the old parent, or above it.
-fn replaced_above(image: &[u8], h: Shape, c: Case) -> bool
-    requires { Laid h image.now × Within h c × (c.replaced < h.inodes) }
-    ensures { result ≡ replaced_above (view_of h image.now) c }
+#[tactic(auto, unfolding(layout::specs::View::view_of))]
+fn replaced_above(image: &Image<'_>, c: Case) -> bool
+    requires { Within image.now.shape c × (c.replaced < image.now.shape.inodes) }
+    ensures { result ≡ replaced_above (seen image.now) c }
 {
-    tree::is_above(image, h, c.replaced, c.from)
-}
-
-// Whether write permission is denied on a directory that gets another parent. Inode i is one of the two.
-fn denied(image: &[u8], h: Shape, c: Case, i: usize) -> bool
-    requires { Laid h image.now × (i < h.inodes) }
-    ensures { result ≡ (is_directory (view_of h image.now) i && not (eqb c.from c.into) && not (may_write (view_of h image.now) c.who i)) }
-{
-    if !layout::lookup::is_directory(image, h, i) {
-        return false;
-    }
-    if c.from == c.into {
-        return false;
-    }
-    !permission::allows(image, h, c.who, i, permission::WRITE_BIT)
+    tree::is_above(image, c.replaced, c.from)
 }
 
 // Whether directory d has as many links as there may be, and would gain directory i for inode other.
-fn full(image: &[u8], h: Shape, c: Case, i: usize, other: usize, d: usize) -> bool
-    requires { Laid h image.now × (d < h.inodes) }
-    ensures { result ≡ (is_directory (view_of h image.now) i && not (eqb c.from c.into) && not (is_directory (view_of h image.now) other) && eqb ((view_of h image.now).links d) link_limit) }
+#[tactic(auto, unfolding(layout::specs::View::view_of))]
+fn full(image: &Image<'_>, c: Case, i: usize, other: usize, d: usize) -> bool
+    requires { d < image.now.shape.inodes }
+    ensures { result ≡ (is_directory (seen image.now) i && not (eqb c.from c.into) && not (is_directory (seen image.now) other) && eqb ((seen image.now).links d) link_limit) }
 {
-    if !layout::lookup::is_directory(image, h, i) {
-        return false;
-    }
-    if c.from == c.into {
-        return false;
-    }
-    if layout::lookup::is_directory(image, h, other) {
-        return false;
-    }
-    let r = layout::records::inode(image, h, d);
-    layout::inode::links(r) == limits::LINK_LIMIT
+    reparented::reparents(image, c, i)
+        && !image.is_directory(other)
+        && image.inode(d).links() == limits::LINK_LIMIT
 }
 
-// The number of the first that refuses behind the parents, or 0.
-fn number(image: &[u8], h: Shape, c: Case) -> u8
-    requires { Laid h image.now × Within h c × (c.replaced < h.inodes) }
-    ensures { result ≡ number_of (decide (other_rules (view_of h image.now) c)) }
+// Refuses by the first step behind the parents that does.
+fn allow(image: &Image<'_>, c: Case) -> Result<(), Errno>
+    requires { Within image.now.shape c × (c.replaced < image.now.shape.inodes) }
+    ensures { code result ≡ number_of (decide (other_rules (seen image.now) c)) }
 {
-    if replaced_above(image, h, c) {
-        return errno::EINVAL;
+    if replaced_above(image, c) {
+        return Err(Errno::EINVAL);
     }
-    if denied(image, h, c, c.moved) {
-        return errno::EACCES;
+    if reparented::denied(image, c, c.moved) {
+        return Err(Errno::EACCES);
     }
-    if denied(image, h, c, c.replaced) {
-        return errno::EACCES;
+    if reparented::denied(image, c, c.replaced) {
+        return Err(Errno::EACCES);
     }
-    if full(image, h, c, c.moved, c.replaced, c.into) {
-        return errno::EMLINK;
+    if full(image, c, c.moved, c.replaced, c.into) {
+        return Err(Errno::EMLINK);
     }
-    if full(image, h, c, c.replaced, c.moved, c.from) {
-        return errno::EMLINK;
+    if full(image, c, c.replaced, c.moved, c.from) {
+        return Err(Errno::EMLINK);
     }
-    0
+    Ok(())
 }
 
 // How an exchange is answered, whose walks have found this case: new's name exists.
-pub fn judge(image: &[u8], h: Shape, c: Case) -> Answer
-    requires { Readable h image.now × CaseIn (view_of h image.now) c × (is_used (view_of h image.now) c.replaced ≡ true) }
-    ensures { result ≡ decide (exchange_steps (view_of h image.now) c) }
+#[tactic(auto, using(crate::specs::ExchangeLaws::ways, refusals::proofs::WithinLaws::case_within, layout::proofs::ViewLaws::is_used_below))]
+pub fn judge(image: &Image<'_>, c: Case) -> Result<Verdict, Errno>
+    requires { CaseIn (seen image.now) c × (is_used (seen image.now) c.replaced ≡ true) }
+    ensures { answered result ≡ decide (exchange_steps (seen image.now) c) }
 {
     if c.moved == c.replaced {
-        return Answer::Same;
+        return Ok(Verdict::Same);
     }
-    let by_parents = parents::number(image, h, c);
-    if by_parents != 0 {
-        return Answer::Refused(by_parents);
-    }
-    let by_others = number(image, h, c);
-    if by_others != 0 {
-        return Answer::Refused(by_others);
-    }
-    Answer::Exchanged
+    parents::allow(image, c)?;
+    allow(image, c)?;
+    Ok(Verdict::Exchanged)
 }

@@ -1,1 +1,2 @@
 pub mod ExchangeRows
+pub mod FilledExchange

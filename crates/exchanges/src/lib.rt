@@ -2,13 +2,12 @@
 #![tactic(auto)]
 
 ghost use Rattle.std.specs.Prelude.{◌≡◌, ◌+◌, ◌≤◌, ◌<◌};
+ghost use Rattle.layout.specs.Seen.{seen};
 ghost use Rattle.layout.specs.Limits.{entry_limit};
-ghost use Rattle.layout.specs.Facts.{Laid};
-ghost use Rattle.layout.specs.View.{view_of};
 ghost use Rattle.recounts.specs.RecountLaws.{Two};
 ghost use Rattle.exchanges.specs.Exchange.{back, children_exchanged, parent_after};
 
-use layout::Shape;
+use layout::image::Image;
 use recounts::Move;
 
 pub mod rows;
@@ -30,23 +29,23 @@ fn back(m: Move) -> Move
 }
 
 // How many child directories directory d has, by the entries as exchanged: the count as it stands tells it but for the two slots.
-fn children(image: &[u8], h: Shape, m: Move, d: usize) -> usize
-    requires { Laid h image.now × Two m h.entries }
-    ensures { (result ≡ children_exchanged (view_of h image.now) m d) × (result ≤ entry_limit) }
+fn children(image: &Image<'_>, m: Move, d: usize) -> usize
+    requires { Two m image.now.shape.entries }
+    ensures { (result ≡ children_exchanged (seen image.now) m d) × (result ≤ entry_limit) }
 {
-    let stand = tree::child_directories(image, h, d);
-    let second = recounts::one_if(recounts::makes_child(image, h, back(m), d));
-    let first = recounts::one_if(recounts::makes_child(image, h, m, d));
-    let old = recounts::one_if(tree::entry_holds_directory(image, h, d, m.old));
-    let new = recounts::one_if(tree::entry_holds_directory(image, h, d, m.new));
+    let stand = tree::child_directories(image, d);
+    let second = recounts::one_if(recounts::makes_child(image, back(m), d));
+    let first = recounts::one_if(recounts::makes_child(image, m, d));
+    let old = recounts::one_if(tree::entry_holds_directory(image, d, m.old));
+    let new = recounts::one_if(tree::entry_holds_directory(image, d, m.new));
     stand + second + first - old - new
 }
 
 // The old or the new parent, inode i.
-fn parent(image: &[u8], h: Shape, m: Move, i: usize) -> [u8; 32]
-    requires { Laid h image.now × Two m h.entries × (i < h.inodes) }
-    ensures { result ≡ parent_after h image.now m i }
+fn parent(image: &Image<'_>, m: Move, i: usize) -> [u8; 32]
+    requires { Two m image.now.shape.entries × (i < image.now.shape.inodes) }
+    ensures { result ≡ parent_after image.now.shape image.now.bytes.now m i }
 {
-    let links = children(image, h, m, i) + 2;
-    results::records::counted(image, h, i, links, m.now)
+    let links = children(image, m, i) + 2;
+    results::records::counted(image, i, links, m.now)
 }

@@ -1,161 +1,106 @@
-// Consistent inodes: what the type number asks of each. What has to be counted or looked for comes in tables, filled for all inodes at once.
+// Consistent inodes: what the type number asks of each. What has to be counted or looked for is tallied for all inodes at once.
 #![tactic(auto)]
 
 ghost use Rattle.std.specs.Prelude.{◌≡◌, true, ◌<◌};
 ghost use Rattle.seq.specs.Search.{all};
-ghost use Rattle.layout.specs.Facts.{Laid};
-ghost use Rattle.layout.specs.View.{view_of, is_directory, text_used};
+ghost use Rattle.layout.specs.Seen.{seen};
+ghost use Rattle.layout.specs.View.{is_directory, text_used};
 ghost use Rattle.tree.specs.Inode.{leaf_good, file_good, directory_placed, directory_good, symlink_good, inode_good};
-ghost use Rattle.tallies.specs.Tallies.{EntryCounts, ChildCounts, Tops, TextOwners};
 
-use layout::{Shape, limits};
+use layout::image::Image;
+use layout::kind::Kind;
+use layout::limits;
+use tallies::Tallies;
 
 // What a file and a symlink share: mode and link count.
-fn leaf_good(image: &[u8], h: Shape, entries: &[u16; 513], i: usize) -> bool
-    requires { Laid h image.now × (i < h.inodes) × EntryCounts h image.now entries.now }
-    ensures { result ≡ leaf_good (view_of h image.now) i }
+#[tactic(auto, unfolding(layout::specs::View::view_of, tree::specs::Inode::leaf_good))]
+fn leaf_good(tallies: &Tallies<'_>, i: usize) -> bool
+    requires { i < tallies.now.image.shape.inodes }
+    ensures { result ≡ leaf_good (seen tallies.now.image) i }
 {
-    let r = layout::records::inode(image, h, i);
-    if limits::MODE_LIMIT <= layout::inode::mode(r) {
-        return false;
-    }
-    let links = layout::inode::links(r);
-    if limits::LINK_LIMIT < links {
-        return false;
-    }
-    if links < 1 {
-        return false;
-    }
-    links == tables::wide(entries[i])
+    let r = tallies.image.inode(i);
+    let links = r.links();
+    r.mode() < limits::MODE_LIMIT
+        && links <= limits::LINK_LIMIT
+        && 1 <= links
+        && links == tallies.entries(i)
 }
 
-fn file_good(image: &[u8], h: Shape, entries: &[u16; 513], i: usize) -> bool
-    requires { Laid h image.now × (i < h.inodes) × EntryCounts h image.now entries.now }
-    ensures { result ≡ file_good (view_of h image.now) i }
+#[tactic(auto, unfolding(layout::specs::View::view_of, tree::specs::Inode::file_good))]
+fn file_good(tallies: &Tallies<'_>, i: usize) -> bool
+    requires { i < tallies.now.image.shape.inodes }
+    ensures { result ≡ file_good (seen tallies.now.image) i }
 {
-    if !leaf_good(image, h, entries, i) {
-        return false;
-    }
-    let r = layout::records::inode(image, h, i);
-    layout::inode::field(r) == 0
+    leaf_good(tallies, i) && tallies.image.inode(i).field() == 0
 }
 
 // The root is its own parent; any other directory has one entry and leads to the root.
-fn directory_placed(
-    image: &[u8],
-    h: Shape,
-    entries: &[u16; 513],
-    tops: &[u16; 512],
-    i: usize,
-) -> bool
-    requires { Laid h image.now × (i < h.inodes) × EntryCounts h image.now entries.now × Tops h image.now tops.now × (is_directory (view_of h image.now) i ≡ true) }
-    ensures { result ≡ directory_placed (view_of h image.now) i }
+#[tactic(auto, unfolding(layout::specs::View::view_of))]
+fn directory_placed(tallies: &Tallies<'_>, i: usize) -> bool
+    requires { (i < tallies.now.image.shape.inodes) × (is_directory (seen tallies.now.image) i ≡ true) }
+    ensures { result ≡ directory_placed (seen tallies.now.image) i }
 {
     if i == 0 {
-        let r = layout::records::inode(image, h, i);
-        return layout::inode::field(r) == 0;
+        tallies.image.inode(i).field() == 0
+    } else {
+        tallies.entries(i) == 1 && tallies.leads_to_root(i)
     }
-    if entries[i] != 1 {
-        return false;
-    }
-    tops[i] == 0
 }
 
-fn directory_good(
-    image: &[u8],
-    h: Shape,
-    entries: &[u16; 513],
-    children: &[u16; 513],
-    tops: &[u16; 512],
-    i: usize,
-) -> bool
-    requires { Laid h image.now × (i < h.inodes) × EntryCounts h image.now entries.now × ChildCounts h image.now children.now × Tops h image.now tops.now × (is_directory (view_of h image.now) i ≡ true) }
-    ensures { result ≡ directory_good (view_of h image.now) i }
+#[tactic(auto, unfolding(layout::specs::View::view_of, tree::specs::Inode::directory_good))]
+fn directory_good(tallies: &Tallies<'_>, i: usize) -> bool
+    requires { (i < tallies.now.image.shape.inodes) × (is_directory (seen tallies.now.image) i ≡ true) }
+    ensures { result ≡ directory_good (seen tallies.now.image) i }
 {
-    let r = layout::records::inode(image, h, i);
-    if limits::MODE_LIMIT <= layout::inode::mode(r) {
-        return false;
-    }
-    let links = layout::inode::links(r);
-    if limits::LINK_LIMIT < links {
-        return false;
-    }
-    if links != 2 + tables::wide(children[i]) {
-        return false;
-    }
-    directory_placed(image, h, entries, tops, i)
+    let r = tallies.image.inode(i);
+    let links = r.links();
+    r.mode() < limits::MODE_LIMIT
+        && links <= limits::LINK_LIMIT
+        && links == 2 + tallies.children(i)
+        && directory_placed(tallies, i)
 }
 
 // Whether t is a text in use.
-fn text_used(image: &[u8], h: Shape, t: usize) -> bool
-    requires { Laid h image.now × (t < h.texts) }
-    ensures { result ≡ text_used (view_of h image.now) t }
+#[tactic(auto, unfolding(layout::specs::View::view_of))]
+fn text_used(image: &Image<'_>, t: usize) -> bool
+    requires { t < image.now.shape.texts }
+    ensures { result ≡ text_used (seen image.now) t }
 {
-    let r = layout::records::text(image, h, t);
-    layout::text::length(r) != 0
+    image.text(t).length() != 0
 }
 
-fn symlink_good(image: &[u8], h: Shape, entries: &[u16; 513], owners: &[u16; 65], i: usize) -> bool
-    requires { Laid h image.now × (i < h.inodes) × EntryCounts h image.now entries.now × TextOwners h image.now owners.now }
-    ensures { result ≡ symlink_good (view_of h image.now) i }
+#[tactic(auto, unfolding(layout::specs::View::view_of, tree::specs::Inode::symlink_good))]
+fn symlink_good(tallies: &Tallies<'_>, i: usize) -> bool
+    requires { i < tallies.now.image.shape.inodes }
+    ensures { result ≡ symlink_good (seen tallies.now.image) i }
 {
-    if !leaf_good(image, h, entries, i) {
-        return false;
-    }
-    let r = layout::records::inode(image, h, i);
-    let text = layout::inode::field(r);
-    if h.texts <= text {
-        return false;
-    }
-    if !text_used(image, h, text) {
-        return false;
-    }
-    // an earlier symlink has the same text
-    let shared = tables::wide(owners[text]) < i;
-    !shared
+    let image = &tallies.image;
+    let text = image.inode(i).field();
+    // the last: no earlier symlink has the same text
+    leaf_good(tallies, i)
+        && text < image.shape.texts
+        && text_used(image, text)
+        && i <= tallies.owner(text)
 }
 
 // The type number decides what is asked of an inode.
-fn good(
-    image: &[u8],
-    h: Shape,
-    entries: &[u16; 513],
-    children: &[u16; 513],
-    tops: &[u16; 512],
-    owners: &[u16; 65],
-    i: usize,
-) -> bool
-    requires { Laid h image.now × (i < h.inodes) × EntryCounts h image.now entries.now × ChildCounts h image.now children.now × Tops h image.now tops.now × TextOwners h image.now owners.now }
-    ensures { result ≡ inode_good h image.now i }
+fn good(tallies: &Tallies<'_>, i: usize) -> bool
+    requires { i < tallies.now.image.shape.inodes }
+    ensures { result ≡ inode_good tallies.now.image.shape tallies.now.image.bytes.now i }
 {
-    let r = layout::records::inode(image, h, i);
-    let kind = layout::inode::kind(r);
-    match kind {
-        0 => layout::bytes::all_zero(r, 0, 32),
-        1 => file_good(image, h, entries, i),
-        2 => directory_good(image, h, entries, children, tops, i),
-        3 => symlink_good(image, h, entries, owners, i),
-        _ => false,
+    let r = tallies.image.inode(i);
+    match r.kind() {
+        Kind::Free => layout::bytes::all_zero(r.bytes, 0, 32),
+        Kind::File => file_good(tallies, i),
+        Kind::Directory => directory_good(tallies, i),
+        Kind::Symlink => symlink_good(tallies, i),
+        Kind::Unknown(_) => false,
     }
 }
 
 // Whether every inode is consistent.
-pub fn all_good(image: &[u8], h: Shape, owners: &[u16; 65]) -> bool
-    requires { Laid h image.now × TextOwners h image.now owners.now }
-    ensures { result ≡ all (inode_good h image.now) h.inodes }
+pub fn all_good(tallies: &Tallies<'_>) -> bool
+    ensures { result ≡ all (inode_good tallies.now.image.shape tallies.now.image.bytes.now) tallies.now.image.shape.inodes }
 {
-    let mut entries = [0u16; 513];
-    let mut children = [0u16; 513];
-    tallies::counts(image, h, &mut entries, &mut children);
-    let mut tops = [0u16; 512];
-    tallies::tops::tops(image, h, &mut tops);
-    let n = h.inodes;
-    let mut i: usize = 0;
-    while i < n {
-        if !good(image, h, &entries, &children, &tops, owners, i) {
-            return false;
-        }
-        i += 1;
-    }
-    true
+    (0..tallies.image.shape.inodes).all(|i| good(tallies, i))
 }

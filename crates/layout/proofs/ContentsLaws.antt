@@ -1,5 +1,6 @@
 -- Laws of the table of contents: the ways out of reading it, and what a good layout gives to a reader of records. Assumes nothing.
-use Rattle.std.specs.Prelude.{◌≡◌, refl, Bool, false, ◌&&◌, List, ℕ, ◌+◌, ◌*◌, ◌≤◌, ◌<◌, leb, length, get_or}
+use Rattle.std.specs.Prelude.{◌≡◌, refl, Bool, false, ◌&&◌, List, ℕ, ◌+◌, ◌*◌, ◌≤◌, ◌<◌, leb, length, get_or, None, Some}
+use Rattle.std.specs.Bool.{then_some}
 use Rattle.std.proofs.Common.{sym, subst, ◌∙◌, mul-le-mul_right, arith, lit<}
 use Rattle.std.proofs.Math.Bool.{true, and-false}
 use Rattle.std.proofs.Math.Dec.{eqb, lit≤}
@@ -10,7 +11,6 @@ use Rattle.seq.specs.Truth.{and_left, and_right, and_both, same_truth, implies_a
 use Rattle.seq.specs.AllPass.{no_more, ◌&◌, is_every, every_at}
 use Rattle.seq.proofs.SearchLaws.{all_at, all_not, all_of}
 use Rattle.layout.specs.declared.Shape.{Shape}
-use Rattle.layout.specs.declared.contents.Contents.TheVariants.{Bad, Good}
 use Rattle.layout.specs.Limits.{contents_bytes, journal_size}
 use Rattle.layout.specs.Place.{image_bytes, base}
 use Rattle.layout.specs.Facts.{Laid, CountsFit, Read}
@@ -43,18 +43,18 @@ module _ (s : List ℕ) (at : ℕ) (name : List ℕ) (offset least limit : ℕ) 
   row_count a b c = rw (a, eq-eqb _ _ b, le-leb _ _ c)
 
 -- the ways out of reading the table of contents
-pub contents_short : (s : List ℕ) → length s < contents_bytes → contents_of s ≡ Bad
+pub contents_short : (s : List ℕ) → length s < contents_bytes → contents_of s ≡ None
 unfolding contents_of layout_read
 contents_short s l = rw (lt-leb _ _ l)
 
 module _ (s : List ℕ) (h : Shape) (long : contents_bytes ≤ length s) (shape : h ≡ shape_of s) where
-  pub contents_right : rows_good s h ≡ true → contents_of s ≡ Good h
+  pub contents_from_rows : contents_of s ≡ then_some (rows_good s h) h
   unfolding contents_of layout_read
-  contents_right e = rw (le-leb _ _ long, ← shape, e)
-
-  pub contents_wrong : rows_good s h ≡ false → contents_of s ≡ Bad
-  unfolding contents_of layout_read
-  contents_wrong e = rw (le-leb _ _ long, ← shape, e)
+  contents_from_rows = rw (le-leb _ _ long, ← shape) (picked (rows_good s h))
+    where
+      picked : (b : Bool) → pick_contents b h ≡ then_some b h
+      picked true = refl
+      picked false = refl
 
 -- the shape, field by field
 pub shape_is : (s : List ℕ) (a b c d w : ℕ) → a ≡ number_at 2 s 6 → b ≡ number_at 2 s 14 → c ≡ number_at 2 s 22 → d ≡ number_at 2 s 30 → w ≡ width_of s
@@ -160,21 +160,21 @@ product h c = let l = mul-le-mul_right h.entries c.width in omega (arith, c.entr
 pub image_fits : (h : Shape) → CountsFit h → image_bytes h < 18446744073709551616
 image_fits h few = omega (arith, product h few, few.inodes, few.texts, few.handles)
 
-pub contents_good : (s : List ℕ) (h : Shape) → contents_of s ≡ Good h → Read s h
+pub contents_good : (s : List ℕ) (h : Shape) → contents_of s ≡ Some h → Read s h
 unfolding contents_of
 contents_good s h e = go (layout_read s) refl e
   where
-    go : (b : Bool) → layout_read s ≡ b → pick_contents b (shape_of s) ≡ Good h → Read s h
+    go : (b : Bool) → layout_read s ≡ b → pick_contents b (shape_of s) ≡ Some h → Read s h
     go true g q =
         let z : h ≡ shape_of s = cc in
         let good = sym (layout_read_lem s) ∙ g in
         record { good = good; shape = z; laid = subst (λ (x : Shape). Laid x s) (sym z) (good_laid s good) }
     go false g q = let z : ◌≡◌ {A = ℕ} 0 1 = cc in absurd (omega arith)
 
-pub contents_bad : (s : List ℕ) → contents_of s ≡ Bad → layout_good s ≡ false
+pub contents_bad : (s : List ℕ) → contents_of s ≡ None → layout_good s ≡ false
 unfolding contents_of
 contents_bad s e = sym (layout_read_lem s) ∙ go (layout_read s) e
   where
-    go : (b : Bool) → pick_contents b (shape_of s) ≡ Bad → b ≡ false
+    go : (b : Bool) → pick_contents b (shape_of s) ≡ None → b ≡ false
     go true q = cc
     go false q = refl

@@ -4,3 +4,6 @@ pub mod RecordLaws
 pub mod Commute
 pub mod ViewLaws
 pub mod Bench
+pub mod CodeLaws
+pub mod KindLaws
+pub mod StateLaws

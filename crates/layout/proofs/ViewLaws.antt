@@ -1,5 +1,5 @@
 -- The range facts that make an image readable, and what a type number says. Assumes nothing.
-use Rattle.std.specs.Prelude.{◌≡◌, refl, Bool, true, false, ◌&&◌, cond, List, ℕ, ◌<◌, eqb, ltb}
+use Rattle.std.specs.Prelude.{◌≡◌, refl, Bool, true, false, ◌&&◌, not, cond, List, ℕ, ◌<◌, eqb, ltb}
 use Rattle.std.proofs.Common.{arith, ltb-true, lt-ltb, eq-eqb, ne_eqb}
 use Rattle.seq.specs.Bytes.{no_zero}
 use Rattle.seq.specs.Truth.{and_left}
@@ -41,6 +41,22 @@ other_kind v i k n = go (ltb i v.inodes) n
     go : (b : Bool) → (cond b (v.kind i) 0 ≡ k → ⊥) → (b && eqb (v.kind i) k) ≡ false
     go true n = ne_eqb _ _ n
     go false n = refl
+
+pub free_kind : (v : View) (i : ℕ) → kind_of v i ≡ 0 → is_used v i ≡ false
+unfolding kind_of
+free_kind v i e = go (ltb i v.inodes) e
+  where
+    go : (b : Bool) → cond b (v.kind i) 0 ≡ 0 → (b && not (eqb (v.kind i) 0)) ≡ false
+    go true e = rw (eq-eqb _ _ e)
+    go false e = refl
+
+pub used_kind : (v : View) (i : ℕ) → (kind_of v i ≡ 0 → ⊥) → is_used v i ≡ true
+unfolding kind_of
+used_kind v i n = go (ltb i v.inodes) n
+  where
+    go : (b : Bool) → (cond b (v.kind i) 0 ≡ 0 → ⊥) → (b && not (eqb (v.kind i) 0)) ≡ true
+    go true n = rw (ne_eqb _ _ n)
+    go false n = absurd (n refl)
 
 -- so the text of a symlink has no zero byte
 pub readable_text : (h : Shape) (s : List ℕ) → Readable h s → (i : ℕ) → is_symlink (view_of h s) i ≡ true → no_zero ((view_of h s).text ((view_of h s).field i)) ≡ true

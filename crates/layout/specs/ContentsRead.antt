@@ -1,10 +1,8 @@
 -- The table of contents as the code reads it: row by row, each compared with its name, its offset and its limits. Assumes nothing.
-use Rattle.std.specs.Prelude.{Bool, true, false, ◌&&◌, List, ℕ, ◌+◌, ◌*◌, eqb, leb, length}
+use Rattle.std.specs.Prelude.{Bool, true, false, ◌&&◌, List, ℕ, ◌+◌, ◌*◌, eqb, leb, length, Option, Some, None}
 use Rattle.seq.specs.Search.{all}
 use Rattle.seq.specs.Number.{number_at}
 use Rattle.layout.specs.declared.Shape.{Shape}
-use Rattle.layout.specs.declared.contents.Contents.{Contents}
-use Rattle.layout.specs.declared.contents.Contents.TheVariants.{Bad, Good}
 use Rattle.layout.specs.Limits.{contents_bytes}
 use Rattle.layout.specs.Place.{base, image_bytes}
 use Rattle.layout.specs.Contents.{section_name, fewest, most, name_is, shape_of}
@@ -27,9 +25,9 @@ unfoldable pub layout_read : List ℕ → Bool
 layout_read s = leb contents_bytes (length s) && rows_good s (shape_of s)
 
 -- what reading the table of contents finds
-abbrev pub pick_contents : Bool → Shape → Contents
-pick_contents true h = Good h
-pick_contents false h = Bad
+abbrev pub pick_contents : Bool → Shape → Option Shape
+pick_contents true h = Some h
+pick_contents false h = None
 
-unfoldable pub contents_of : List ℕ → Contents
+unfoldable pub contents_of : List ℕ → Option Shape
 contents_of s = pick_contents (layout_read s) (shape_of s)

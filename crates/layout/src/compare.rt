@@ -4,7 +4,7 @@ ghost use Rattle.seq.specs.Search.{any};
 ghost use Rattle.seq.specs.Bytes.{part, equal_bytes};
 ghost use Rattle.seq.specs.Compare.{piece_size, piece_differs, Compares};
 
-use crate::{bytes, number};
+use crate::number;
 
 // The bytes of a piece but for the last.
 const PIECE_SIZE: usize = 8;
@@ -16,7 +16,7 @@ pub struct Compared {
     pub pieces: usize,
 }
 
-// Whether the whole piece from at on is the same in both: each is read as one number.
+// Whether the whole piece from at on is the same in both: each is read as one number, since `==` of two such slices would be a call.
 fn same_piece(a: &[u8], b: &[u8], at: usize) -> bool
     requires { (at + piece_size ≤ length a.now) × (at + piece_size ≤ length b.now) }
     ensures { result ≡ equal_bytes (part a.now at piece_size) (part b.now at piece_size) }
@@ -45,18 +45,12 @@ fn same_short(a: &[u8], b: &[u8], at: usize, n: usize) -> bool
     ensures { result ≡ equal_bytes (part a.now at (n - at)) (part b.now at (n - at)) }
 {
     if 4 <= n - at {
-        if !same_four(a, b, at) {
-            return false;
-        }
-        return same_four(a, b, n - 4);
+        same_four(a, b, at) && same_four(a, b, n - 4)
+    } else if 2 <= n - at {
+        same_two(a, b, at) && same_two(a, b, n - 2)
+    } else {
+        a[at..n] == b[at..n]
     }
-    if 2 <= n - at {
-        if !same_two(a, b, at) {
-            return false;
-        }
-        return same_two(a, b, n - 2);
-    }
-    bytes::same(&a[at..n], &b[at..n])
 }
 
 // All whole pieces are the same: what is behind them decides.
@@ -90,15 +84,11 @@ pub fn compare(a: &[u8], b: &[u8]) -> Compared
         };
     }
     let whole = a.len() / PIECE_SIZE;
-    let mut k: usize = 0;
-    while k < whole {
-        if !same_piece(a, b, PIECE_SIZE * k) {
-            return Compared {
-                same: false,
-                pieces: k + 1,
-            };
-        }
-        k += 1;
+    match (0..whole).position(|k| !same_piece(a, b, PIECE_SIZE * k)) {
+        Some(k) => Compared {
+            same: false,
+            pieces: k + 1,
+        },
+        None => last(a, b, whole),
     }
-    last(a, b, k)
 }

@@ -1,46 +1,53 @@
-// The numbers that a job returns: the errors of POSIX under their names, numbered as on Linux, and our own.
+// Why a job is refused: the errors of POSIX under their names, numbered as on Linux, and our own.
+ghost use Rattle.std.specs.Prelude.{◌≡◌};
+ghost use Rattle.layout.specs.Code.{number, code};
 
-pub const EPERM: u8 = 1;
+#[derive(Clone, Copy, PartialEq, Eq)]
+pub enum Errno {
+    EPERM = 1,
+    ENOENT = 2,
+    EBADF = 9,
+    EACCES = 13,
+    EBUSY = 16,
+    EEXIST = 17,
+    EXDEV = 18,
+    ENOTDIR = 20,
+    EISDIR = 21,
+    EINVAL = 22,
+    ENOSPC = 28,
+    EROFS = 30,
+    EMLINK = 31,
+    ENAMETOOLONG = 36,
+    ENOTEMPTY = 39,
+    ELOOP = 40,
+    // An image that is not consistent, or has no good layout.
+    Inconsistent = 201,
+    // A request whose current directory is none, or with a zero byte in a path.
+    WrongRequest = 202,
+    // A journal record that is not zero.
+    JournalPending = 203,
+    // A journal record that fits no operation, or an outcome that is not consistent.
+    NotRecoverable = 204,
+    // A buffer that is too short.
+    ShortBuffer = 205,
+    // A row that cannot be applied.
+    BadRow = 207,
+}
 
-pub const ENOENT: u8 = 2;
+impl From<Errno> for u8 {
+    ghost from_gives = { λ e r. r ≡ number e };
 
-pub const EBADF: u8 = 9;
+    fn from(e: Errno) -> u8 {
+        e as u8
+    }
+}
 
-pub const EACCES: u8 = 13;
-
-pub const EBUSY: u8 = 16;
-
-pub const EEXIST: u8 = 17;
-
-pub const EXDEV: u8 = 18;
-
-pub const ENOTDIR: u8 = 20;
-
-pub const EISDIR: u8 = 21;
-
-pub const EINVAL: u8 = 22;
-
-pub const ENOSPC: u8 = 28;
-
-pub const EROFS: u8 = 30;
-
-pub const EMLINK: u8 = 31;
-
-pub const ENAMETOOLONG: u8 = 36;
-
-pub const ENOTEMPTY: u8 = 39;
-
-pub const ELOOP: u8 = 40;
-
-// An image that is not consistent, or has no good layout.
-pub const INCONSISTENT: u8 = 201;
-// A request whose current directory is none, or with a zero byte in a path.
-pub const WRONG_REQUEST: u8 = 202;
-// A journal record that is not zero.
-pub const JOURNAL_PENDING: u8 = 203;
-// A journal record that fits no operation, or an outcome that is not consistent.
-pub const NOT_RECOVERABLE: u8 = 204;
-// A buffer that is too short.
-pub const SHORT_BUFFER: u8 = 205;
-// A row that cannot be applied.
-pub const BAD_ROW: u8 = 207;
+// The number that a job is answered with: 0 where it is done.
+pub fn number<T>(answer: &Result<T, Errno>) -> u8
+    ensures { result ≡ code answer.now }
+{
+    match answer {
+        Ok(_) => 0,
+        Err(e) => u8::from(*e),
+    }
+}

@@ -1,4 +1,4 @@
-// Where the records of each section begin, in an image whose length the machine can count.
+// Where in an image of a shape the records of each section begin.
 ghost use Rattle.std.specs.Prelude.{◌≡◌, ◌<◌};
 ghost use Rattle.seq.specs.Number.{span};
 ghost use Rattle.layout.specs.Place.{place, image_bytes};
@@ -6,45 +6,48 @@ ghost use Rattle.layout.specs.Place.{place, image_bytes};
 use crate::Shape;
 use crate::limits::{CONTENTS_BYTES, HANDLE_BYTES, INODE_BYTES, TEXT_BYTES};
 
-pub fn inode(h: Shape, i: usize) -> usize
-    requires { (image_bytes h < span 8) × (i < h.inodes) }
-    ensures { result ≡ place h 0 i }
-{
-    CONTENTS_BYTES + INODE_BYTES * i
-}
+// Each asks for an image whose length the machine can count, and for no image.
+impl Shape {
+    pub fn inode_place(self, i: usize) -> usize
+        requires { (image_bytes self < span 8) × (i < self.inodes) }
+        ensures { result ≡ place self 0 i }
+    {
+        CONTENTS_BYTES + INODE_BYTES * i
+    }
 
-pub fn entry(h: Shape, j: usize) -> usize
-    requires { (image_bytes h < span 8) × (j < h.entries) }
-    ensures { result ≡ place h 1 j }
-{
-    CONTENTS_BYTES + INODE_BYTES * h.inodes + h.width * j
-}
+    pub fn entry_place(self, j: usize) -> usize
+        requires { (image_bytes self < span 8) × (j < self.entries) }
+        ensures { result ≡ place self 1 j }
+    {
+        CONTENTS_BYTES + INODE_BYTES * self.inodes + self.width * j
+    }
 
-pub fn text(h: Shape, t: usize) -> usize
-    requires { (image_bytes h < span 8) × (t < h.texts) }
-    ensures { result ≡ place h 2 t }
-{
-    CONTENTS_BYTES + INODE_BYTES * h.inodes + h.width * h.entries + TEXT_BYTES * t
-}
+    pub fn text_place(self, t: usize) -> usize
+        requires { (image_bytes self < span 8) × (t < self.texts) }
+        ensures { result ≡ place self 2 t }
+    {
+        CONTENTS_BYTES + INODE_BYTES * self.inodes + self.width * self.entries + TEXT_BYTES * t
+    }
 
-pub fn handle(h: Shape, n: usize) -> usize
-    requires { (image_bytes h < span 8) × (n < h.handles) }
-    ensures { result ≡ place h 3 n }
-{
-    CONTENTS_BYTES
-        + INODE_BYTES * h.inodes
-        + h.width * h.entries
-        + TEXT_BYTES * h.texts
-        + HANDLE_BYTES * n
-}
+    pub fn handle_place(self, n: usize) -> usize
+        requires { (image_bytes self < span 8) × (n < self.handles) }
+        ensures { result ≡ place self 3 n }
+    {
+        CONTENTS_BYTES
+            + INODE_BYTES * self.inodes
+            + self.width * self.entries
+            + TEXT_BYTES * self.texts
+            + HANDLE_BYTES * n
+    }
 
-pub fn journal(h: Shape) -> usize
-    requires { image_bytes h < span 8 }
-    ensures { result ≡ place h 4 0 }
-{
-    CONTENTS_BYTES
-        + INODE_BYTES * h.inodes
-        + h.width * h.entries
-        + TEXT_BYTES * h.texts
-        + HANDLE_BYTES * h.handles
+    pub fn journal_place(self) -> usize
+        requires { image_bytes self < span 8 }
+        ensures { result ≡ place self 4 0 }
+    {
+        CONTENTS_BYTES
+            + INODE_BYTES * self.inodes
+            + self.width * self.entries
+            + TEXT_BYTES * self.texts
+            + HANDLE_BYTES * self.handles
+    }
 }

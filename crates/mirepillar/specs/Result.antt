@@ -3,7 +3,7 @@
 use Rattle.std.specs.Prelude.{◌≡◌, List, ℕ, ◌+◌, ◌*◌, ◌/◌, ◌%◌, ◌<◌}
 use Rattle.paths.specs.declared.request.Request.{Request}
 use Rattle.paths.specs.Groups.{credentials_of}
-use Rattle.rename.specs.declared.Renamed.{Renamed}
+use Rattle.rename.specs.Renamed.{Renamed}
 use Rattle.recover.specs.Job.{Recovered}
 
 -- the parts in the order of the function's arguments

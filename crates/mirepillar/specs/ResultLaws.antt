@@ -1,7 +1,7 @@
 -- A packed answer's parts are those that the header's accessors take out. Assumes nothing.
 use Rattle.std.specs.Prelude.{◌<◌}
 use Rattle.std.proofs.Common.{arith}
-use Rattle.rename.specs.declared.Renamed.{Renamed}
+use Rattle.rename.specs.Renamed.{Renamed}
 use Rattle.rename.specs.Answers.{Small}
 use Rattle.mirepillar.specs.Result.{packed, Parts}
 

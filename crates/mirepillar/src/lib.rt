@@ -5,10 +5,12 @@ ghost use Rattle.std.specs.Prelude.{◌≡◌};
 ghost use Rattle.consistency.specs.Consistent.{check_number};
 ghost use Rattle.apply.specs.Apply.{apply_number, applied_image};
 ghost use Rattle.rename.specs.Job.{renamed, plan_after};
+ghost use Rattle.rename.specs.Renamed.{told};
 ghost use Rattle.rename.specs.Answers.{Small};
 ghost use Rattle.recover.specs.Job.{recovered};
 ghost use Rattle.mirepillar.specs.Result.{request_of, packed, without_walks};
 
+use layout::errno;
 use paths::request::{Request, Starts};
 use rename::Renamed;
 
@@ -16,16 +18,17 @@ use rename::Renamed;
 pub fn mp_check(image: &[u8]) -> u64
     ensures { result ≡ check_number image.now }
 {
-    let number = consistency::check(image);
-    number as u64
+    u64::from(errno::number(&consistency::check(image)))
 }
 
 // The result of a plan: each part in bits of its own.
 fn pack(r: Renamed) -> u64
-    requires { Small r }
-    ensures { result ≡ packed r }
+    requires { Small (told r) }
+    ensures { result ≡ packed (told r) }
 {
-    (r.number as u64) + 256 * (r.rows as u64) + 65536 * (r.old as u64) + 4294967296 * (r.new as u64)
+    let number = errno::number(&r.rows);
+    let rows = r.rows.unwrap_or(0);
+    u64::from(number) + 256 * (rows as u64) + 65536 * (r.old as u64) + 4294967296 * (r.new as u64)
 }
 
 // The job rename, or with its flag the exchange. The groups are those beside the effective one; of a list that is too long none is read. The starts of old and new are from and into.
@@ -64,17 +67,16 @@ pub fn mp_rename(
 pub fn mp_land(image: &mut [u8], plan: &[u8], row: u64) -> u64
     ensures { (result ≡ apply_number image.old plan.now row) × (image.new ≡ applied_image image.old plan.now row) }
 {
-    apply::land(image, plan, row) as u64
+    u64::from(errno::number(&apply::land(image, plan, row)))
 }
 
 // The job repair. Its result has no counts.
 pub fn mp_repair(image: &[u8], plan: &mut [u8], scratch: &mut [u8]) -> u64
     ensures { (result ≡ packed (without_walks (recovered plan.old scratch.old image.now))) × (plan.new ≡ (recovered plan.old scratch.old image.now).plan) × (scratch.new ≡ (recovered plan.old scratch.old image.now).scratch) }
 {
-    let a = recover::recover(image, plan, scratch);
+    let rows = recover::recover(image, plan, scratch);
     let r = Renamed {
-        number: a.number,
-        rows: a.rows,
+        rows,
         old: 0,
         new: 0,
     };

@@ -1,17 +1,29 @@
--- All rows of a rename, put into a cleared plan one after another. Assumes nothing.
-use Rattle.std.specs.Prelude.{◌≡◌, List, ℕ, ◌+◌, ◌<◌, length}
-use Rattle.std.proofs.Common.{subst, arith}
+-- All rows of a rename, put one behind the other and copied over a plan's buffer. Assumes nothing.
+use Rattle.std.specs.Prelude.{◌≡◌, List, [], ◌∷◌, ℕ, ◌+◌, ◌<◌, ◌≤◌, length}
+use Rattle.std.proofs.Common.{subst, arith, length-append}
+use Rattle.seq.specs.Bytes.{put}
 use Rattle.layout.specs.declared.Shape.{Shape}
-use Rattle.plan.specs.Form.{plan_rows, row_stored, cleared}
+use Rattle.plan.specs.declared.rows.Rows.{Rows}
+use Rattle.plan.specs.Form.{plan_bytes, plan_rows, row_stored, cleared}
 use Rattle.plan.specs.Write.{row_from}
 use Rattle.plan.specs.Filled.{Filled}
 use Rattle.plan.proofs.WriteLaws.{filled_one, filled_join, plan_filled}
+use Rattle.plan.specs.Added.{no_rows, Added}
+use Rattle.plan.proofs.AddedLaws.{added_join, rows_stored}
 use Rattle.recounts.specs.declared.Move.{Move}
 use Rattle.results.specs.Results.{results, clear_row}
 use Rattle.results.proofs.ResultRows.{results_le}
 use Rattle.moves.specs.Plan.{journal_row, entry_row, rename_rows, planned}
 
 module _ (h : Shape) (s : List ℕ) (m : Move) (called : List ℕ) where
+  pub rename_stored : (buffer : List ℕ) {a b c q : Rows} → plan_bytes ≤ length buffer → Added h no_rows (journal_row h s m called ∷ []) a
+      → Added h a (entry_row h s m called ∷ []) b → Added h b (results h s m) c → Added h c (clear_row h ∷ []) q
+      → (put buffer 0 q.bytes ≡ planned h s m called buffer) × (q.count ≡ length (rename_rows h s m called))
+  unfolding planned rename_rows
+  rename_stored buffer long first second rest last =
+      rows_stored h buffer long (omega (arith, results_le h s m, length-append (results h s m) (clear_row h ∷ [])))
+      (added_join h first (added_join h second (added_join h rest last)))
+
   -- there is a place behind the results
   pub rename_results_below : {p q : List ℕ} {n : ℕ} → Filled h p 2 (results h s m) q n → n < plan_rows
   rename_results_below f = omega (arith, f.next, results_le h s m)

@@ -1,12 +1,13 @@
-// The move that a rename or an exchange makes: what is taken from where to where, the text that goes with what is replaced; a rename's rows in a plan.
+// The move that a rename or an exchange makes: what is taken from where to where, and the text that goes with what is replaced; and a
+// rename's rows in a plan.
 #![tactic(auto)]
 
 ghost use Rattle.std.specs.Prelude.{◌≡◌};
-ghost use Rattle.layout.specs.Facts.{Laid};
-ghost use Rattle.layout.specs.View.{view_of};
+ghost use Rattle.layout.specs.Seen.{seen};
 ghost use Rattle.moves.specs.Plan.{move_with, freed_text, move_of, exchange_of};
 
-use layout::{Shape, limits};
+use layout::image::Image;
+use layout::limits;
 use recounts::Move;
 use refusals::case::Case;
 
@@ -28,27 +29,25 @@ fn move_with(c: Case, time: u64, text: usize) -> Move
 }
 
 // The text of a replaced symlink that has no entry left, or limits::ABSENT.
-fn freed_text(image: &[u8], h: Shape, c: Case, time: u64) -> usize
-    requires { Laid h image.now }
-    ensures { result ≡ freed_text (view_of h image.now) c time }
+fn freed_text(image: &Image<'_>, c: Case, time: u64) -> usize
+    ensures { result ≡ freed_text (seen image.now) c time }
 {
     let replaced = c.replaced;
-    if !layout::lookup::is_symlink(image, h, replaced) {
+    if !image.is_symlink(replaced) {
         return limits::ABSENT;
     }
     let m = move_with(c, time, limits::ABSENT);
-    if recounts::entries_after(image, h, m, replaced) != 0 {
+    if recounts::entries_after(image, m, replaced) != 0 {
         return limits::ABSENT;
     }
-    let r = layout::records::inode(image, h, replaced);
-    layout::inode::field(r)
+    let r = image.inode(replaced);
+    r.field()
 }
 
-pub fn move_of(image: &[u8], h: Shape, c: Case, time: u64) -> Move
-    requires { Laid h image.now }
-    ensures { result ≡ move_of (view_of h image.now) c time }
+pub fn move_of(image: &Image<'_>, c: Case, time: u64) -> Move
+    ensures { result ≡ move_of (seen image.now) c time }
 {
-    let text = freed_text(image, h, c, time);
+    let text = freed_text(image, c, time);
     move_with(c, time, text)
 }
 

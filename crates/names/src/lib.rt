@@ -16,17 +16,7 @@ const FRONT_BYTES: usize = 24;
 fn bytes_good(name: &[u8]) -> bool
     ensures { result ≡ plain_name name.now }
 {
-    let mut k: usize = 0;
-    while k < name.len() {
-        if name[k] == 0 {
-            return false;
-        }
-        if name[k] == b'/' {
-            return false;
-        }
-        k += 1;
-    }
-    true
+    name.iter().all(|b| *b != 0 && *b != b'/')
 }
 
 // Whether a name of n bytes in an entry's first 24 holds no 0 and no slash, and zeros follow it there. Every byte is looked at and no branch is taken, which is
@@ -37,11 +27,9 @@ fn front_good(e: &[u8], n: usize) -> bool
 {
     let m = n as u8;
     let mut wrong = false;
-    let mut k: u8 = 0;
-    while k < 24 {
+    for k in 0..24u8 {
         let b = e[limits::NAME_OFFSET + (k as usize)];
         wrong = wrong | (b == b'/') | ((b != 0) != (k < m));
-        k += 1;
     }
     !wrong
 }
@@ -52,27 +40,18 @@ pub fn spelled(e: &[u8], n: usize) -> bool
     ensures { result ≡ name_spelled e.now n }
 {
     if n <= FRONT_BYTES {
-        if !front_good(e, n) {
-            return false;
-        }
-        return layout::bytes::all_zero(e, limits::ENTRY_BYTES, e.len() - limits::ENTRY_BYTES);
+        front_good(e, n)
+            && layout::bytes::all_zero(e, limits::ENTRY_BYTES, e.len() - limits::ENTRY_BYTES)
+    } else {
+        let at = limits::NAME_OFFSET;
+        bytes_good(&e[at..at + n]) && layout::bytes::all_zero(e, at + n, e.len() - at - n)
     }
-    if !bytes_good(&e[limits::NAME_OFFSET..limits::NAME_OFFSET + n]) {
-        return false;
-    }
-    layout::bytes::all_zero(
-        e,
-        limits::NAME_OFFSET + n,
-        e.len() - limits::NAME_OFFSET - n,
-    )
 }
 
 // Whether the name stands for the directory itself or for its parent.
+#[tactic(auto, unfolding(crate::specs::Name::is_dots))]
 pub fn is_dots(name: &[u8]) -> bool
     ensures { result ≡ is_dots name.now }
 {
-    if layout::bytes::same(name, b".") {
-        return true;
-    }
-    layout::bytes::same(name, b"..")
+    layout::bytes::same(name, b".") || layout::bytes::same(name, b"..")
 }

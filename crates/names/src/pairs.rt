@@ -1,50 +1,38 @@
 // Two entries that share parent and name, and the search for such over all pairs.
 ghost use Rattle.std.specs.Prelude.{◌≡◌, ◌<◌};
-ghost use Rattle.layout.specs.Facts.{Laid};
-ghost use Rattle.layout.specs.View.{view_of};
+ghost use Rattle.seq.specs.Search.{any};
+ghost use Rattle.layout.specs.Seen.{seen};
 ghost use Rattle.names.specs.Name.{clash};
 ghost use Rattle.names.specs.NameTests.{has_duplicate, Named};
 
-use layout::Shape;
+use layout::image::Image;
 
 // Whether the entries in slots i and j are in use and share parent and name.
-pub fn entries_clash(image: &[u8], h: Shape, i: usize, j: usize) -> bool
-    requires { Laid h image.now × Named h image.now × (i < h.entries) × (j < h.entries) }
-    ensures { result ≡ clash (view_of h image.now) i j }
+#[tactic(auto, unfolding(layout::specs::View::view_of, crate::specs::Name::clash))]
+pub fn entries_clash(image: &Image<'_>, i: usize, j: usize) -> bool
+    requires { Named image.now.shape image.now.bytes.now × (i < image.now.shape.entries) × (j < image.now.shape.entries) }
+    ensures { result ≡ clash (seen image.now) i j }
 {
-    let a = layout::records::entry(image, h, i);
-    if layout::entry::name_length(a) == 0 {
-        return false;
-    }
-    let b = layout::records::entry(image, h, j);
-    if layout::entry::name_length(b) == 0 {
-        return false;
-    }
-    if layout::entry::parent(a) != layout::entry::parent(b) {
-        return false;
-    }
-    let compared = layout::compare::compare(layout::entry::name(a), layout::entry::name(b));
-    compared.same
+    let a = image.entry(i);
+    let b = image.entry(j);
+    a.name_length() != 0
+        && b.name_length() != 0
+        && a.parent() == b.parent()
+        && layout::compare::compare(a.name(), b.name()).same
+}
+
+// Whether the entry in slot j shares parent and name with one in a slot before it.
+fn clashes_before(image: &Image<'_>, j: usize) -> bool
+    requires { Named image.now.shape image.now.bytes.now × (j < image.now.shape.entries) }
+    ensures { result ≡ any (λ i. clash (seen image.now) i j) j }
+{
+    (0..j).any(|i| entries_clash(image, i, j))
 }
 
 // Whether two entries share parent and name: a search over all pairs, left at the first.
-pub fn has_duplicate(image: &[u8], h: Shape) -> bool
-    requires { Laid h image.now × Named h image.now }
-    ensures { result ≡ has_duplicate (view_of h image.now) }
+pub fn has_duplicate(image: &Image<'_>) -> bool
+    requires { Named image.now.shape image.now.bytes.now }
+    ensures { result ≡ has_duplicate (seen image.now) }
 {
-    let n = h.entries;
-    let mut found = false;
-    let mut j: usize = 0;
-    'pairs: while j < n {
-        let mut i: usize = 0;
-        while i < j {
-            if entries_clash(image, h, i, j) {
-                found = true;
-                break 'pairs;
-            }
-            i += 1;
-        }
-        j += 1;
-    }
-    found
+    (0..image.shape.entries).any(|j| clashes_before(image, j))
 }

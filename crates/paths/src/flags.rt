@@ -10,14 +10,9 @@ pub const NO_REPLACE: u32 = 1;
 pub const EXCHANGE: u32 = 2;
 
 // Whether the flags ask for a rename, for one that replaces nothing, or for an exchange.
+#[tactic(auto, unfolding(crate::specs::Flags::flags_good))]
 pub fn good(q: Request) -> bool
     ensures { result ≡ flags_good q }
 {
-    if q.flags == 0 {
-        return true;
-    }
-    if q.flags == NO_REPLACE {
-        return true;
-    }
-    q.flags == EXCHANGE
+    matches!(q.flags, 0 | NO_REPLACE | EXCHANGE)
 }

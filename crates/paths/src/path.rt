@@ -10,28 +10,14 @@ use layout::limits;
 pub fn slashes(p: &[u8]) -> usize
     ensures { (result ≡ slashes p.now) × (result ≤ length p.now) }
 {
-    let mut k: usize = 0;
-    while k < p.len() {
-        if p[k] != b'/' {
-            return k;
-        }
-        k += 1;
-    }
-    k
+    p.iter().position(|b| *b != b'/').unwrap_or(p.len())
 }
 
 // How many bytes stand ahead of its first slash.
 pub fn name_bytes(p: &[u8]) -> usize
     ensures { (result ≡ until_slash p.now) × (result ≤ length p.now) }
 {
-    let mut k: usize = 0;
-    while k < p.len() {
-        if p[k] == b'/' {
-            return k;
-        }
-        k += 1;
-    }
-    k
+    p.iter().position(|b| *b == b'/').unwrap_or(p.len())
 }
 
 // Whether it is nothing but slashes.
@@ -44,10 +30,7 @@ pub fn is_bare(p: &[u8]) -> bool
 pub fn is_absolute(p: &[u8]) -> bool
     ensures { result ≡ absolute p.now }
 {
-    if p.len() == 0 {
-        return false;
-    }
-    p[0] == b'/'
+    p.first() == Some(&b'/')
 }
 
 pub fn is_dot(name: &[u8]) -> bool
@@ -77,8 +60,5 @@ pub fn splice(text: &[u8], rest: &[u8]) -> [u8; limits::PATH_BYTES]
 pub fn start(text: &[u8], directory: usize) -> usize
     ensures { result ≡ cond (absolute text.now) 0 directory }
 {
-    if is_absolute(text) {
-        return 0;
-    }
-    directory
+    if is_absolute(text) { 0 } else { directory }
 }

@@ -1,33 +1,38 @@
 // Permission: the class that the caller falls in decides.
 ghost use Rattle.std.specs.Prelude.{◌≡◌, ◌≤◌, ◌<◌};
-ghost use Rattle.layout.specs.Facts.{Laid};
-ghost use Rattle.layout.specs.View.{view_of};
-ghost use Rattle.paths.specs.Permission.{allows};
+ghost use Rattle.layout.specs.Seen.{seen};
+ghost use Rattle.paths.specs.Permission.{weight, allows};
 
 use crate::groups;
 use crate::request::Credentials;
-use layout::Shape;
+use layout::image::Image;
 
 // The bits that are asked for, by their weight in the others' class.
 pub const SEARCH_BIT: usize = 1;
 
 pub const WRITE_BIT: usize = 2;
 
-// Whether the caller has this bit on inode i.
-pub fn allows(image: &[u8], h: Shape, who: Credentials, i: usize, bit: usize) -> bool
-    requires { Laid h image.now × (i < h.inodes) × (1 ≤ bit) × (bit ≤ 2) }
-    ensures { result ≡ allows (view_of h image.now) who i bit }
+// The weight of a bit in the class that the caller falls in on inode i: the owner's, else the group's, else the others'.
+#[tactic(auto, unfolding(layout::specs::View::view_of))]
+fn weight(image: &Image<'_>, who: Credentials, i: usize, bit: usize) -> usize
+    requires { (i < image.now.shape.inodes) × (1 ≤ bit) × (bit ≤ 2) }
+    ensures { (result ≡ weight (seen image.now) who i bit) × (1 ≤ result) }
 {
-    if who.user == 0 {
-        return true;
+    let r = image.inode(i);
+    if who.user == r.owner() {
+        return 64 * bit;
     }
-    let r = layout::records::inode(image, h, i);
-    let mode = layout::inode::mode(r);
-    if who.user == layout::inode::owner(r) {
-        return mode / (64 * bit) % 2 == 1;
+    if groups::in_group(who, r.group()) {
+        return 8 * bit;
     }
-    if groups::in_group(who, layout::inode::group(r)) {
-        return mode / (8 * bit) % 2 == 1;
-    }
-    mode / bit % 2 == 1
+    bit
+}
+
+// Whether the caller has this bit on inode i.
+#[tactic(auto, unfolding(layout::specs::View::view_of, crate::specs::Permission::allows))]
+pub fn allows(image: &Image<'_>, who: Credentials, i: usize, bit: usize) -> bool
+    requires { (i < image.now.shape.inodes) × (1 ≤ bit) × (bit ≤ 2) }
+    ensures { result ≡ allows (seen image.now) who i bit }
+{
+    who.user == 0 || image.inode(i).mode() / weight(image, who, i, bit) % 2 == 1
 }

@@ -1,10 +1,10 @@
 // A request: who asks, from where, when, and for which form of a rename.
 ghost use Rattle.std.specs.Prelude.{◌≡◌};
-ghost use Rattle.layout.specs.Facts.{Laid};
-ghost use Rattle.layout.specs.View.{view_of};
+ghost use Rattle.layout.specs.Seen.{seen};
 ghost use Rattle.paths.specs.Request.{request_good};
 
-use layout::{Shape, limits};
+use layout::image::Image;
+use layout::limits;
 
 // Who asks: the effective user and group, and further groups, of which the first `count` are the caller's.
 #[derive(Clone, Copy)]
@@ -33,19 +33,12 @@ pub struct Request {
 }
 
 // Whether the current directory is one, neither path holds a zero byte, and the further groups are not too many.
-pub fn good(image: &[u8], h: Shape, q: Request, old: &[u8], new: &[u8]) -> bool
-    requires { Laid h image.now }
-    ensures { result ≡ request_good (view_of h image.now) q old.now new.now }
+#[tactic(auto, unfolding(crate::specs::Request::request_good))]
+pub fn good(image: &Image<'_>, q: Request, old: &[u8], new: &[u8]) -> bool
+    ensures { result ≡ request_good (seen image.now) q old.now new.now }
 {
-    let current = q.current as usize;
-    if !layout::lookup::is_directory(image, h, current) {
-        return false;
-    }
-    if !layout::bytes::no_zero(old) {
-        return false;
-    }
-    if !layout::bytes::no_zero(new) {
-        return false;
-    }
-    q.who.count <= limits::GROUP_LIMIT
+    image.is_directory(usize::from(q.current))
+        && layout::bytes::no_zero(old)
+        && layout::bytes::no_zero(new)
+        && q.who.count <= limits::GROUP_LIMIT
 }

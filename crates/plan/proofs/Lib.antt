@@ -5,3 +5,4 @@ pub mod FitLaws
 pub mod WriteLaws
 pub mod Bench
 pub mod RowLaws
+pub mod AddedLaws

@@ -6,3 +6,4 @@ pub mod FitFacts
 pub mod Write
 pub mod Filled
 pub mod Stands
+pub mod Added

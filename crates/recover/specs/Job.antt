@@ -10,7 +10,6 @@ use Rattle.consistency.specs.Sound.{journal_clear}
 use Rattle.consistency.specs.Consistent.{consistent}
 use Rattle.plan.specs.Form.{plan_bytes, rows_put, cleared}
 use Rattle.plan.specs.Write.{Write, rows_from, store_all}
-use Rattle.recover.specs.declared.Answer.{Answer}
 use Rattle.recover.specs.Recover.{pending_rows}
 
 -- What the job answers, and its buffers after it.
@@ -19,10 +18,6 @@ pub record Recovered : Type 0 where
   pub rows : ℕ
   pub plan : List ℕ
   pub scratch : List ℕ
-
--- the answer without the buffers, as the code gives it
-abbrev pub without_buffers : Recovered → Answer
-without_buffers r = record { number = r.number; rows = r.rows }
 
 -- rules 109 and 110: what scratch shows over the image's length: the outcome, or zeros where there is none
 abbrev pub outcome_of : Shape → List ℕ → Option (List Write) → List ℕ

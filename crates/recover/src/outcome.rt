@@ -6,9 +6,7 @@ ghost use Rattle.recover.specs.Outcome.{applied_from};
 pub fn apply(image: &mut [u8], plan: &[u8], n: usize)
     ensures { image.new ≡ applied_from image.old plan.now 0 n }
 {
-    let mut i: usize = 0;
-    while i < n {
-        apply::land(image, plan, i as u64);
-        i += 1;
+    for i in 0..n {
+        let _ = apply::land(image, plan, i as u64);
     }
 }

@@ -3,8 +3,8 @@ use Rattle.std.specs.Prelude.{◌≡◌, refl, Bool, true, false, not, cond, Lis
 use Rattle.std.proofs.Common.{sym, ap, ◌∙◌, append-nil}
 use Rattle.std.proofs.lemmas.Bool.{false≢true, not-true}
 use Rattle.seq.specs.Truth.{and_left, and_right}
-use Rattle.refusals.specs.declared.case.Answer.{Answer}
-use Rattle.refusals.specs.declared.case.Answer.TheVariants.{Planned}
+use Rattle.refusals.specs.Answered.{Answer}
+use Rattle.refusals.specs.Answered.{Planned}
 use Rattle.refusals.specs.Rules.{Rule, decide}
 use Rattle.refusals.specs.Decide.{answers}
 use Rattle.refusals.specs.Passes.{Passes, is_planned, deciding_rules}

@@ -1,8 +1,8 @@
 -- Lists of rules by what they answer, and the part that the orders of a rename and of an exchange begin with. Assumes nothing.
 use Rattle.std.specs.Prelude.{Bool, true, ◌&&◌, not, List, [], ◌∷◌, ◌++◌, ℕ, eqb}
 use Rattle.layout.specs.View.{View}
-use Rattle.refusals.specs.declared.case.Answer.{Answer}
-use Rattle.refusals.specs.declared.case.Answer.TheVariants.{Same}
+use Rattle.refusals.specs.Answered.{Answer}
+use Rattle.refusals.specs.Answered.{Same}
 use Rattle.refusals.specs.declared.case.Case.{Case}
 use Rattle.refusals.specs.Case.{same_file}
 use Rattle.refusals.specs.Rules.{Rule, number_of, parent_rules}

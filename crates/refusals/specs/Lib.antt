@@ -1,4 +1,5 @@
 pub mod Case
+pub mod Answered
 pub mod CaseIn
 pub mod Within
 pub mod Rules

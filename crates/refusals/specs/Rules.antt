@@ -3,8 +3,8 @@
 use Rattle.std.specs.Prelude.{Bool, cond, List, [], ◌∷◌, ℕ}
 use Rattle.layout.specs.Errno.{EROFS, EXDEV, EBUSY, EACCES, EPERM, EINVAL}
 use Rattle.layout.specs.View.{View}
-use Rattle.refusals.specs.declared.case.Answer.{Answer}
-use Rattle.refusals.specs.declared.case.Answer.TheVariants.{Refused, Same, Planned, Exchanged}
+use Rattle.refusals.specs.Answered.{Answer}
+use Rattle.refusals.specs.Answered.{Refused, Same, Planned, Exchanged}
 use Rattle.refusals.specs.declared.case.Case.{Case}
 use Rattle.refusals.specs.Case.{read_only_parent, other_system, mounted, parent_denied, moved_stuck, replaced_stuck, inside_itself}
 

@@ -17,10 +17,9 @@ pub struct Case {
     pub current: usize,
 }
 
-// How a call is answered: refused by a number, nothing to do since both names are of one file, planned as a rename, or as an exchange.
-#[derive(Clone, Copy)]
-pub enum Answer {
-    Refused(u8),
+// What is to be done about a call that nothing refuses: nothing since both names are of one file, or the rows of a rename or of an exchange.
+#[derive(Clone, Copy, PartialEq, Eq)]
+pub enum Verdict {
     Same,
     Planned,
     Exchanged,

@@ -1,156 +1,146 @@
 // Steps 2 to 7 of the order of refusal: what is asked of the two parents.
-ghost use Rattle.std.specs.Prelude.{◌≡◌, ◌<◌};
-ghost use Rattle.layout.specs.Facts.{Laid};
-ghost use Rattle.layout.specs.View.{view_of};
-ghost use Rattle.refusals.specs.Case.{read_only_parent, other_system, mounted_in, mounted, parent_denied, sticky, owns, sticky_denied, replaced_stuck, inside_itself};
+ghost use Rattle.std.specs.Prelude.{◌≡◌, not, ◌<◌};
+ghost use Rattle.layout.specs.Code.{code};
+ghost use Rattle.layout.specs.Seen.{seen};
+ghost use Rattle.refusals.specs.Case.{read_only_parent, other_system, mounted_in, mounted, may_write, parent_denied, sticky, owns, sticky_denied, replaced_stuck, inside_itself};
 ghost use Rattle.refusals.specs.Within.{Within};
 ghost use Rattle.refusals.specs.Rules.{number_of, decide, parent_rules};
 
 use crate::case::Case;
-use layout::{Shape, errno, limits};
+use layout::errno::Errno;
+use layout::image::Image;
+use layout::limits;
 use paths::permission;
 use paths::request::Credentials;
 
 // The file system of inode i.
-fn system(image: &[u8], h: Shape, i: usize) -> u8
-    requires { Laid h image.now × (i < h.inodes) }
-    ensures { result ≡ (view_of h image.now).system i }
+#[tactic(auto, unfolding(layout::specs::View::view_of))]
+fn system(image: &Image<'_>, i: usize) -> u8
+    requires { i < image.now.shape.inodes }
+    ensures { result ≡ (seen image.now).system i }
 {
-    let r = layout::records::inode(image, h, i);
-    layout::inode::system(r)
+    image.inode(i).system()
 }
 
 // Step 2: a parent is on a read-only file system.
-fn read_only(image: &[u8], h: Shape, c: Case) -> bool
-    requires { Laid h image.now × Within h c }
-    ensures { result ≡ read_only_parent (view_of h image.now) c }
+fn read_only(image: &Image<'_>, c: Case) -> bool
+    requires { Within image.now.shape c }
+    ensures { result ≡ read_only_parent (seen image.now) c }
 {
-    if limits::FIRST_READ_ONLY <= system(image, h, c.from) {
-        return true;
-    }
-    limits::FIRST_READ_ONLY <= system(image, h, c.into)
+    limits::FIRST_READ_ONLY <= system(image, c.from)
+        || limits::FIRST_READ_ONLY <= system(image, c.into)
 }
 
 // Step 3: the parents are on different file systems.
-fn other_system(image: &[u8], h: Shape, c: Case) -> bool
-    requires { Laid h image.now × Within h c }
-    ensures { result ≡ other_system (view_of h image.now) c }
+fn other_system(image: &Image<'_>, c: Case) -> bool
+    requires { Within image.now.shape c }
+    ensures { result ≡ other_system (seen image.now) c }
 {
-    system(image, h, c.from) != system(image, h, c.into)
+    system(image, c.from) != system(image, c.into)
 }
 
 // Whether i is a directory on another file system than directory d, which holds it.
-fn mounted_in(image: &[u8], h: Shape, d: usize, i: usize) -> bool
-    requires { Laid h image.now × (d < h.inodes) }
-    ensures { result ≡ mounted_in (view_of h image.now) d i }
+#[tactic(auto, using(layout::proofs::ViewLaws::is_kind_below))]
+fn mounted_in(image: &Image<'_>, d: usize, i: usize) -> bool
+    requires { d < image.now.shape.inodes }
+    ensures { result ≡ mounted_in (seen image.now) d i }
 {
-    if !layout::lookup::is_directory(image, h, i) {
-        return false;
-    }
-    system(image, h, i) != system(image, h, d)
+    image.is_directory(i) && system(image, i) != system(image, d)
 }
 
 // Step 4: the moved or the replaced inode is such a directory. One that is absent is no directory.
-fn mounted(image: &[u8], h: Shape, c: Case) -> bool
-    requires { Laid h image.now × Within h c }
-    ensures { result ≡ mounted (view_of h image.now) c }
+fn mounted(image: &Image<'_>, c: Case) -> bool
+    requires { Within image.now.shape c }
+    ensures { result ≡ mounted (seen image.now) c }
 {
-    if mounted_in(image, h, c.from, c.moved) {
-        return true;
-    }
-    mounted_in(image, h, c.into, c.replaced)
+    mounted_in(image, c.from, c.moved) || mounted_in(image, c.into, c.replaced)
+}
+
+// Whether write permission is denied on directory d.
+pub fn no_write(image: &Image<'_>, who: Credentials, d: usize) -> bool
+    requires { d < image.now.shape.inodes }
+    ensures { result ≡ not (may_write (seen image.now) who d) }
+{
+    !permission::allows(image, who, d, permission::WRITE_BIT)
 }
 
 // Step 5: write permission is denied on a parent.
-fn denied(image: &[u8], h: Shape, c: Case) -> bool
-    requires { Laid h image.now × Within h c }
-    ensures { result ≡ parent_denied (view_of h image.now) c }
+fn denied(image: &Image<'_>, c: Case) -> bool
+    requires { Within image.now.shape c }
+    ensures { result ≡ parent_denied (seen image.now) c }
 {
-    if !permission::allows(image, h, c.who, c.from, permission::WRITE_BIT) {
-        return true;
-    }
-    !permission::allows(image, h, c.who, c.into, permission::WRITE_BIT)
+    no_write(image, c.who, c.from) || no_write(image, c.who, c.into)
 }
 
 // Whether directory d has the sticky bit.
-fn is_sticky(image: &[u8], h: Shape, d: usize) -> bool
-    requires { Laid h image.now × (d < h.inodes) }
-    ensures { result ≡ sticky (view_of h image.now) d }
+#[tactic(auto, unfolding(layout::specs::View::view_of))]
+fn is_sticky(image: &Image<'_>, d: usize) -> bool
+    requires { d < image.now.shape.inodes }
+    ensures { result ≡ sticky (seen image.now) d }
 {
-    let r = layout::records::inode(image, h, d);
-    layout::inode::mode(r) / limits::STICKY_BIT % 2 == 1
+    image.inode(d).mode() / limits::STICKY_BIT % 2 == 1
 }
 
 // Whether the caller owns inode i.
-fn owns(image: &[u8], h: Shape, who: Credentials, i: usize) -> bool
-    requires { Laid h image.now × (i < h.inodes) }
-    ensures { result ≡ owns (view_of h image.now) who i }
+#[tactic(auto, unfolding(layout::specs::View::view_of))]
+fn owns(image: &Image<'_>, who: Credentials, i: usize) -> bool
+    requires { i < image.now.shape.inodes }
+    ensures { result ≡ owns (seen image.now) who i }
 {
-    let r = layout::records::inode(image, h, i);
-    who.user == layout::inode::owner(r)
+    who.user == image.inode(i).owner()
 }
 
 // Step 6: whether the sticky bit of directory d keeps the caller from inode i in it.
-fn sticky_denied(image: &[u8], h: Shape, who: Credentials, d: usize, i: usize) -> bool
-    requires { Laid h image.now × (d < h.inodes) × (i < h.inodes) }
-    ensures { result ≡ sticky_denied (view_of h image.now) who d i }
+#[tactic(auto, unfolding(crate::specs::Case::sticky_denied))]
+fn sticky_denied(image: &Image<'_>, who: Credentials, d: usize, i: usize) -> bool
+    requires { (d < image.now.shape.inodes) × (i < image.now.shape.inodes) }
+    ensures { result ≡ sticky_denied (seen image.now) who d i }
 {
-    if !is_sticky(image, h, d) {
-        return false;
-    }
-    if who.user == 0 {
-        return false;
-    }
-    if owns(image, h, who, i) {
-        return false;
-    }
-    !owns(image, h, who, d)
+    is_sticky(image, d) && !(who.user == 0 || owns(image, who, i) || owns(image, who, d))
 }
 
 // Step 6 on the new side: whether the sticky bit of the new parent keeps the caller from what is replaced.
-fn replaced_stuck(image: &[u8], h: Shape, c: Case) -> bool
-    requires { Laid h image.now × Within h c }
-    ensures { result ≡ replaced_stuck (view_of h image.now) c }
+fn replaced_stuck(image: &Image<'_>, c: Case) -> bool
+    requires { Within image.now.shape c }
+    ensures { result ≡ replaced_stuck (seen image.now) c }
 {
-    if c.replaced == limits::ABSENT {
-        return false;
-    }
-    sticky_denied(image, h, c.who, c.into, c.replaced)
+    c.replaced != limits::ABSENT && sticky_denied(image, c.who, c.into, c.replaced)
 }
 
 // Step 7: the moved inode is the new parent, or above it.
-fn inside_itself(image: &[u8], h: Shape, c: Case) -> bool
-    requires { Laid h image.now × Within h c }
-    ensures { result ≡ inside_itself (view_of h image.now) c }
+#[tactic(auto, unfolding(layout::specs::View::view_of))]
+fn inside_itself(image: &Image<'_>, c: Case) -> bool
+    requires { Within image.now.shape c }
+    ensures { result ≡ inside_itself (seen image.now) c }
 {
-    tree::is_above(image, h, c.moved, c.into)
+    tree::is_above(image, c.moved, c.into)
 }
 
-// The number of the first of steps 2 to 7 that refuses, or 0.
-pub fn number(image: &[u8], h: Shape, c: Case) -> u8
-    requires { Laid h image.now × Within h c }
-    ensures { result ≡ number_of (decide (parent_rules (view_of h image.now) c)) }
+// Refuses by the first of steps 2 to 7 that does.
+pub fn allow(image: &Image<'_>, c: Case) -> Result<(), Errno>
+    requires { Within image.now.shape c }
+    ensures { code result ≡ number_of (decide (parent_rules (seen image.now) c)) }
 {
-    if read_only(image, h, c) {
-        return errno::EROFS;
+    if read_only(image, c) {
+        return Err(Errno::EROFS);
     }
-    if other_system(image, h, c) {
-        return errno::EXDEV;
+    if other_system(image, c) {
+        return Err(Errno::EXDEV);
     }
-    if mounted(image, h, c) {
-        return errno::EBUSY;
+    if mounted(image, c) {
+        return Err(Errno::EBUSY);
     }
-    if denied(image, h, c) {
-        return errno::EACCES;
+    if denied(image, c) {
+        return Err(Errno::EACCES);
     }
-    if sticky_denied(image, h, c.who, c.from, c.moved) {
-        return errno::EPERM;
+    if sticky_denied(image, c.who, c.from, c.moved) {
+        return Err(Errno::EPERM);
     }
-    if replaced_stuck(image, h, c) {
-        return errno::EPERM;
+    if replaced_stuck(image, c) {
+        return Err(Errno::EPERM);
     }
-    if inside_itself(image, h, c) {
-        return errno::EINVAL;
+    if inside_itself(image, c) {
+        return Err(Errno::EINVAL);
     }
-    0
+    Ok(())
 }

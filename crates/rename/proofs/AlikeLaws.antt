@@ -17,12 +17,11 @@ use Rattle.paths.proofs.GroupLaws.{alone, further_same}
 use Rattle.paths.specs.Permission.{search_bit, write_bit, allows}
 use Rattle.component.specs.declared.state.Final.{Final}
 use Rattle.component.specs.Step.{Position, End, Step, goes, ends, walk_step}
-use Rattle.walk.specs.declared.start.Start.{Start}
-use Rattle.walk.specs.declared.start.Start.TheVariants.{Closed, At}
+use Rattle.walk.specs.Start.{Start, Closed, At}
 use Rattle.walk.specs.Walk.{start_of, start_at, walk_from, begun, walk}
 use Rattle.walk.specs.Both.{Ends, old_final, new_final, walks_of}
-use Rattle.refusals.specs.declared.case.Answer.{Answer}
-use Rattle.refusals.specs.declared.case.Answer.TheVariants.{Refused, Same, Planned, Exchanged}
+use Rattle.refusals.specs.Answered.{Answer}
+use Rattle.refusals.specs.Answered.{Refused, Same, Planned, Exchanged}
 use Rattle.refusals.specs.Case.{sticky_denied}
 use Rattle.refusals.specs.Rules.{number_of, Rule, refuse, decide}
 use Rattle.rename_steps.specs.Steps.{steps}

@@ -10,8 +10,8 @@ use Rattle.paths.specs.declared.request.Request.{Request}
 use Rattle.component.specs.Step.{End}
 use Rattle.walk.proofs.BoundStart.{walk_bound}
 use Rattle.walk.specs.Both.{old_final, new_final, old_walk, walks_of}
-use Rattle.refusals.specs.declared.case.Answer.{Answer}
-use Rattle.refusals.specs.declared.case.Answer.TheVariants.{Refused, Same, Planned, Exchanged}
+use Rattle.refusals.specs.Answered.{Answer}
+use Rattle.refusals.specs.Answered.{Refused, Same, Planned, Exchanged}
 use Rattle.refusals.specs.Rules.{decide}
 use Rattle.plan.specs.Form.{plan_rows}
 use Rattle.recounts.specs.declared.Move.{Move}
@@ -20,7 +20,7 @@ use Rattle.results.proofs.ResultRows.{results_le}
 use Rattle.exchanges.specs.Exchange.{exchange_results, exchange_rows}
 use Rattle.exchanges.proofs.ExchangeRows.{exchange_le}
 use Rattle.moves.specs.Plan.{rename_rows}
-use Rattle.rename.specs.declared.Renamed.{Renamed}
+use Rattle.rename.specs.Renamed.{Renamed}
 use Rattle.rename.specs.Order.{view, early}
 use Rattle.rename.specs.Job.{answer, move, exchange, called, rows_by, count_by, renamed}
 use Rattle.rename.specs.Answers.{RenameAnswers, Small}

@@ -9,7 +9,7 @@ use Rattle.layout.specs.Errno.{ENOENT, EEXIST}
 use Rattle.layout.specs.View.{View}
 use Rattle.paths.specs.declared.request.Request.{Request}
 use Rattle.paths.specs.Flags.{no_replace_flag, exchange_flag}
-use Rattle.refusals.specs.declared.case.Answer.TheVariants.{Refused, Planned, Exchanged}
+use Rattle.refusals.specs.Answered.{Refused, Planned, Exchanged}
 use Rattle.refusals.specs.declared.case.Case.{Case}
 use Rattle.refusals.specs.Rules.{decide}
 use Rattle.rename_steps.specs.Steps.{steps}

@@ -16,12 +16,12 @@ use Rattle.paths.specs.Request.{request_good}
 use Rattle.paths.specs.Flags.{flags_good}
 use Rattle.walk.specs.Walk.{halt}
 use Rattle.walk.specs.Both.{Ends, walks_of, new_walk}
-use Rattle.refusals.specs.declared.case.Answer.{Answer}
-use Rattle.refusals.specs.declared.case.Answer.TheVariants.{Refused, Planned}
+use Rattle.refusals.specs.Answered.{Answer}
+use Rattle.refusals.specs.Answered.{Refused, Planned}
 use Rattle.refusals.specs.Rules.{number_of, decide}
 use Rattle.refusals.proofs.DecideLaws.{decide_refused, decide_passed}
 use Rattle.plan.specs.Form.{plan_bytes}
-use Rattle.rename.specs.declared.Renamed.{Renamed}
+use Rattle.rename.specs.Renamed.{Renamed}
 use Rattle.rename.specs.Order.{walks, case_of, case_rules, early, late, order}
 use Rattle.rename.specs.Job.{rows_by, plan_by, renamed, plan_after}
 use Rattle.rename.specs.Answers.{RenameAnswers, refused_early}

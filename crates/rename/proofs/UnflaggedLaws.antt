@@ -3,7 +3,7 @@ use Rattle.std.specs.Prelude.{◌≡◌, List, ℕ}
 use Rattle.std.proofs.Math.Path.{ap}
 use Rattle.paths.specs.declared.request.Request.{Request}
 use Rattle.paths.specs.Flags.{flags_good}
-use Rattle.refusals.specs.declared.case.Answer.{Answer}
+use Rattle.refusals.specs.Answered.{Answer}
 use Rattle.refusals.specs.Rules.{number_of, decide}
 use Rattle.rename.specs.Order.{walks, early, order}
 use Rattle.rename.specs.Job.{answer, rows_by, plan_by, count_by, renamed, plan_after}

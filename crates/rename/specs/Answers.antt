@@ -14,7 +14,7 @@ use Rattle.walk.specs.Ends.{Existing, Missing}
 use Rattle.walk.specs.Both.{Ends, new_final}
 use Rattle.walk.specs.Answer.{end_of}
 use Rattle.plan.specs.Form.{plan_bytes, plan_rows}
-use Rattle.rename.specs.declared.Renamed.{Renamed}
+use Rattle.rename.specs.Renamed.{Renamed}
 use Rattle.rename.specs.Order.{free_slot, directory_of, slot_of, inode_of, slash_of, name_of}
 use Rattle.rename.specs.Job.{renamed, plan_after}
 

@@ -3,15 +3,15 @@
 use Rattle.std.specs.Prelude.{List, ℕ, length}
 use Rattle.layout.specs.Contents.{shape_of}
 use Rattle.paths.specs.declared.request.Request.{Request}
-use Rattle.refusals.specs.declared.case.Answer.{Answer}
-use Rattle.refusals.specs.declared.case.Answer.TheVariants.{Refused, Same, Planned, Exchanged}
+use Rattle.refusals.specs.Answered.{Answer}
+use Rattle.refusals.specs.Answered.{Refused, Same, Planned, Exchanged}
 use Rattle.refusals.specs.declared.case.Case.{Case}
 use Rattle.refusals.specs.Rules.{number_of, decide}
 use Rattle.plan.specs.Form.{cleared}
 use Rattle.recounts.specs.declared.Move.{Move}
 use Rattle.exchanges.specs.Exchange.{exchange_rows, exchange_planned}
 use Rattle.moves.specs.Plan.{move_of, exchange_of, rename_rows, planned}
-use Rattle.rename.specs.declared.Renamed.{Renamed}
+use Rattle.rename.specs.Renamed.{Renamed}
 use Rattle.rename.specs.Order.{view, walks, case_of, name_of, early, order}
 
 module _ (s plan : List ℕ) (q : Request) (old new : List ℕ) where

@@ -1,3 +1,4 @@
+pub mod Renamed
 pub mod Order
 pub mod Flagged
 pub mod Job

@@ -5,11 +5,11 @@ use Rattle.layout.specs.Contents.{layout_good, shape_of}
 use Rattle.consistency.specs.Sound.{journal_clear, bodies_good}
 use Rattle.paths.specs.declared.request.Request.{Request}
 use Rattle.paths.specs.Request.{request_good}
-use Rattle.refusals.specs.declared.case.Answer.{Answer}
+use Rattle.refusals.specs.Answered.{Answer}
 use Rattle.refusals.specs.Rules.{Rule, refuse, number_of, decide}
 use Rattle.rename_steps.specs.Steps.{steps}
 use Rattle.plan.specs.Form.{plan_bytes}
-use Rattle.rename.specs.declared.Renamed.{Renamed}
+use Rattle.rename.specs.Renamed.{Renamed}
 use Rattle.rename.specs.Order.{view, walks}
 use Rattle.rename.specs.Job.{case, rows_by, plan_by, count_by, renamed, plan_after}
 

@@ -1,133 +1,68 @@
 // What both walks have found, as the case that a rename is judged by.
-ghost use Rattle.std.specs.Prelude.{◌≡◌, ◌≤◌, ◌<◌};
-ghost use Rattle.layout.specs.Facts.{Laid};
-ghost use Rattle.layout.specs.View.{view_of};
-ghost use Rattle.walk.specs.Answer.{end_of};
-ghost use Rattle.rename.specs.Order.{free_slot, directory_of, slot_of, inode_of, slash_of, case_of};
+ghost use Rattle.std.specs.Prelude.{◌≡◌, Bool, not, List, ℕ, ◌≤◌, ◌<◌};
+ghost use Rattle.layout.specs.Seen.{seen};
+ghost use Rattle.layout.specs.View.{entry_used};
+ghost use Rattle.component.specs.State.{finding_by, finding_of};
+ghost use Rattle.walk.specs.Both.{Ends};
+ghost use Rattle.rename.specs.Order.{free_slot, slot_of, inode_of, case_of};
 
-use component::state::Found;
-use layout::{Shape, limits};
+use component::state::{Found, Name};
+use layout::image::Image;
+use layout::limits;
 use paths::request::Request;
 use refusals::case::Case;
-use walk::resolve::Walked;
+
+// Whether the entry in slot j is free.
+#[tactic(auto, unfolding(layout::specs::View::view_of))]
+fn is_free(image: &Image<'_>, j: usize) -> bool
+    requires { j < image.now.shape.entries }
+    ensures { result ≡ not (entry_used (seen image.now) j) }
+{
+    image.entry(j).name_length() == 0
+}
 
 // The lowest free slot, or the number of slots where none is free.
-pub fn free_slot(image: &[u8], h: Shape) -> usize
-    requires { Laid h image.now }
-    ensures { (result ≡ free_slot (view_of h image.now)) × (result ≤ h.entries) }
+pub fn free_slot(image: &Image<'_>) -> usize
+    ensures { (result ≡ free_slot (seen image.now)) × (result ≤ image.now.shape.entries) }
 {
-    let n = h.entries;
-    let mut j: usize = 0;
-    while j < n {
-        let e = layout::records::entry(image, h, j);
-        if layout::entry::name_length(e) == 0 {
-            return j;
-        }
-        j += 1;
-    }
-    j
+    let n = image.shape.entries;
+    (0..n).position(|j| is_free(image, j)).unwrap_or(n)
 }
 
-fn directory_of(w: Walked) -> usize
-    ensures { result ≡ directory_of (end_of w).found }
+// The slot of a name: that of its entry, or the lowest free one.
+fn slot_of(image: &Image<'_>, name: Name) -> usize
+    ensures { (path : List ℕ) (d : ℕ) (slash : Bool) → result ≡ slot_of (seen image.now) (finding_by path d slash name) }
 {
-    let found = w.found;
-    match found {
-        Found::Existing {
-            directory,
-            slot: _,
-            inode: _,
-            slash: _,
-        } => directory,
-        Found::Missing {
-            directory,
-            from: _,
-            to: _,
-            slash: _,
-        } => directory,
-        Found::Nothing => 0,
+    match name {
+        Name::Existing { slot, inode: _ } => slot,
+        Name::Missing { from: _, to: _ } => free_slot(image),
     }
 }
 
-fn slot_of(image: &[u8], h: Shape, w: Walked) -> usize
-    requires { Laid h image.now }
-    ensures { result ≡ slot_of (view_of h image.now) (end_of w).found }
+// The inode that a name is of, or limits::ABSENT.
+fn inode_of(name: Name) -> usize
+    ensures { (path : List ℕ) (d : ℕ) (slash : Bool) → result ≡ inode_of (finding_by path d slash name) }
 {
-    let found = w.found;
-    match found {
-        Found::Existing {
-            directory: _,
-            slot,
-            inode: _,
-            slash: _,
-        } => slot,
-        Found::Missing {
-            directory: _,
-            from: _,
-            to: _,
-            slash: _,
-        } => free_slot(image, h),
-        Found::Nothing => 0,
+    match name {
+        Name::Existing { slot: _, inode } => inode,
+        Name::Missing { from: _, to: _ } => limits::ABSENT,
     }
 }
 
-fn inode_of(w: Walked) -> usize
-    ensures { result ≡ inode_of (end_of w).found }
-{
-    let found = w.found;
-    match found {
-        Found::Existing {
-            directory: _,
-            slot: _,
-            inode,
-            slash: _,
-        } => inode,
-        Found::Missing {
-            directory: _,
-            from: _,
-            to: _,
-            slash: _,
-        } => limits::ABSENT,
-        Found::Nothing => limits::ABSENT,
-    }
-}
-
-fn slash_of(w: Walked) -> bool
-    ensures { result ≡ slash_of (end_of w).found }
-{
-    let found = w.found;
-    match found {
-        Found::Existing {
-            directory: _,
-            slot: _,
-            inode: _,
-            slash,
-        } => slash,
-        Found::Missing {
-            directory: _,
-            from: _,
-            to: _,
-            slash,
-        } => slash,
-        Found::Nothing => false,
-    }
-}
-
-// The case of a request whose walks ended so.
-pub fn case_of(image: &[u8], h: Shape, q: Request, old: Walked, new: Walked) -> Case
-    requires { Laid h image.now }
-    ensures { result ≡ case_of (view_of h image.now) q (record { old = end_of old; new = end_of new }) }
+// The case of a request whose walks have found this, wherever their paths have the missing names.
+pub fn case_of(image: &Image<'_>, q: Request, old: Found, new: Found) -> Case
+    ensures { (e : Ends) (p r : List ℕ) → e.old.found ≡ finding_of p old → e.new.found ≡ finding_of r new → result ≡ case_of (seen image.now) q e }
 {
     let who = q.who;
     Case {
-        old: slot_of(image, h, old),
-        new: slot_of(image, h, new),
-        moved: inode_of(old),
-        replaced: inode_of(new),
-        from: directory_of(old),
-        into: directory_of(new),
-        slash: slash_of(new),
+        old: slot_of(image, old.name),
+        new: slot_of(image, new.name),
+        moved: inode_of(old.name),
+        replaced: inode_of(new.name),
+        from: old.directory,
+        into: new.directory,
+        slash: new.slash,
         who,
-        current: q.current as usize,
+        current: usize::from(q.current),
     }
 }

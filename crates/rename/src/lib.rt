@@ -1,144 +1,141 @@
 // The job rename, which is also asked for an exchange: judged in the order of refusal, and planned row by row.
 #![tactic(auto)]
 
-ghost use Rattle.std.specs.Prelude.{◌≡◌, true, ◌+◌, ◌≤◌, length};
-ghost use Rattle.layout.specs.Facts.{Laid, Read};
-ghost use Rattle.layout.specs.View.{view_of};
-ghost use Rattle.consistency.specs.Consistent.{records_number};
-ghost use Rattle.paths.specs.Request.{request_good};
-ghost use Rattle.paths.specs.Flags.{flags_good};
-ghost use Rattle.component.specs.State.{Ranged};
-ghost use Rattle.walk.specs.Answer.{end_of};
+ghost use Rattle.std.specs.Prelude.{◌≡◌, ◌+◌, ◌≤◌, length};
+ghost use Rattle.std.specs.Result.{result_unwrap_or};
+ghost use Rattle.layout.specs.Code.{number, code};
+ghost use Rattle.layout.specs.Facts.{Read};
+ghost use Rattle.layout.specs.Seen.{seen};
+ghost use Rattle.component.specs.State.{Ranged, finding_of};
 ghost use Rattle.plan.specs.Form.{plan_bytes};
 ghost use Rattle.results.specs.InImage.{InImage};
 ghost use Rattle.exchanges.specs.Exchange.{exchange_rows, exchange_planned};
 ghost use Rattle.exchanges.specs.InImage.{BothInImage};
 ghost use Rattle.moves.specs.Plan.{move_of, exchange_of, rename_rows, planned};
 ghost use Rattle.rename.specs.Order.{name_of};
-ghost use Rattle.rename.specs.Answers.{refused_early, RenameAnswers};
+ghost use Rattle.rename.specs.Renamed.{told};
+ghost use Rattle.rename.specs.Answers.{refused_early, WalksBegin, RenameAnswers};
 
-use component::state::Found;
-use layout::contents::Contents;
-use layout::{Shape, errno};
+use component::state::{Found, Name};
+use layout::errno::Errno;
+use layout::image::Image;
+use layout::tree::Tree;
 use paths::request::Request;
-use refusals::case::{Answer, Case};
-use walk::resolve::Walked;
+use refusals::case::{Case, Verdict};
+use walk::both::Walks;
 
 pub mod flagged;
 pub mod found;
 
-// How the job is answered: its number, how many rows the plan has, and the component checks that the walks of old and new began.
+// How the job is answered: how many rows the plan has, or why it is refused, and the component checks that the walks of old and new began.
 #[derive(Clone, Copy)]
 pub struct Renamed {
-    pub number: u8,
-    pub rows: usize,
+    pub rows: Result<usize, Errno>,
     pub old: usize,
     pub new: usize,
 }
 
 // A refusal before any walk.
-fn refused(number: u8) -> Renamed
-    ensures { result ≡ refused_early number }
+fn refused(why: Errno) -> Renamed
+    ensures { told result ≡ refused_early (number why) }
 {
     Renamed {
-        number,
-        rows: 0,
+        rows: Err(why),
         old: 0,
         new: 0,
     }
 }
 
-// Plans the case: under the name that new's walk found missing, if it did. Answers how many rows there are.
-fn write(plan: &mut [u8], image: &[u8], h: Shape, c: Case, time: u64, new: Walked) -> usize
-    requires { (plan_bytes ≤ length plan.old) × Laid h image.now × Ranged new.path new.found × InImage h (move_of (view_of h image.now) c time) × (8 + length (name_of (end_of new).found) ≤ h.width) }
-    ensures { (plan.new ≡ planned h image.now (move_of (view_of h image.now) c time) (name_of (end_of new).found) plan.old) × (result ≡ length (rename_rows h image.now (move_of (view_of h image.now) c time) (name_of (end_of new).found))) }
+// An answer with the counts of these walks.
+fn counted(rows: Result<usize, Errno>, walks: &Walks) -> Renamed
+    ensures { told result ≡ record { number = code rows; rows = result_unwrap_or rows 0; old = walks.now.old.steps; new = walks.now.new.steps } }
 {
-    let m = moves::move_of(image, h, c, time);
-    let found = new.found;
-    match found {
-        Found::Missing {
-            directory: _,
-            from,
-            to,
-            slash: _,
-        } => {
-            let path = new.path;
-            moves::rows::put(plan, image, h, m, &path[from..to])
-        }
-        Found::Existing {
-            directory: _,
-            slot: _,
-            inode: _,
-            slash: _,
-        } => moves::rows::put(plan, image, h, m, b""),
-        Found::Nothing => moves::rows::put(plan, image, h, m, b""),
+    Renamed {
+        rows,
+        old: walks.old.steps,
+        new: walks.new.steps,
+    }
+}
+
+// Plans the case, under the name that new's walk found missing in its path, if it did. Answers how many rows there are.
+fn write(plan: &mut [u8], image: &Image<'_>, c: Case, time: u64, to: Found, path: &[u8]) -> usize
+    requires { (plan_bytes ≤ length plan.old) × Ranged path.now to × InImage image.now.shape (move_of (seen image.now) c time) × (8 + length (name_of (finding_of path.now to)) ≤ image.now.shape.width) }
+    ensures { (plan.new ≡ planned image.now.shape image.now.bytes.now (move_of (seen image.now) c time) (name_of (finding_of path.now to)) plan.old) × (result ≡ length (rename_rows image.now.shape image.now.bytes.now (move_of (seen image.now) c time) (name_of (finding_of path.now to)))) }
+{
+    let m = moves::move_of(image, c, time);
+    match to.name {
+        Name::Missing { from, to } => moves::rows::put(plan, image, m, &path[from..to]),
+        Name::Existing { slot: _, inode: _ } => moves::rows::put(plan, image, m, b""),
     }
 }
 
 // Plans the exchange of the case. Answers how many rows there are.
-fn exchange(plan: &mut [u8], image: &[u8], h: Shape, c: Case, time: u64) -> usize
-    requires { (plan_bytes ≤ length plan.old) × Laid h image.now × BothInImage h (exchange_of c time) }
-    ensures { (plan.new ≡ exchange_planned h image.now (exchange_of c time) plan.old) × (result ≡ length (exchange_rows h image.now (exchange_of c time))) }
+fn exchange(plan: &mut [u8], image: &Image<'_>, c: Case, time: u64) -> usize
+    requires { (plan_bytes ≤ length plan.old) × BothInImage image.now.shape (exchange_of c time) }
+    ensures { (plan.new ≡ exchange_planned image.now.shape image.now.bytes.now (exchange_of c time) plan.old) × (result ≡ length (exchange_rows image.now.shape image.now.bytes.now (exchange_of c time))) }
 {
-    exchanges::rows::fill(plan, image, h, moves::exchange_of(c, time))
+    exchanges::rows::fill(plan, image, moves::exchange_of(c, time))
 }
 
 // Both walks of a good request, and what is made of the case that they have found.
-fn walked(image: &[u8], h: Shape, q: Request, old: &[u8], new: &[u8], plan: &mut [u8]) -> Renamed
-    requires { (plan_bytes ≤ length plan.old) × Read image.now h × (records_number h image.now ≡ 0) × (request_good (view_of h image.now) q old.now new.now ≡ true) × (flags_good q ≡ true) }
-    ensures { RenameAnswers image.now plan.old q old.now new.now result plan.new }
+fn walked(image: &Image<'_>, q: Request, old: &[u8], new: &[u8], plan: &mut [u8]) -> Renamed
+    requires { WalksBegin image.now.bytes.now plan.old q old.now new.now image.now.shape }
+    ensures { RenameAnswers image.now.bytes.now plan.old q old.now new.now (told result) plan.new }
 {
-    let w = walk::both::both(image, h, q, old, new);
-    let first = w.old;
-    let second = w.new;
-    let mut r = Renamed {
-        number: second.number,
-        rows: 0,
-        old: first.steps,
-        new: second.steps,
+    let tree = Tree { image: *image };
+    let walks = walk::both::both(&tree, q, old, new);
+    let to = match walks.new.found {
+        Err(why) => return counted(Err(why), &walks),
+        Ok(to) => to,
     };
-    if r.number != 0 {
-        return r;
+    let from = match walks.old.found {
+        Err(why) => return counted(Err(why), &walks),
+        Ok(from) => from,
+    };
+    let c = found::case_of(image, q, from, to);
+    match flagged::judge(image, q, c) {
+        Err(why) => counted(Err(why), &walks),
+        Ok(Verdict::Same) => {
+            plan::clear(plan);
+            counted(Ok(0), &walks)
+        }
+        Ok(Verdict::Planned) => {
+            let rows = write(plan, image, c, q.now, to, &walks.new.path);
+            counted(Ok(rows), &walks)
+        }
+        Ok(Verdict::Exchanged) => {
+            let rows = exchange(plan, image, c, q.now);
+            counted(Ok(rows), &walks)
+        }
     }
-    let c = found::case_of(image, h, q, first, second);
-    let answer = flagged::judge(image, h, q, c);
-    match answer {
-        Answer::Refused(number) => r.number = number,
-        Answer::Same => plan::clear(plan),
-        Answer::Planned => r.rows = write(plan, image, h, c, q.now, second),
-        Answer::Exchanged => r.rows = exchange(plan, image, h, c, q.now),
-    }
-    r
 }
 
 // A request on an image of a good layout.
-fn asked(image: &[u8], h: Shape, q: Request, old: &[u8], new: &[u8], plan: &mut [u8]) -> Renamed
-    requires { (plan_bytes ≤ length plan.old) × Read image.now h }
-    ensures { RenameAnswers image.now plan.old q old.now new.now result plan.new }
+fn asked(image: &Image<'_>, q: Request, old: &[u8], new: &[u8], plan: &mut [u8]) -> Renamed
+    requires { (plan_bytes ≤ length plan.old) × Read image.now.bytes.now image.now.shape }
+    ensures { RenameAnswers image.now.bytes.now plan.old q old.now new.now (told result) plan.new }
 {
-    let number = consistency::records_number(image, h);
-    if number != 0 {
-        return refused(number);
+    if let Err(why) = consistency::checked(image) {
+        return refused(why);
     }
-    if !paths::request::good(image, h, q, old, new) {
-        return refused(errno::WRONG_REQUEST);
+    if !paths::request::good(image, q, old, new) {
+        return refused(Errno::WrongRequest);
     }
     if !paths::flags::good(q) {
-        return refused(errno::EINVAL);
+        return refused(Errno::EINVAL);
     }
-    walked(image, h, q, old, new, plan)
+    walked(image, q, old, new, plan)
 }
 
 // The job rename. The image is only read; the plan is written where the answer is 0, and else as it was.
 pub fn rename(image: &[u8], q: Request, old: &[u8], new: &[u8], plan: &mut [u8]) -> Renamed
-    ensures { RenameAnswers image.now plan.old q old.now new.now result plan.new }
+    ensures { RenameAnswers image.now plan.old q old.now new.now (told result) plan.new }
 {
     if plan.len() < plan::BYTES {
-        return refused(errno::SHORT_BUFFER);
+        return refused(Errno::ShortBuffer);
     }
-    let found = layout::contents::read(image);
-    match found {
-        Contents::Bad => refused(errno::INCONSISTENT),
-        Contents::Good(h) => asked(image, h, q, old, new, plan),
-    }
+    let Some(image) = Image::read(image) else {
+        return refused(Errno::Inconsistent);
+    };
+    asked(&image, q, old, new, plan)
 }

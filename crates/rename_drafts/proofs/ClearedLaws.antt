@@ -1,16 +1,11 @@
--- Rows that leave a place for the cleared journal record behind them, and the plan with that one too. Assumes nothing.
-use Rattle.std.specs.Prelude.{◌≡◌, List, [], ◌∷◌, ◌++◌, ℕ, ◌+◌, ◌≤◌, ◌<◌, length}
+-- Rows from none on that leave a place for the cleared journal record behind them. Assumes nothing.
+use Rattle.std.specs.Prelude.{List, ◌≤◌, ◌<◌, length}
 use Rattle.std.proofs.Common.{arith}
 use Rattle.layout.specs.declared.Shape.{Shape}
-use Rattle.plan.specs.Form.{plan_rows, row_stored}
-use Rattle.plan.specs.Write.{Write, row_from}
-use Rattle.plan.specs.Filled.{Filled}
-use Rattle.plan.proofs.WriteLaws.{filled_one, filled_join}
-use Rattle.results.specs.Results.{clear_row}
+use Rattle.plan.specs.declared.rows.Rows.{Rows}
+use Rattle.plan.specs.Form.{plan_rows}
+use Rattle.plan.specs.Write.{Write}
+use Rattle.plan.specs.Added.{no_rows, Added}
 
-module _ (h : Shape) (ws : List Write) (few : length ws ≤ 6) {p q : List ℕ} {n : ℕ} (filled : Filled h p 0 ws q n) where
-  pub rows_below : n < plan_rows
-  rows_below = omega (arith, filled.next)
-
-  pub cleared_filled : {r : List ℕ} → r ≡ row_stored q n (row_from h (clear_row h)) → Filled h p 0 (ws ++ clear_row h ∷ []) r (n + 1)
-  cleared_filled e = filled_join h filled (filled_one h (clear_row h) e)
+pub rows_below : (h : Shape) (ws : List Write) {q : Rows} → length ws ≤ 6 → Added h no_rows ws q → q.count < plan_rows
+rows_below h ws few a = omega (arith, a.filled.next)

@@ -1,4 +1,2 @@
-pub mod KindsLaws
-pub mod KindLaws
 pub mod StepsLaws
 pub mod PassedLaws

@@ -3,7 +3,7 @@ use Rattle.std.specs.Prelude.{◌≡◌, refl, not}
 use Rattle.std.proofs.Common.{sym, ap, ◌∙◌}
 use Rattle.std.proofs.lemmas.Bool.{false≢true}
 use Rattle.layout.specs.View.{View}
-use Rattle.refusals.specs.declared.case.Answer.TheVariants.{Planned, Exchanged}
+use Rattle.refusals.specs.Answered.{Planned, Exchanged}
 use Rattle.refusals.specs.declared.case.Case.{Case}
 use Rattle.refusals.specs.Rules.{decide}
 use Rattle.refusals.proofs.DecideLaws.{decide_answer}

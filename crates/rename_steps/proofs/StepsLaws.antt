@@ -2,7 +2,7 @@
 use Rattle.std.specs.Prelude.{◌≡◌, refl, List, [], ◌++◌}
 use Rattle.std.proofs.Common.{◌∙◌}
 use Rattle.layout.specs.View.{View}
-use Rattle.refusals.specs.declared.case.Answer.TheVariants.{Refused, Same, Planned}
+use Rattle.refusals.specs.Answered.{Refused, Same, Planned}
 use Rattle.refusals.specs.declared.case.Case.{Case}
 use Rattle.refusals.specs.Rules.{Rule, number_of, decide, parent_rules}
 use Rattle.refusals.proofs.DecideLaws.{decide_refused, decide_passed, first_same, first_parents, past_parents}
@@ -32,3 +32,6 @@ module _ (v : View) (c : Case) where
 
         pub steps_planned : number_of (decide (target_rules v c)) ≡ 0 → decide (steps v c) ≡ Planned
         steps_planned none = past_kinds ∙ decide_passed [] (target_rules v c) refl none
+
+-- each way out
+pub ruleset ways = (steps_same, steps_parents, steps_kinds, steps_target, steps_planned)

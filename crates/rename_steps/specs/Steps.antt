@@ -3,7 +3,7 @@
 use Rattle.std.specs.Prelude.{List, [], ◌∷◌, ◌++◌}
 use Rattle.layout.specs.Errno.{EBUSY, EACCES, ENOTDIR, EISDIR, ENOTEMPTY, EMLINK, ENOSPC}
 use Rattle.layout.specs.View.{View}
-use Rattle.refusals.specs.declared.case.Answer.TheVariants.{Same}
+use Rattle.refusals.specs.Answered.{Same}
 use Rattle.refusals.specs.declared.case.Case.{Case}
 use Rattle.refusals.specs.Case.{same_file}
 use Rattle.refusals.specs.Rules.{Rule, refuse, parent_rules}

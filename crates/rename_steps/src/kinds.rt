@@ -1,80 +1,41 @@
-// Steps 8 to 10 of the order of refusal: the two type numbers decide.
-ghost use Rattle.std.specs.Prelude.{◌≡◌, true, false};
-ghost use Rattle.layout.specs.Facts.{Laid};
-ghost use Rattle.layout.specs.View.{view_of, is_directory};
-ghost use Rattle.rename_steps.specs.Tests.{moved_denied};
+// Steps 8 to 10 of the order of refusal: what the moved and the replaced inode are decides.
+ghost use Rattle.std.specs.Prelude.{◌≡◌};
+ghost use Rattle.layout.specs.Code.{code};
+ghost use Rattle.layout.specs.Seen.{seen};
 ghost use Rattle.refusals.specs.CaseIn.{CaseIn};
 ghost use Rattle.refusals.specs.Rules.{number_of, decide};
 ghost use Rattle.rename_steps.specs.Steps.{kind_rules};
 
 use crate::target;
-use layout::{Shape, errno};
-use paths::permission;
+use layout::errno::Errno;
+use layout::image::Image;
+use layout::limits;
 use refusals::case::Case;
+use refusals::reparented;
 
-// Step 9 of a directory: it gets another parent, and write permission is denied on it.
-fn moved_denied(image: &[u8], h: Shape, c: Case) -> bool
-    requires { Laid h image.now × (is_directory (view_of h image.now) c.moved ≡ true) }
-    ensures { result ≡ moved_denied (view_of h image.now) c }
+// Refuses by the first of steps 8 to 10 that does.
+#[tactic(auto, using(layout::proofs::ViewLaws::is_used_below))]
+pub fn allow(image: &Image<'_>, c: Case) -> Result<(), Errno>
+    requires { CaseIn (seen image.now) c }
+    ensures { code result ≡ number_of (decide (kind_rules (seen image.now) c)) }
 {
-    if c.from == c.into {
-        return false;
+    let moves = image.is_directory(c.moved);
+    let onto = image.is_directory(c.replaced);
+    let exists = c.replaced != limits::ABSENT;
+    if moves && exists && !onto {
+        return Err(Errno::ENOTDIR);
     }
-    !permission::allows(image, h, c.who, c.moved, permission::WRITE_BIT)
-}
-
-// Steps 8 to 10 of a directory. It may replace nothing, or a directory that has no entries.
-fn of_directory(image: &[u8], h: Shape, c: Case) -> u8
-    requires { Laid h image.now × CaseIn (view_of h image.now) c × (is_directory (view_of h image.now) c.moved ≡ true) }
-    ensures { result ≡ number_of (decide (kind_rules (view_of h image.now) c)) }
-{
-    let replaced = layout::lookup::kind(image, h, c.replaced);
-    match replaced {
-        0 => {
-            if moved_denied(image, h, c) {
-                return errno::EACCES;
-            }
-            0
-        }
-        2 => {
-            if moved_denied(image, h, c) {
-                return errno::EACCES;
-            }
-            if target::has_entries(image, h, c.replaced) {
-                return errno::ENOTEMPTY;
-            }
-            0
-        }
-        _ => errno::ENOTDIR,
+    if !moves && onto {
+        return Err(Errno::EISDIR);
     }
-}
-
-// Step 8 of anything else, of which steps 9 and 10 ask nothing.
-fn of_other(image: &[u8], h: Shape, c: Case) -> u8
-    requires { Laid h image.now × CaseIn (view_of h image.now) c × (is_directory (view_of h image.now) c.moved ≡ false) }
-    ensures { result ≡ number_of (decide (kind_rules (view_of h image.now) c)) }
-{
-    let replaced = layout::lookup::kind(image, h, c.replaced);
-    match replaced {
-        0 => {
-            if c.slash {
-                return errno::ENOTDIR;
-            }
-            0
-        }
-        2 => errno::EISDIR,
-        _ => 0,
+    if !moves && !exists && c.slash {
+        return Err(Errno::ENOTDIR);
     }
-}
-
-// The number of the first of steps 8 to 10 that refuses, or 0.
-pub fn number(image: &[u8], h: Shape, c: Case) -> u8
-    requires { Laid h image.now × CaseIn (view_of h image.now) c }
-    ensures { result ≡ number_of (decide (kind_rules (view_of h image.now) c)) }
-{
-    let moved = layout::lookup::kind(image, h, c.moved);
-    match moved {
-        2 => of_directory(image, h, c),
-        _ => of_other(image, h, c),
+    if reparented::denied(image, c, c.moved) {
+        return Err(Errno::EACCES);
     }
+    if onto && target::has_entries(image, c.replaced) {
+        return Err(Errno::ENOTEMPTY);
+    }
+    Ok(())
 }

@@ -1,130 +1,95 @@
 // The target of a rename: whether it has entries, and steps 11 to 13 of the order of refusal.
-ghost use Rattle.std.specs.Prelude.{◌≡◌, List, ℕ, ◌<◌};
-ghost use Rattle.layout.specs.Facts.{Laid};
-ghost use Rattle.layout.specs.View.{view_of};
+ghost use Rattle.std.specs.Prelude.{◌≡◌, ◌<◌};
+ghost use Rattle.layout.specs.Code.{code};
+ghost use Rattle.layout.specs.Seen.{seen};
 ghost use Rattle.rename_steps.specs.Tests.{entry_in, has_entries, open_on, is_opened, busy, full_parent, no_slot};
 ghost use Rattle.refusals.specs.Within.{Within};
 ghost use Rattle.refusals.specs.Rules.{number_of, decide};
 ghost use Rattle.rename_steps.specs.Steps.{target_rules};
 
-use layout::{Shape, errno, limits};
+use layout::errno::Errno;
+use layout::handle::State;
+use layout::image::Image;
+use layout::limits;
 use refusals::case::Case;
+use refusals::reparented;
 
 // Whether the entry in slot j is in use and lies in directory d. Few entries do, so that is asked first.
-fn entry_in(image: &[u8], h: Shape, d: usize, j: usize) -> bool
-    requires { Laid h image.now × (j < h.entries) }
-    ensures { result ≡ entry_in (view_of h image.now) d j }
+#[tactic(auto, unfolding(layout::specs::View::view_of))]
+fn entry_in(image: &Image<'_>, d: usize, j: usize) -> bool
+    requires { j < image.now.shape.entries }
+    ensures { result ≡ entry_in (seen image.now) d j }
 {
-    let e = layout::records::entry(image, h, j);
-    if layout::entry::parent(e) != d {
-        return false;
-    }
-    layout::entry::name_length(e) != 0
+    let e = image.entry(j);
+    e.parent() == d && e.name_length() != 0
 }
 
 // Whether directory d has entries.
-pub fn has_entries(image: &[u8], h: Shape, d: usize) -> bool
-    requires { Laid h image.now }
-    ensures { result ≡ has_entries (view_of h image.now) d }
+pub fn has_entries(image: &Image<'_>, d: usize) -> bool
+    ensures { result ≡ has_entries (seen image.now) d }
 {
-    let n = h.entries;
-    let mut j: usize = 0;
-    while j < n {
-        if entry_in(image, h, d, j) {
-            return true;
-        }
-        j += 1;
-    }
-    false
+    (0..image.shape.entries).any(|j| entry_in(image, d, j))
 }
 
 // Whether handle n is open on inode i.
-fn open_on(image: &[u8], h: Shape, i: usize, n: usize) -> bool
-    requires { Laid h image.now × (n < h.handles) }
-    ensures { result ≡ open_on (view_of h image.now) i n }
+#[tactic(auto, unfolding(layout::specs::View::view_of))]
+fn open_on(image: &Image<'_>, i: usize, n: usize) -> bool
+    requires { n < image.now.shape.handles }
+    ensures { result ≡ open_on (seen image.now) i n }
 {
-    let r = layout::records::handle(image, h, n);
-    if layout::handle::state(r) == 0 {
-        return false;
-    }
-    layout::handle::inode(r) == i
+    let r = image.handle(n);
+    !matches!(r.state(), State::Closed) && r.inode() == i
 }
 
 // Whether inode i is under an open handle.
-fn is_opened(image: &[u8], h: Shape, i: usize) -> bool
-    requires { Laid h image.now }
-    ensures { result ≡ is_opened (view_of h image.now) i }
+fn is_opened(image: &Image<'_>, i: usize) -> bool
+    ensures { result ≡ is_opened (seen image.now) i }
 {
-    let handles = h.handles;
-    let mut n: usize = 0;
-    while n < handles {
-        if open_on(image, h, i, n) {
-            return true;
-        }
-        n += 1;
-    }
-    false
+    (0..image.shape.handles).any(|n| open_on(image, i, n))
 }
 
 // Step 11: the replaced inode would lose its last entry, and is the current directory or under an open handle.
-fn busy(image: &[u8], h: Shape, c: Case) -> bool
-    requires { Laid h image.now }
-    ensures { result ≡ busy (view_of h image.now) c }
+fn busy(image: &Image<'_>, c: Case) -> bool
+    ensures { result ≡ busy (seen image.now) c }
 {
     let replaced = c.replaced;
-    if replaced == limits::ABSENT {
-        return false;
-    }
-    if tree::entries_of(image, h, replaced) != 1 {
-        return false;
-    }
-    if replaced == c.current {
-        return true;
-    }
-    is_opened(image, h, replaced)
+    replaced != limits::ABSENT
+        && tree::entries_of(image, replaced) == 1
+        && (replaced == c.current || is_opened(image, replaced))
 }
 
 // Step 12: the new parent would get a link more than there may be.
-fn full_parent(image: &[u8], h: Shape, c: Case) -> bool
-    requires { Laid h image.now × Within h c }
-    ensures { result ≡ full_parent (view_of h image.now) c }
+#[tactic(auto, unfolding(layout::specs::View::view_of))]
+fn full_parent(image: &Image<'_>, c: Case) -> bool
+    requires { Within image.now.shape c }
+    ensures { result ≡ full_parent (seen image.now) c }
 {
-    if !layout::lookup::is_directory(image, h, c.moved) {
-        return false;
-    }
-    if c.from == c.into {
-        return false;
-    }
-    if c.replaced != limits::ABSENT {
-        return false;
-    }
-    let r = layout::records::inode(image, h, c.into);
-    layout::inode::links(r) == limits::LINK_LIMIT
+    reparented::reparents(image, c, c.moved)
+        && c.replaced == limits::ABSENT
+        && image.inode(c.into).links() == limits::LINK_LIMIT
 }
 
-// Step 13: no entry is free. This holds of any image of the shape, since the number of slots is all that is asked.
-fn no_slot(h: Shape, c: Case) -> bool
-    ensures { (image : List ℕ) → result ≡ no_slot (view_of h image) c }
+// Step 13: no entry is free.
+#[tactic(auto, unfolding(layout::specs::View::view_of))]
+fn no_slot(image: &Image<'_>, c: Case) -> bool
+    ensures { result ≡ no_slot (seen image.now) c }
 {
-    if c.replaced != limits::ABSENT {
-        return false;
-    }
-    h.entries <= c.new
+    c.replaced == limits::ABSENT && image.shape.entries <= c.new
 }
 
-// The number of the first of steps 11 to 13 that refuses, or 0.
-pub fn number(image: &[u8], h: Shape, c: Case) -> u8
-    requires { Laid h image.now × Within h c }
-    ensures { result ≡ number_of (decide (target_rules (view_of h image.now) c)) }
+// Refuses by the first of steps 11 to 13 that does.
+pub fn allow(image: &Image<'_>, c: Case) -> Result<(), Errno>
+    requires { Within image.now.shape c }
+    ensures { code result ≡ number_of (decide (target_rules (seen image.now) c)) }
 {
-    if busy(image, h, c) {
-        return errno::EBUSY;
+    if busy(image, c) {
+        return Err(Errno::EBUSY);
     }
-    if full_parent(image, h, c) {
-        return errno::EMLINK;
+    if full_parent(image, c) {
+        return Err(Errno::EMLINK);
     }
-    if no_slot(h, c) {
-        return errno::ENOSPC;
+    if no_slot(image, c) {
+        return Err(Errno::ENOSPC);
     }
-    0
+    Ok(())
 }

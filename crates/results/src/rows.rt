@@ -1,26 +1,27 @@
 // The rows of a rename that another operation or a recovery shares, put into a plan: all but the new entry.
-ghost use Rattle.std.specs.Prelude.{◌≡◌, ◌+◌, ◌<◌, ◌≤◌, length};
-ghost use Rattle.layout.specs.Facts.{Laid};
+ghost use Rattle.std.specs.Prelude.{◌≡◌, [], ◌∷◌, ◌+◌, ◌<◌, ◌≤◌};
 ghost use Rattle.encode.specs.Journal.{journal_bytes};
-ghost use Rattle.plan.specs.Form.{plan_rows, plan_bytes, row_stored};
-ghost use Rattle.plan.specs.Write.{row_from};
-ghost use Rattle.plan.specs.Filled.{Filled};
-ghost use Rattle.results.specs.Results.{moved_row, holder_row, always_rows, into_rows, replaced_rows, results, clear_row};
+ghost use Rattle.encode.specs.Operation.{kind_of};
+ghost use Rattle.plan.specs.Form.{plan_rows};
+ghost use Rattle.plan.specs.Write.{inode_key};
+ghost use Rattle.plan.specs.Added.{Added};
+ghost use Rattle.results.specs.Results.{result_row, moved_row, always_rows, into_rows, replaced_rows, text_rows, results, clear_row};
 ghost use Rattle.results.specs.InImage.{InImage};
 ghost use Rattle.results.specs.Start.{journal_for, start_row};
 
-use encode::journal::Journal;
-use layout::limits::TEXT_BYTES;
-use layout::{Shape, limits, place};
-use plan::RESULT_GROUP;
+use crate::records;
+use encode::journal::{Journal, Operation};
+use layout::image::Image;
+use layout::limits;
+use plan::rows::{Group, Rows};
 use recounts::Move;
 
-// The journal record of the move, of an operation of this kind.
-fn journal(kind: u8, m: Move) -> [u8; 32]
-    ensures { result ≡ journal_bytes (journal_for kind m) }
+// The journal record of the move, of this operation.
+fn journal(operation: Operation, m: Move) -> [u8; 32]
+    ensures { result ≡ journal_bytes (journal_for (kind_of operation) m) }
 {
     let j = Journal {
-        kind,
+        kind: u8::from(operation),
         old: m.old,
         new: m.new,
         moved: m.moved,
@@ -34,91 +35,103 @@ fn journal(kind: u8, m: Move) -> [u8; 32]
     r
 }
 
-// The row that sets it, in the first place.
-pub fn put_start(plan: &mut [u8], kind: u8, image: &[u8], h: Shape, m: Move)
-    requires { (plan_bytes ≤ length plan.old) × Laid h image.now }
-    ensures { plan.new ≡ row_stored plan.old 0 (row_from h (start_row kind m)) }
+// The row that sets it.
+pub fn put_start(rows: &mut Rows, operation: Operation, image: &Image<'_>, m: Move)
+    requires { rows.old.count < plan_rows }
+    ensures { Added image.now.shape rows.old (start_row (kind_of operation) m ∷ []) rows.new }
 {
-    let r = journal(kind, m);
-    plan::put_row(plan, 0, plan::JOURNAL_GROUP, place::journal(h), &r);
+    let r = journal(operation, m);
+    rows.push(Group::Journal, image.shape.journal_place(), &r);
+}
+
+// The row that gives inode i these bytes.
+pub fn put_inode(rows: &mut Rows, image: &Image<'_>, i: usize, r: &[u8; 32])
+    requires { (rows.old.count < plan_rows) × (i < image.now.shape.inodes) }
+    ensures { Added image.now.shape rows.old (result_row (inode_key i) r.now ∷ []) rows.new }
+{
+    rows.push(Group::Results, image.shape.inode_place(i), r);
 }
 
 // The moved inode.
-pub fn put_moved(plan: &mut [u8], at: usize, image: &[u8], h: Shape, m: Move)
-    requires { (plan_bytes ≤ length plan.old) × (at < plan_rows) × Laid h image.now × (m.moved < h.inodes) }
-    ensures { plan.new ≡ row_stored plan.old at (row_from h (moved_row h image.now m)) }
+pub fn put_moved(rows: &mut Rows, image: &Image<'_>, m: Move)
+    requires { (rows.old.count < plan_rows) × (m.moved < image.now.shape.inodes) }
+    ensures { Added image.now.shape rows.old (moved_row image.now.shape image.now.bytes.now m ∷ []) rows.new }
 {
-    let r = crate::records::moved(image, h, m);
-    plan::put_row(plan, at, RESULT_GROUP, place::inode(h, m.moved), &r);
+    put_inode(rows, image, m.moved, &records::moved(image, m));
 }
 
-// The old or the new parent, inode i.
-fn put_holder(plan: &mut [u8], at: usize, image: &[u8], h: Shape, m: Move, i: usize)
-    requires { (plan_bytes ≤ length plan.old) × (at < plan_rows) × Laid h image.now × (i < h.inodes) }
-    ensures { plan.new ≡ row_stored plan.old at (row_from h (holder_row h image.now m i)) }
+// The old entry cleared, the moved inode and the old parent.
+fn put_always(rows: &mut Rows, image: &Image<'_>, m: Move)
+    requires { (rows.old.count + 3 ≤ plan_rows) × InImage image.now.shape m }
+    ensures { Added image.now.shape rows.old (always_rows image.now.shape image.now.bytes.now m) rows.new }
 {
-    let r = crate::records::holder(image, h, m, i);
-    plan::put_row(plan, at, RESULT_GROUP, place::inode(h, i), &r);
-}
-
-// The old entry cleared, the moved inode and the old parent. Answers the next place, as the functions below do.
-fn put_always(plan: &mut [u8], at: usize, image: &[u8], h: Shape, m: Move) -> usize
-    requires { (plan_bytes ≤ length plan.old) × (at + 3 ≤ plan_rows) × Laid h image.now × InImage h m }
-    ensures { Filled h plan.old at (always_rows h image.now m) plan.new result }
-{
-    plan::put_clearing(plan, at, RESULT_GROUP, place::entry(h, m.old), h.width);
-    put_moved(plan, at + 1, image, h, m);
-    put_holder(plan, at + 2, image, h, m, m.from);
-    at + 3
+    rows.push_clearing(
+        Group::Results,
+        image.shape.entry_place(m.old),
+        image.shape.width,
+    );
+    put_moved(rows, image, m);
+    put_inode(rows, image, m.from, &records::holder(image, m, m.from));
 }
 
 // The new parent, where it is another directory than the old one.
-#[tactic(auto, using(crate::proofs::ResultRows::into_one))]
-fn put_into(plan: &mut [u8], at: usize, image: &[u8], h: Shape, m: Move) -> usize
-    requires { (plan_bytes ≤ length plan.old) × (at < plan_rows) × Laid h image.now × InImage h m }
-    ensures { Filled h plan.old at (into_rows h image.now m) plan.new result }
+#[tactic(auto, using(crate::proofs::ResultRows::into_none))]
+fn put_into(rows: &mut Rows, image: &Image<'_>, m: Move)
+    requires { (rows.old.count < plan_rows) × InImage image.now.shape m }
+    ensures { Added image.now.shape rows.old (into_rows image.now.shape image.now.bytes.now m) rows.new }
 {
     if m.into == m.from {
-        return at;
+        return;
     }
-    put_holder(plan, at, image, h, m, m.into);
-    at + 1
+    put_inode(rows, image, m.into, &records::holder(image, m, m.into));
 }
 
 // The replaced inode, where there is one.
-#[tactic(auto, using(crate::proofs::ResultRows::replaced_in))]
-fn put_replaced(plan: &mut [u8], at: usize, image: &[u8], h: Shape, m: Move) -> usize
-    requires { (plan_bytes ≤ length plan.old) × (at < plan_rows) × Laid h image.now × InImage h m }
-    ensures { Filled h plan.old at (replaced_rows h image.now m) plan.new result }
+#[tactic(auto, using(crate::proofs::ResultRows::replaced_none))]
+fn put_replaced(rows: &mut Rows, image: &Image<'_>, m: Move)
+    requires { (rows.old.count < plan_rows) × InImage image.now.shape m }
+    ensures { Added image.now.shape rows.old (replaced_rows image.now.shape image.now.bytes.now m) rows.new }
 {
     if m.replaced == limits::ABSENT {
-        return at;
+        return;
     }
-    let r = crate::records::replaced(image, h, m);
-    plan::put_row(plan, at, RESULT_GROUP, place::inode(h, m.replaced), &r);
-    at + 1
+    put_inode(rows, image, m.replaced, &records::replaced(image, m));
 }
 
-// Puts the results of the move into the plan from place first on, and answers the place behind them.
-pub fn put(plan: &mut [u8], first: usize, image: &[u8], h: Shape, m: Move) -> usize
-    requires { (plan_bytes ≤ length plan.old) × (first + 6 ≤ plan_rows) × Laid h image.now × InImage h m }
-    ensures { Filled h plan.old first (results h image.now m) plan.new result }
+// The text cleared, where one is freed.
+fn put_text(rows: &mut Rows, image: &Image<'_>, m: Move)
+    requires { (rows.old.count < plan_rows) × InImage image.now.shape m }
+    ensures { Added image.now.shape rows.old (text_rows image.now.shape image.now.bytes.now m) rows.new }
 {
-    let a = put_always(plan, first, image, h, m);
-    let b = put_into(plan, a, image, h, m);
-    let c = put_replaced(plan, b, image, h, m);
     if m.text == limits::ABSENT {
-        return c;
+        return;
     }
-    plan::put_clearing(plan, c, RESULT_GROUP, place::text(h, m.text), TEXT_BYTES);
-    c + 1
+    rows.push_clearing(
+        Group::Results,
+        image.shape.text_place(m.text),
+        limits::TEXT_BYTES,
+    );
 }
 
-// The row that clears the journal record, in the place behind all others.
-pub fn put_clear(plan: &mut [u8], at: usize, image: &[u8], h: Shape)
-    requires { (plan_bytes ≤ length plan.old) × (at < plan_rows) × Laid h image.now }
-    ensures { plan.new ≡ row_stored plan.old at (row_from h (clear_row h)) }
+// Puts the results of the move behind the plan's rows.
+pub fn put(rows: &mut Rows, image: &Image<'_>, m: Move)
+    requires { (rows.old.count + 6 ≤ plan_rows) × InImage image.now.shape m }
+    ensures { Added image.now.shape rows.old (results image.now.shape image.now.bytes.now m) rows.new }
 {
-    let r = [0u8; limits::JOURNAL_BYTES];
-    plan::put_row(plan, at, plan::CLEAR_GROUP, place::journal(h), &r);
+    put_always(rows, image, m);
+    put_into(rows, image, m);
+    put_replaced(rows, image, m);
+    put_text(rows, image, m);
+}
+
+// The row that clears the journal record, behind all others.
+pub fn put_clear(rows: &mut Rows, image: &Image<'_>)
+    requires { rows.old.count < plan_rows }
+    ensures { Added image.now.shape rows.old (clear_row image.now.shape ∷ []) rows.new }
+{
+    rows.push_clearing(
+        Group::Clear,
+        image.shape.journal_place(),
+        limits::JOURNAL_BYTES,
+    );
 }

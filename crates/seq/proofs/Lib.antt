@@ -7,3 +7,5 @@ pub mod NumberLaws
 pub mod ZeroLaws
 pub mod CompareLaws
 pub mod ClimbWays
+pub mod ChainLaws
+pub mod SliceLaws

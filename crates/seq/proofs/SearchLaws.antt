@@ -130,10 +130,10 @@ module _ (p : ℕ → Bool) where
   first_none (suc n) none = rw (any_front n none, any_last n none)
 
   -- of a search for the first: none passes, or it is one that passes and none below it does
-  abbrev First : ℕ → Type 0
+  abbrev pub First : ℕ → Type 0
   First n = ((any p n ≡ false) × (first p n ≡ n)) ⊎ ((first p n < n) × (any p (first p n) ≡ false) × (p (first p n) ≡ true))
 
-  first_cases : (n : ℕ) → First n
+  pub first_cases : (n : ℕ) → First n
   unfolding any first
   first_cases zero = inl (refl, refl)
   first_cases (suc n) = ⊎_elim (λ none. here (p n) refl none.0) (λ hit. below hit.0 hit.1 hit.2) (first_cases n)
@@ -224,3 +224,9 @@ module _ (p q : ℕ → Bool) where
   count_same zero f = refl
   count_same (suc n) f =
       ap₂ (λ (b : Bool) (m : ℕ). cond b (m + 1) m) (f n (le_refl (suc n))) (count_same n (λ k l. f k (omega arith)))
+
+  pub first_same : (n : ℕ) → ((k : ℕ) → k < n → p k ≡ q k) → first p n ≡ first q n
+  unfolding first
+  first_same zero f = refl
+  first_same (suc n) f =
+      rw (any_same n (λ k l. f k (omega arith)), f n (le_refl (suc n)), first_same n (λ k l. f k (omega arith)))

@@ -1,14 +1,17 @@
 -- The tables that one pass over the entries, or over the inodes, fills hold the counts of the rules. Assumes nothing.
-use Rattle.std.specs.Prelude.{◌≡◌, refl, Bool, true, false, ◌&&◌, List, ℕ, ◌+◌, eqb, replicate}
-use Rattle.std.proofs.Common.{sym, subst, ◌∙◌, arith}
+use Rattle.std.specs.Prelude.{◌≡◌, refl, Bool, true, false, ◌&&◌, not, List, ℕ, ◌+◌, ◌<◌, eqb, ltb, leb, replicate}
+use Rattle.std.proofs.Common.{sym, subst, ◌∙◌, arith, lt-ltb, le-ltb, le-leb}
+use Rattle.std.proofs.lemmas.Bool.{lt-leb}
+use Rattle.std.proofs.Math.Decide.{dec_lt}
+use Rattle.seq.specs.Search.{any, first}
 use Rattle.seq.proofs.SearchLaws.{count_same}
 use Rattle.layout.specs.declared.Shape.{Shape}
 use Rattle.layout.specs.Facts.{Laid}
 use Rattle.layout.specs.Limits.{inode_limit, text_limit}
 use Rattle.layout.specs.View.{view_of, entry_used, is_directory, is_symlink}
 use Rattle.tables.specs.Table.{Table, tally, Firsts}
-use Rattle.tables.specs.TableLaws.{table_same, tally_none, least_first, least_same, pick}
-use Rattle.tree.specs.Tree.{entries_of, child_directories}
+use Rattle.tables.specs.TableLaws.{table_same, tally_none, least_first, least_same, pick, any_first}
+use Rattle.tree.specs.Tree.{entries_of, child_directories, has_text}
 use Rattle.tallies.specs.Tallies.{target_slot, holder_slot, text_slot, Blank, EntryCounts, ChildCounts, TextOwners}
 
 pub tally_blank : (key : ℕ → ℕ) (m : ℕ) (xs : List ℕ) → Blank m xs → Table (tally key 0) m xs
@@ -50,3 +53,12 @@ module _ (h : Shape) (s : List ℕ) (laid : Laid h s) where
         (least_same _ _ _ _ _ (λ i. pick (is_symlink (view_of h s) i) ((view_of h s).field i) h.texts text_limit t l laid.texts_most)
         (f.at t (omega (arith, laid.texts_most))));
   }
+
+-- no symlink before i has text t where the first that has it is none of those
+pub unshared : (h : Shape) (s : List ℕ) (t i x : ℕ) → x ≡ first (has_text (view_of h s) t) h.inodes → i < h.inodes
+    → leb i x ≡ not (any (has_text (view_of h s) t) i)
+unshared h s t i x is below = rw (is, any_first (has_text (view_of h s) t) h.inodes i (omega arith)) (go (first (has_text (view_of h s) t) h.inodes) (dec_lt _ i))
+  where
+    go : (x : ℕ) → Dec (x < i) → leb i x ≡ not (ltb x i)
+    go x (yes u) = rw (lt-ltb x i u, lt-leb i x u)
+    go x (no u) = rw (le-ltb x i (omega arith), le-leb i x (omega arith))

@@ -2,96 +2,150 @@
 // leads.
 #![tactic(auto)]
 
-ghost use Rattle.std.specs.Prelude.{◌≡◌, ◌≤◌, ◌<◌};
-ghost use Rattle.layout.specs.Facts.{Laid};
+ghost use Rattle.std.specs.Prelude.{◌≡◌, ◌≤◌, ◌<◌, true};
+ghost use Rattle.seq.specs.Search.{first};
+ghost use Rattle.layout.specs.Seen.{seen};
 ghost use Rattle.layout.specs.Limits.{inode_limit, text_limit};
-ghost use Rattle.layout.specs.View.{view_of};
-ghost use Rattle.tallies.specs.Tallies.{target_slot, holder_slot, text_slot, Blank, EntryCounts, ChildCounts, TextOwners};
+ghost use Rattle.layout.specs.View.{is_directory};
+ghost use Rattle.tree.specs.Tree.{entries_of, child_directories, reaches, has_text};
+ghost use Rattle.tallies.specs.Tallies.{target_slot, holder_slot, text_slot, Blank, EntryCounts, ChildCounts, Tops, TextOwners};
 
-use layout::{Shape, limits};
+use layout::image::Image;
+use layout::limits;
 
-pub mod tops;
+mod tops;
+
+// An image with what check counts and looks for of every inode, which one function fills for all of them.
+#[derive(Drop)]
+pub struct Tallies<'a> {
+    pub image: Image<'a>,
+    // How many entries target each inode.
+    entries: [u16; 513],
+    // How many child directories each directory has.
+    children: [u16; 513],
+    // Where the way up from each directory leads.
+    tops: [u16; 512],
+    // The first symlink that has each text.
+    owners: [u16; 65],
+    ghost counted: { EntryCounts image.shape image.bytes.now entries },
+    ghost held: { ChildCounts image.shape image.bytes.now children },
+    ghost climbed: { Tops image.shape image.bytes.now tops },
+    ghost owned: { TextOwners image.shape image.bytes.now owners },
+}
+
+impl<'a> Tallies<'a> {
+    pub fn of(image: &Image<'a>) -> Tallies<'a>
+        ensures { result.image ≡ image.now }
+    {
+        let mut entries = [0; 513];
+        let mut children = [0; 513];
+        counts(image, &mut entries, &mut children);
+        let mut tops = [0; 512];
+        tops::tops(image, &mut tops);
+        let owners = text_owners(image);
+        Tallies {
+            image: *image,
+            entries,
+            children,
+            tops,
+            owners,
+        }
+    }
+
+    // How many entries target inode i.
+    pub fn entries(&self, i: usize) -> usize
+        requires { i < self.now.image.shape.inodes }
+        ensures { result ≡ entries_of (seen self.now.image) i }
+    {
+        usize::from(self.entries[i])
+    }
+
+    // How many child directories directory i has.
+    pub fn children(&self, i: usize) -> usize
+        requires { i < self.now.image.shape.inodes }
+        ensures { (result ≡ child_directories (seen self.now.image) i) × (result < 65536) }
+    {
+        usize::from(self.children[i])
+    }
+
+    // Whether the way up from directory i leads to the root.
+    pub fn leads_to_root(&self, i: usize) -> bool
+        requires { (i < self.now.image.shape.inodes) × (is_directory (seen self.now.image) i ≡ true) }
+        ensures { result ≡ reaches (seen self.now.image) 0 self.now.image.shape.inodes i }
+    {
+        self.tops[i] == 0
+    }
+
+    // The first symlink that has text t; the number of inodes where none has it.
+    pub fn owner(&self, t: usize) -> usize
+        requires { t < self.now.image.shape.texts }
+        ensures { result ≡ first (has_text (seen self.now.image) t) self.now.image.shape.inodes }
+    {
+        usize::from(self.owners[t])
+    }
+}
 
 // The inode that the entry in slot j targets; one past the last where it is free or targets none.
-fn target_slot(image: &[u8], h: Shape, j: usize) -> usize
-    requires { Laid h image.now × (j < h.entries) }
-    ensures { (result ≡ target_slot (view_of h image.now) j) × (result ≤ inode_limit) }
+#[tactic(auto, unfolding(layout::specs::View::view_of, crate::specs::Tallies::target_slot))]
+fn target_slot(image: &Image<'_>, j: usize) -> usize
+    requires { j < image.now.shape.entries }
+    ensures { (result ≡ target_slot (seen image.now) j) × (result ≤ inode_limit) }
 {
-    let e = layout::records::entry(image, h, j);
-    if layout::entry::name_length(e) == 0 {
-        return limits::INODE_LIMIT;
+    let e = image.entry(j);
+    if e.name_length() != 0 && e.target() < image.shape.inodes {
+        e.target()
+    } else {
+        limits::INODE_LIMIT
     }
-    let target = layout::entry::target(e);
-    if h.inodes <= target {
-        return limits::INODE_LIMIT;
-    }
-    target
 }
 
 // The inode that holds the entry in slot j, if that targets a directory; else one past the last.
-fn holder_slot(image: &[u8], h: Shape, j: usize) -> usize
-    requires { Laid h image.now × (j < h.entries) }
-    ensures { (result ≡ holder_slot (view_of h image.now) j) × (result ≤ inode_limit) }
+#[tactic(auto, unfolding(layout::specs::View::view_of, crate::specs::Tallies::holder_slot))]
+fn holder_slot(image: &Image<'_>, j: usize) -> usize
+    requires { j < image.now.shape.entries }
+    ensures { (result ≡ holder_slot (seen image.now) j) × (result ≤ inode_limit) }
 {
-    let e = layout::records::entry(image, h, j);
-    if layout::entry::name_length(e) == 0 {
-        return limits::INODE_LIMIT;
+    let e = image.entry(j);
+    if e.name_length() != 0 && image.is_directory(e.target()) && e.parent() < image.shape.inodes {
+        e.parent()
+    } else {
+        limits::INODE_LIMIT
     }
-    if !layout::lookup::is_directory(image, h, layout::entry::target(e)) {
-        return limits::INODE_LIMIT;
-    }
-    let parent = layout::entry::parent(e);
-    if h.inodes <= parent {
-        return limits::INODE_LIMIT;
-    }
-    parent
 }
 
 // How many entries target each inode, and how many child directories each directory has. Both tables are the caller's, so that none is copied.
-pub fn counts(image: &[u8], h: Shape, entries: &mut [u16; 513], children: &mut [u16; 513])
-    requires { Laid h image.now × Blank 513 entries.old × Blank 513 children.old }
-    ensures { EntryCounts h image.now entries.new × ChildCounts h image.now children.new }
+fn counts(image: &Image<'_>, entries: &mut [u16; 513], children: &mut [u16; 513])
+    requires { Blank 513 entries.old × Blank 513 children.old }
+    ensures { EntryCounts image.now.shape image.now.bytes.now entries.new × ChildCounts image.now.shape image.now.bytes.now children.new }
 {
-    let n = h.entries;
-    let mut j: usize = 0;
-    while j < n {
-        let i = target_slot(image, h, j);
-        entries[i] += 1;
-        let d = holder_slot(image, h, j);
-        children[d] += 1;
-        j += 1;
+    for j in 0..image.shape.entries {
+        entries[target_slot(image, j)] += 1;
+        children[holder_slot(image, j)] += 1;
     }
 }
 
 // The text of inode i, if it is a symlink that has one; else one past the last.
-fn text_slot(image: &[u8], h: Shape, i: usize) -> usize
-    requires { Laid h image.now × (i < h.inodes) }
-    ensures { (result ≡ text_slot (view_of h image.now) i) × (result ≤ text_limit) }
+#[tactic(auto, unfolding(layout::specs::View::view_of, crate::specs::Tallies::text_slot))]
+fn text_slot(image: &Image<'_>, i: usize) -> usize
+    requires { i < image.now.shape.inodes }
+    ensures { (result ≡ text_slot (seen image.now) i) × (result ≤ text_limit) }
 {
-    if !layout::lookup::is_symlink(image, h, i) {
-        return limits::TEXT_LIMIT;
+    let r = image.inode(i);
+    if image.is_symlink(i) && r.field() < image.shape.texts {
+        r.field()
+    } else {
+        limits::TEXT_LIMIT
     }
-    let r = layout::records::inode(image, h, i);
-    let text = layout::inode::field(r);
-    if h.texts <= text {
-        return limits::TEXT_LIMIT;
-    }
-    text
 }
 
 // The first symlink that has each text; the number of inodes where none has it. It is filled from the last inode down, so that the first stays.
-pub fn text_owners(image: &[u8], h: Shape) -> [u16; 65]
-    requires { Laid h image.now }
-    ensures { TextOwners h image.now result }
+fn text_owners(image: &Image<'_>) -> [u16; 65]
+    ensures { TextOwners image.now.shape image.now.bytes.now result }
 {
-    let n = h.inodes;
-    let none = n as u16;
-    let mut first = [none; 65];
-    let mut i: usize = n;
-    while 0 < i {
-        i -= 1;
-        let t = text_slot(image, h, i);
-        first[t] = i as u16;
+    let n = image.shape.inodes;
+    let mut first = [n as u16; 65];
+    for i in (0..n).rev() {
+        first[text_slot(image, i)] = i as u16;
     }
     first
 }

@@ -1,43 +1,33 @@
 // Where the way up leads, from every directory at once: each round takes every one as far again, in one table, so that few rounds take as many steps as
 // there are inodes.
 ghost use Rattle.std.specs.Prelude.{◌≡◌, ◌≤◌, ◌<◌, length};
-ghost use Rattle.layout.specs.Facts.{Laid};
-ghost use Rattle.layout.specs.View.{view_of};
+ghost use Rattle.layout.specs.Seen.{seen};
 ghost use Rattle.tables.specs.Table.{Table, Within};
 ghost use Rattle.tallies.specs.Rounds.{round, Rooted};
 ghost use Rattle.tallies.specs.Tallies.{above, Tops};
 
-use layout::Shape;
+use layout::image::Image;
 
 // The directory above: the root for the root and for what is no directory; a directory whose field names none stays where it is.
-fn above(image: &[u8], h: Shape, i: usize) -> usize
-    requires { Laid h image.now × (i < h.inodes) }
-    ensures { (result ≡ above (view_of h image.now) i) × (result < h.inodes) }
+#[tactic(auto, using(layout::proofs::ViewLaws::is_kind_below), unfolding(layout::specs::View::view_of, crate::specs::Tallies::above))]
+fn above(image: &Image<'_>, i: usize) -> usize
+    requires { i < image.now.shape.inodes }
+    ensures { (result ≡ above (seen image.now) i) × (result < image.now.shape.inodes) }
 {
-    if i == 0 {
+    if i == 0 || !image.is_directory(i) {
         return 0;
     }
-    if !layout::lookup::is_directory(image, h, i) {
-        return 0;
-    }
-    let r = layout::records::inode(image, h, i);
-    let field = layout::inode::field(r);
-    if !layout::lookup::is_directory(image, h, field) {
-        return i;
-    }
-    field
+    let field = image.inode(i).field();
+    if image.is_directory(field) { field } else { i }
 }
 
 // The directory above each inode.
-fn all_above(image: &[u8], h: Shape, to: &mut [u16; 512])
-    requires { Laid h image.now × (length to.old ≡ 512) }
-    ensures { Table (above (view_of h image.now)) h.inodes to.new }
+fn all_above(image: &Image<'_>, to: &mut [u16; 512])
+    requires { length to.old ≡ 512 }
+    ensures { Table (above (seen image.now)) image.now.shape.inodes to.new }
 {
-    let n = h.inodes;
-    let mut i: usize = 0;
-    while i < n {
-        to[i] = above(image, h, i) as u16;
-        i += 1;
+    for i in 0..image.shape.inodes {
+        to[i] = above(image, i) as u16;
     }
 }
 
@@ -46,27 +36,24 @@ fn climb(to: &mut [u16; 512], n: usize) -> usize
     requires { (n ≤ 512) × Within n to.old }
     ensures { (to.new ≡ round n to.old) × (result ≡ 0 → Rooted n to.new) }
 {
-    let mut sum: usize = 0;
-    let mut i: usize = 0;
-    while i < n {
-        let k = tables::wide(to[i]);
-        let top = to[k];
+    let mut sum = 0;
+    for i in 0..n {
+        let top = to[usize::from(to[i])];
         to[i] = top;
-        sum += tables::wide(top);
-        i += 1;
+        sum += usize::from(top);
     }
     sum
 }
 
 // Where at least as many steps up as there are inodes lead, or fewer if all are at the root before.
-pub fn tops(image: &[u8], h: Shape, to: &mut [u16; 512])
-    requires { Laid h image.now × (length to.old ≡ 512) }
-    ensures { Tops h image.now to.new }
+pub fn tops(image: &Image<'_>, to: &mut [u16; 512])
+    requires { length to.old ≡ 512 }
+    ensures { Tops image.now.shape image.now.bytes.now to.new }
 {
-    all_above(image, h, to);
+    all_above(image, to);
     let mut size: usize = 1;
-    while size < h.inodes {
-        if climb(to, h.inodes) == 0 {
+    while size < image.shape.inodes {
+        if climb(to, image.shape.inodes) == 0 {
             return;
         }
         size += size;

@@ -1,5 +1,5 @@
 -- How a component ends a walk with an answer, and that all that is said of an answer holds of every walk. Assumes nothing.
-use Rattle.std.specs.Prelude.{◌≡◌, true, List, ℕ, ◌≤◌}
+use Rattle.std.specs.Prelude.{◌≡◌, true, List, ℕ, ◌≤◌, Ok, Err}
 use Rattle.std.proofs.Common.{sym, ap, subst, ◌∙◌}
 use Rattle.seq.specs.Bytes.{no_zero}
 use Rattle.layout.specs.Limits.{step_limit}
@@ -7,7 +7,7 @@ use Rattle.layout.specs.View.{View, is_symlink}
 use Rattle.paths.specs.declared.request.Credentials.{Credentials}
 use Rattle.component.specs.declared.state.Final.{Final}
 use Rattle.component.specs.declared.state.Found.{Found}
-use Rattle.component.specs.declared.state.Found.TheVariants.{Nothing}
+use Rattle.layout.specs.declared.errno.Errno.{Errno}
 use Rattle.component.specs.declared.state.Leave.TheVariants.{Refuses, Finds}
 use Rattle.component.specs.declared.state.Turn.{Turn}
 use Rattle.component.specs.Step.{End, Step}
@@ -25,11 +25,11 @@ ended_as r e f ended same = subst (λ (x : End). Ended r x) (sym same) ended
 
 -- a component that refuses the walk, and one that finds what the path names
 module _ (r : Turn) (x : Step) (a : Walked) (turned : Turned r x) where
-  pub refused_closes : (n : ℕ) → r.leave ≡ Refuses n → a ≡ answer_of r.walk n Nothing → Closes x a
-  refused_closes n e is =
+  pub refused_closes : (why : Errno) → r.leave ≡ Refuses why → a ≡ answer_of r.walk (Err why) → Closes x a
+  refused_closes why e is =
       subst (λ (y : Walked). Closes x y) (sym is) (record { is = sym turned.is ∙ ap (λ y. leave_of r.walk y) e; range = tt })
 
-  pub found_closes : (f : Found) → r.leave ≡ Finds f → a ≡ answer_of r.walk 0 f → Closes x a
+  pub found_closes : (f : Found) → r.leave ≡ Finds f → a ≡ answer_of r.walk (Ok f) → Closes x a
   found_closes f e is =
       subst (λ (y : Walked). Closes x y) (sym is)
       (record { is = sym turned.is ∙ ap (λ y. leave_of r.walk y) e; range = subst (λ y. Left r.walk y) e turned.left })

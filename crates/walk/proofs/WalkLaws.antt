@@ -10,8 +10,7 @@ use Rattle.paths.specs.declared.request.Credentials.{Credentials}
 use Rattle.paths.specs.Path.{empty, bare}
 use Rattle.component.specs.declared.state.Final.{Final}
 use Rattle.component.specs.Step.{End}
-use Rattle.walk.specs.declared.start.Start.{Start}
-use Rattle.walk.specs.declared.start.Start.TheVariants.{Closed, At}
+use Rattle.walk.specs.Start.{Start, Closed, At}
 use Rattle.walk.specs.Walk.{halt_number, halt, start_of, start_at, walk_from, begun, walk}
 
 module _ (v : View) (who : Credentials) (last : Final) where

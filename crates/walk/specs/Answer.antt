@@ -1,11 +1,13 @@
 -- The code's answer of a walk: the end that it stands for, and all that a caller may rely on. Assumes nothing.
-use Rattle.std.specs.Prelude.{◌≡◌, ℕ, ◌≤◌}
+use Rattle.std.specs.Prelude.{◌≡◌, List, ℕ, ◌≤◌, Result, Ok, Err}
 use Rattle.layout.specs.Limits.{step_limit}
 use Rattle.layout.specs.View.{View}
 use Rattle.component.specs.declared.state.Final.{Final}
 use Rattle.component.specs.declared.state.Found.{Found}
 use Rattle.component.specs.declared.state.Walk.{Walk}
-use Rattle.component.specs.Step.{End, Step, ends}
+use Rattle.layout.specs.declared.errno.Errno.{Errno}
+use Rattle.layout.specs.Code.{code}
+use Rattle.component.specs.Step.{Finding, nothing, End, Step, ends}
 use Rattle.component.specs.State.{finding_of, Ranged}
 use Rattle.walk.specs.declared.both.Walks.{Walks}
 use Rattle.walk.specs.declared.resolve.Walked.{Walked}
@@ -13,26 +15,35 @@ use Rattle.walk.specs.Ends.{Facts}
 use Rattle.walk.specs.Both.{Ends, old_final, new_final}
 
 -- a walk that ends in this state
-abbrev pub answer_of : Walk → ℕ → Found → Walked
-answer_of w number found = record { number = number; steps = w.steps; found = found; path = w.path }
+abbrev pub answer_of : Walk → Result Found Errno → Walked
+answer_of w found = record { steps = w.steps; found = found; path = w.path }
+
+-- what a walk that was not refused has found; the name that it lacks is a range of the working path
+abbrev pub found_in : List ℕ → Result Found Errno → Finding
+found_in path (Ok f) = finding_of path f
+found_in path (Err e) = nothing
+
+abbrev pub RangedIn : List ℕ → Result Found Errno → Type 0
+RangedIn path (Ok f) = Ranged path f
+RangedIn path (Err e) = Unit {0}
 
 abbrev pub end_of : Walked → End
-end_of r = record { number = r.number; steps = r.steps; found = finding_of r.path r.found }
+end_of r = record { number = code r.found; steps = r.steps; found = found_in r.path r.found }
 
 -- An answer that stands for an end, with a missing name inside its path.
 pub record Ended (r : Walked) (e : End) : Type 0 where
   pub is : end_of r ≡ e
-  pub range : Ranged r.path r.found
+  pub range : RangedIn r.path r.found
 
 -- A component that ends the walk with this answer.
 pub record Closes (x : Step) (a : Walked) : Type 0 where
   pub is : x ≡ ends (end_of a)
-  pub range : Ranged a.path a.found
+  pub range : RangedIn a.path a.found
 
 -- The answer of a walk: the bound of its count, and the facts of its end, stand beside.
 pub record Answered (v : View) (last : Final) (r : Walked) (e : End) : Type 0 where
   pub is : end_of r ≡ e
-  pub range : Ranged r.path r.found
+  pub range : RangedIn r.path r.found
   pub bound : r.steps ≤ step_limit
   pub facts : Facts v last (end_of r)
 

@@ -1,3 +1,4 @@
+pub mod Start
 pub mod Walk
 pub mod Budget
 pub mod Ends

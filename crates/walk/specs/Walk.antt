@@ -8,8 +8,7 @@ use Rattle.paths.specs.declared.request.Credentials.{Credentials}
 use Rattle.paths.specs.Path.{empty, bare, absolute}
 use Rattle.component.specs.declared.state.Final.{Final}
 use Rattle.component.specs.Step.{Position, End, nothing, goes, ends, walk_step}
-use Rattle.walk.specs.declared.start.Start.{Start}
-use Rattle.walk.specs.declared.start.Start.TheVariants.{Closed, At}
+use Rattle.walk.specs.Start.{Start, Closed, At}
 
 -- the numbers that a path is refused by before its walk begins
 abbrev pub halt_number : ℕ → Bool

@@ -1,7 +1,6 @@
 // Both walks of a request: old's whole walk, then new's.
 ghost use Rattle.std.specs.Prelude.{◌≡◌, true};
-ghost use Rattle.layout.specs.View.{view_of};
-ghost use Rattle.layout.specs.Facts.{Readable};
+ghost use Rattle.layout.specs.Seen.{seen};
 ghost use Rattle.paths.specs.Request.{request_good};
 ghost use Rattle.walk.specs.Both.{walks_of};
 ghost use Rattle.walk.specs.Answer.{BothAnswered};
@@ -9,7 +8,7 @@ ghost use Rattle.walk.specs.Answer.{BothAnswered};
 use crate::resolve;
 use crate::resolve::Walked;
 use component::state::Final;
-use layout::Shape;
+use layout::tree::Tree;
 use paths::request::Request;
 
 #[derive(Clone, Copy)]
@@ -18,16 +17,15 @@ pub struct Walks {
     pub new: Walked,
 }
 
-// Old must name something, new need not, but its last name must be portable. Where old's walk is refused, new's does not begin, and ends with the same number: so the number
-// of new's is that of both.
-pub fn both(image: &[u8], h: Shape, q: Request, old: &[u8], new: &[u8]) -> Walks
-    requires { Readable h image.now × (request_good (view_of h image.now) q old.now new.now ≡ true) }
-    ensures { BothAnswered (view_of h image.now) result (walks_of (view_of h image.now) q old.now new.now) }
+// Old must name something, new need not, but its last name must be portable. Where old's walk is refused, new's does not begin, and is refused as old's is:
+// so what refuses new's is what refuses both.
+pub fn both(tree: &Tree<'_>, q: Request, old: &[u8], new: &[u8]) -> Walks
+    requires { request_good (seen tree.now.image) q old.now new.now ≡ true }
+    ensures { BothAnswered (seen tree.now.image) result (walks_of (seen tree.now.image) q old.now new.now) }
 {
     let current = q.current as usize;
     let first = resolve::walk(
-        image,
-        h,
+        tree,
         q.who,
         Final {
             present: true,
@@ -37,16 +35,14 @@ pub fn both(image: &[u8], h: Shape, q: Request, old: &[u8], new: &[u8]) -> Walks
         q.starts.old as usize,
         old,
     );
-    let number = first.number;
-    if number != 0 {
+    if let Err(why) = first.found {
         return Walks {
             old: first,
-            new: resolve::stop(number),
+            new: resolve::stop(why),
         };
     }
     let second = resolve::walk(
-        image,
-        h,
+        tree,
         q.who,
         Final {
             present: false,

@@ -1,38 +1,39 @@
 // The walk of a whole path: where it begins, component after component, how it ends.
 ghost use Rattle.std.specs.Prelude.{◌≡◌, true, ◌≤◌, length};
 ghost use Rattle.seq.specs.Bytes.{no_zero};
-ghost use Rattle.layout.specs.View.{view_of};
-ghost use Rattle.layout.specs.Facts.{Readable};
+ghost use Rattle.layout.specs.Code.{number};
+ghost use Rattle.layout.specs.Seen.{seen};
 ghost use Rattle.paths.specs.WorkingPath.{working_path};
 ghost use Rattle.layout.specs.Limits.{path_limit, step_limit};
 ghost use Rattle.component.specs.State.{position_of, beginning, Fit};
 ghost use Rattle.walk.specs.Walk.{halt, walk_from, begun, walk};
+ghost use Rattle.walk.specs.Start.{begins};
 ghost use Rattle.walk.specs.Answer.{answer_of, Ended, Answered};
 
 use crate::start::Start;
 use component::state;
 use component::state::{Final, Found, Leave, Walk};
-use layout::{Shape, errno, limits};
+use layout::errno::Errno;
+use layout::limits;
+use layout::tree::Tree;
 use paths::path;
 use paths::request::Credentials;
 
-// How a walk ended: the number it is answered with, 0 unless it was refused; the component checks begun; what the path names; and the
-// working path, which a missing name is a range of.
+// How a walk ended: the component checks begun; what the path names, unless the walk was refused; and the working path, which a missing
+// name is a range of.
 #[derive(Clone, Copy)]
 pub struct Walked {
-    pub number: u8,
     pub steps: usize,
-    pub found: Found,
+    pub found: Result<Found, Errno>,
     pub path: [u8; limits::PATH_BYTES],
 }
 
 // The answer of a walk that ends here.
-fn ended(w: Walk, number: u8, found: Found) -> Walked
-    ensures { result ≡ answer_of w number found }
+fn ended(w: Walk, found: Result<Found, Errno>) -> Walked
+    ensures { result ≡ answer_of w found }
 {
     let path = w.path;
     Walked {
-        number,
         steps: w.steps,
         found,
         path,
@@ -40,19 +41,17 @@ fn ended(w: Walk, number: u8, found: Found) -> Walked
 }
 
 // Goes through the components that are left. Each makes the rest shorter or follows one of few symlinks, so there is an end.
-fn run(image: &[u8], h: Shape, who: Credentials, last: Final, w: Walk) -> Walked
-    requires { Readable h image.now × Fit w × (w.links ≡ 0) × (w.steps ≡ 0) }
-    ensures { Ended result (walk_from (view_of h image.now) who last step_limit (position_of w)) }
+fn run(tree: &Tree<'_>, who: Credentials, last: Final, w: Walk) -> Walked
+    requires { Fit w × (w.links ≡ 0) × (w.steps ≡ 0) }
+    ensures { Ended result (walk_from (seen tree.now.image) who last step_limit (position_of w)) }
 {
     let mut w = w;
     loop {
-        let r = component::step::step(image, h, who, last, w);
-        let leave = r.leave;
-        let next = r.walk;
-        match leave {
-            Leave::Goes => w = next,
-            Leave::Refuses(number) => return ended(next, number, Found::Nothing),
-            Leave::Finds(found) => return ended(next, 0, found),
+        let r = component::step::step(tree, who, last, w);
+        match r.leave {
+            Leave::Goes => w = r.walk,
+            Leave::Refuses(why) => return ended(r.walk, Err(why)),
+            Leave::Finds(found) => return ended(r.walk, Ok(found)),
         }
     }
 }
@@ -85,76 +84,71 @@ fn begin(path: &[u8], directory: usize, waived: bool) -> Walk
 }
 
 // A walk that does not begin.
-pub fn stop(number: u8) -> Walked
-    ensures { Ended result (halt number) }
+pub fn stop(why: Errno) -> Walked
+    ensures { Ended result (halt (number why)) }
 {
     Walked {
-        number,
         steps: 0,
-        found: Found::Nothing,
+        found: Err(why),
         path: [0u8; limits::PATH_BYTES],
     }
 }
 
 // The walk from a start, which a closed handle and a path of slashes only do not have.
 fn from_start(
-    image: &[u8],
-    h: Shape,
+    tree: &Tree<'_>,
     who: Credentials,
     last: Final,
-    start: Start,
+    start: Option<Start>,
     path: &[u8],
 ) -> Walked
-    requires { Readable h image.now × (length path.now ≤ path_limit) }
-    ensures { Ended result (begun (view_of h image.now) who last start path.now) }
+    requires { length path.now ≤ path_limit }
+    ensures { Ended result (begun (seen tree.now.image) who last (begins start) path.now) }
 {
     match start {
-        Start::Closed => stop(errno::EBADF),
-        Start::At { directory, waived } => {
+        None => stop(Errno::EBADF),
+        Some(Start { directory, waived }) => {
             if path::is_bare(path) {
-                return stop(errno::EBUSY);
+                return stop(Errno::EBUSY);
             }
             let w = begin(path, directory, waived);
-            run(image, h, who, last, w)
+            run(tree, who, last, w)
         }
     }
 }
 
 // The walk of a path from the current directory and a start.
 fn resolve(
-    image: &[u8],
-    h: Shape,
+    tree: &Tree<'_>,
     who: Credentials,
     last: Final,
     current: usize,
     start: usize,
     path: &[u8],
 ) -> Walked
-    requires { Readable h image.now }
-    ensures { Ended result (walk (view_of h image.now) who last current start path.now) }
+    ensures { Ended result (walk (seen tree.now.image) who last current start path.now) }
 {
     if path.len() == 0 {
-        return stop(errno::ENOENT);
+        return stop(Errno::ENOENT);
     }
     if limits::PATH_LIMIT < path.len() {
-        return stop(errno::ENAMETOOLONG);
+        return stop(Errno::ENAMETOOLONG);
     }
-    let from = crate::start::locate(image, h, current, start, path);
-    from_start(image, h, who, last, from, path)
+    let from = crate::start::locate(&tree.image, current, start, path);
+    from_start(tree, who, last, from, path)
 }
 
 // The same, with all that a caller may rely on: the bound of the count, and what is known of each end.
 pub fn walk(
-    image: &[u8],
-    h: Shape,
+    tree: &Tree<'_>,
     who: Credentials,
     last: Final,
     current: usize,
     start: usize,
     path: &[u8],
 ) -> Walked
-    requires { Readable h image.now × (no_zero path.now ≡ true) }
-    ensures { Answered (view_of h image.now) last result (walk (view_of h image.now) who last current start path.now) }
+    requires { no_zero path.now ≡ true }
+    ensures { Answered (seen tree.now.image) last result (walk (seen tree.now.image) who last current start path.now) }
 {
-    resolve(image, h, who, last, current, start, path)
+    resolve(tree, who, last, current, start, path)
 }

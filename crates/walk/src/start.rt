@@ -1,46 +1,51 @@
 // Where a path begins: the directory, and whether search permission is waived for its first component.
 ghost use Rattle.std.specs.Prelude.{◌≡◌};
-ghost use Rattle.layout.specs.Facts.{Laid};
-ghost use Rattle.layout.specs.View.{view_of};
+ghost use Rattle.layout.specs.Seen.{seen};
 ghost use Rattle.walk.specs.Walk.{start_of};
+ghost use Rattle.walk.specs.Start.{begins};
 
-use layout::{Shape, limits};
+use layout::handle::State;
+use layout::image::Image;
+use layout::limits;
 use paths::path;
 
-// A relative path from a handle that is closed, or does not exist, begins nowhere.
 #[derive(Clone, Copy)]
-pub enum Start {
-    Closed,
-    At { directory: usize, waived: bool },
+pub struct Start {
+    pub directory: usize,
+    pub waived: bool,
 }
 
-// The root for an absolute path; else the current directory, or what the handle is open on.
-pub fn locate(image: &[u8], h: Shape, current: usize, start: usize, path: &[u8]) -> Start
-    requires { Laid h image.now }
-    ensures { result ≡ start_of (view_of h image.now) current start path.now }
+// The root for an absolute path; else the current directory, or what the handle is open on. A relative path from a handle that is closed, or does not
+// exist, begins nowhere.
+pub fn locate(image: &Image<'_>, current: usize, start: usize, path: &[u8]) -> Option<Start>
+    ensures { begins result ≡ start_of (seen image.now) current start path.now }
 {
     if path::is_absolute(path) {
-        return Start::At {
+        return Some(Start {
             directory: 0,
             waived: false,
-        };
+        });
     }
     if start == limits::NO_HANDLE {
-        return Start::At {
+        return Some(Start {
             directory: current,
             waived: false,
-        };
+        });
     }
-    if h.handles <= start {
-        return Start::Closed;
+    if image.shape.handles <= start {
+        return None;
     }
-    let r = layout::records::handle(image, h, start);
-    let state = layout::handle::state(r);
-    if state == 0 {
-        return Start::Closed;
-    }
-    Start::At {
-        directory: layout::handle::inode(r),
-        waived: state == 2,
+    let r = image.handle(start);
+    let directory = r.inode();
+    match r.state() {
+        State::Closed => None,
+        State::Search => Some(Start {
+            directory,
+            waived: true,
+        }),
+        _ => Some(Start {
+            directory,
+            waived: false,
+        }),
     }
 }

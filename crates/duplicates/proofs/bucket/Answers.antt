@@ -14,12 +14,11 @@ returns-then-name_length-eq0 c =
     let free = sym (field_of entry_name_length c.entry-e.ensures c.name_length.ensures.0) ∙ c.if-name_length-eq0.true in
     (sym (bucket_free _ _ free), search rules)
 
-pub returns : goal.returns
+pub returns-else-name_length-eq0 : goal.returns-else-name_length-eq0
 unfolding view_of
-returns c =
-    let args = c.args in
-    let pre = c.requires in
-    let entry = c.entry-e.ensures in
-    let length = field_of entry_name_length entry c.name_length.ensures.0 in
-    let read = bucket_mixed args.h args.image.now args.j pre.0 pre.1 pre.2 (λ e. c.if-name_length-eq0.false (length ∙ e)) in
-    (c.mixed.ensures.0 ∙ ap mixed_of entry.is ∙ read, search rules)
+returns-else-name_length-eq0 c =
+    let image = c.args.image.now in
+    let length = field_of entry_name_length c.entry-e.ensures c.name_length.ensures.0 in
+    let mixed = bucket_mixed image.shape image.bytes.now c.args.j image.laid c.requires.0 c.requires.1 in
+    let read = mixed (λ e. c.if-name_length-eq0.false (length ∙ e)) in
+    (c.mixed.ensures.0 ∙ ap mixed_of c.entry-e.ensures.is ∙ read, search rules)

@@ -1,9 +1,8 @@
 -- `duplicates::has_duplicate` meets its contract. Assumes nothing.
--- too, and no entry of that chain from `at` on clashes with j. Measure: the entries left; `at`, since a chain leads to ever earlier entries.
 use mathlib.Core.Path.{◌≡◌, sym, ◌∙◌}
 use Prim.Native.Nat.{◌<◌, ◌-◌}
 use native.Mathlib.Omega.{arith}
-use lib.ListN.{get_or, set}
+use lib.ListN.{get_or}
 use borrow.Author.Rules.{rules}
 use Rattle.seq.proofs.SearchLaws.{any_none, any_miss, any_hit, any_false, any_out}
 use Rattle.layout.specs.View.{view_of}
@@ -14,70 +13,65 @@ use Rattle.duplicates.specs.Bucket.{buckets, bucket_at}
 use Rattle.duplicates.proofs.BucketLaws.{clash_bucket, free_clash}
 use Rattle.duplicates.proofs.has_duplicate.Goals as goal
 
-pub pairs-init : goal.pairs-init
-pairs-init c = (search rules, search rules, heads_none _ _, nexts_none _ _ _, any_none _)
+pub loop-j-init : goal.loop-j-init
+loop-j-init c = (heads_none _ _, nexts_none _ _ _, any_none _)
 
-pub pairs-preserved-then-b-eq-BUCKETS : goal.pairs-preserved-then-b-eq-BUCKETS
-pairs-preserved-then-b-eq-BUCKETS c =
-    let args = c.args in
-    let pairs = c.pairs in
-    let free : bucket_at (view_of args.h args.image.now) pairs.j ≡ buckets = sym c.bucket-b.ensures.0 ∙ c.if-b-eq-BUCKETS.true in (
-      search rules,
-      search rules,
-      heads_skip _ _ _ _ pairs.invariant.2 (omega arith),
-      nexts_skip _ _ _ _ _ pairs.invariant.3 (omega arith),
-      any_miss _ _ pairs.invariant.4 (any_false _ _ (λ i l. free_clash _ _ free i)),
+pub loop-j-preserved-then-b-eq-BUCKETS : goal.loop-j-preserved-then-b-eq-BUCKETS
+loop-j-preserved-then-b-eq-BUCKETS c =
+    let inv = c.loop-j.invariant in
+    let free : bucket_at (view_of c.args.image.now.shape c.args.image.now.bytes.now) c.loop-j.j ≡ buckets =
+    sym c.bucket-b.ensures.0 ∙ c.if-b-eq-BUCKETS.true in (
+      heads_skip _ _ _ _ inv.0 (omega arith),
+      nexts_skip _ _ _ _ _ inv.1 (omega arith),
+      any_miss _ _ inv.2 (any_false _ _ (λ i l. free_clash _ _ free i)),
     )
 
 pub loop-at-init : goal.loop-at-init
 loop-at-init c =
-    let args = c.args in
-    let pairs = c.pairs in
-    let bucket = c.bucket-b in
-    let key = bucket_at (view_of args.h args.image.now) in
-    let k = bucket.ensures.0 in
-    let l : key pairs.j < buckets = omega arith in
-    let head : Last key (key pairs.j) pairs.j (get_or pairs.heads bucket.result 0) = rw k (pairs.invariant.2.at _ l) in (
-      search rules,
-      rw c.wide-at.ensures.0 (passed_none _ _ _ (λ i e. clash_bucket _ _ _ e) _ head),
-      rw k (heads_turn _ _ _ _ pairs.invariant.2 l),
-      nexts_turn _ _ _ _ _ _ pairs.invariant.3 head (search rules),
+    let inv = c.loop-j.invariant in
+    let j = c.loop-j.j in
+    let key = bucket_at (view_of c.args.image.now.shape c.args.image.now.bytes.now) in
+    let k = c.bucket-b.ensures.0 in
+    let l : key j < buckets = omega arith in
+    let head : Last key (key j) j (get_or c.loop-j.heads c.bucket-b.result 0) = rw k (inv.0.at _ l) in (
+      rw c.from-at.ensures (passed_none _ _ _ (λ i e. clash_bucket _ _ _ e) _ head),
+      rw k (heads_turn _ _ _ _ inv.0 l),
+      nexts_turn _ _ _ _ _ _ inv.1 head (search rules),
     )
 
 pub loop-at-smaller : goal.loop-at-smaller
 loop-at-smaller c =
-    let next_last : let args = c.args in let pairs = c.pairs in let bucket = c.bucket-b in let key = bucket_at (view_of args.h args.image.now) in let i = c.loop-at.at - 1 in Last key (key i) i (get_or (set pairs.nexts pairs.j (get_or pairs.heads bucket.result 0)) i 0) = let loop' = c.loop-at in
-    let e = loop'.invariant.1.here c.loop-at-test.true in
+    let inv = c.loop-at.invariant in
+    let e = inv.0.here c.loop-at-test.true in
     let k = c.bucket-b.ensures.0 in
-    loop'.invariant.3.at (loop'.at - 1) (omega (arith, loop'.invariant.1.below)) (omega arith) in
-    let last = next_last in
+    let last = inv.2.at (c.loop-at.at - 1) (omega (arith, inv.0.below)) (omega arith) in
     omega (arith, last.below)
 
 pub loop-at-preserved : goal.loop-at-preserved
 loop-at-preserved c =
-    let next_last : let args = c.args in let pairs = c.pairs in let bucket = c.bucket-b in let key = bucket_at (view_of args.h args.image.now) in let i = c.loop-at.at - 1 in Last key (key i) i (get_or (set pairs.nexts pairs.j (get_or pairs.heads bucket.result 0)) i 0) = let loop' = c.loop-at in
-    let e = loop'.invariant.1.here c.loop-at-test.true in
-    let k = c.bucket-b.ensures.0 in
-    loop'.invariant.3.at (loop'.at - 1) (omega (arith, loop'.invariant.1.below)) (omega arith) in
-    let loop' = c.loop-at in
-    let apart = sym c.entries_clash.ensures ∙ c.if-entries_clash.false in
+    let inv = c.loop-at.invariant in
     let some = c.loop-at-test.true in
-    let passed = passed_turn _ _ _ (λ i e. clash_bucket _ _ _ e) _ _ loop'.invariant.1 some apart next_last in
-    (search rules, rw c.wide-at-in-loop-at.ensures.0 passed, search rules, search rules)
+    let e = inv.0.here some in
+    let k = c.bucket-b.ensures.0 in
+    let last = inv.2.at (c.loop-at.at - 1) (omega (arith, inv.0.below)) (omega arith) in
+    let apart = sym c.entries_clash.ensures ∙ c.if-entries_clash.false in (
+      rw c.from-at-in-loop-at.ensures (passed_turn _ _ _ (λ i e. clash_bucket _ _ _ e) _ _ inv.0 some apart last),
+      inv.1,
+      inv.2,
+    )
 
-pub pairs-preserved : goal.pairs-preserved
-pairs-preserved c =
-    let none = passed_all _ _ _ _ c.loop-at.invariant.1 (omega arith) in
-    (search rules, search rules, search rules, search rules, any_miss _ _ c.pairs.invariant.4 none)
+pub loop-j-preserved : goal.loop-j-preserved
+loop-j-preserved c =
+    let none = passed_all _ _ _ _ c.loop-at.invariant.0 (omega arith) in
+    (search rules, search rules, any_miss _ _ c.loop-j.invariant.2 none)
 
-pub returns-after-pairs : goal.returns-after-pairs
+pub returns : goal.returns
 unfolding has_duplicate view_of
-returns-after-pairs c = c.pairs.invariant.1 ∙ any_out _ _ _ c.pairs.invariant.0 c.pairs-test.false c.pairs.invariant.4
+returns c = any_out _ _ _ c.loop-j.auto.j-end c.loop-j-test.false c.loop-j.invariant.2
 
 pub returns-then-entries_clash : goal.returns-then-entries_clash
 unfolding has_duplicate view_of
 returns-then-entries_clash c =
-    let loop' = c.loop-at in
-    let below = loop'.invariant.1.below in
+    let below = c.loop-at.invariant.0.below in
     let clashes = sym c.entries_clash.ensures ∙ c.if-entries_clash.true in
-    sym (any_hit _ _ _ c.pairs-test.true (any_hit _ _ (loop'.at - 1) (omega arith) clashes))
+    sym (any_hit _ _ _ c.loop-j-test.true (any_hit _ _ (c.loop-at.at - 1) (omega arith) clashes))

@@ -17,11 +17,11 @@ pub overflow_sub-result : goal.overflow_sub-result
 unfolding children_exchanged child_directories view_of
 overflow_sub-result c =
     let wanted : ℕ =
-    children_exchanged (view_of c.args.h c.args.image.now) c.args.m c.args.d in
+    children_exchanged (view_of c.args.image.now.shape c.args.image.now.bytes.now) c.args.m c.args.d in
     let sum : wanted + (c.one_if-old.result + c.one_if-new.result) ≡ c.child_directories-stand.result + (c.one_if-second.result + c.one_if-first.result) =
     let m = c.args.m in
-    let v = view_of c.args.h c.args.image.now in
-    let e = recounted m c.args.h.entries c.requires.1 (holds_directory v c.args.d) (eqb m.from c.args.d && is_directory v m.replaced) (eqb m.into c.args.d && is_directory v m.moved) in
+    let v = view_of c.args.image.now.shape c.args.image.now.bytes.now in
+    let e = recounted m c.args.image.now.shape.entries c.requires (holds_directory v c.args.d) (eqb m.from c.args.d && is_directory v m.replaced) (eqb m.into c.args.d && is_directory v m.moved) in
     let other = c.one_if-second.ensures.0 ∙ ap bit (c.makes_child.ensures
     ∙ ap (λ (n : Move). eqb n.into c.args.d && is_directory v n.moved) c.back.ensures) in
     let made = c.one_if-first.ensures.0 ∙ ap bit c.makes_child-2.ensures in
@@ -34,11 +34,11 @@ pub overflow_sub-result-2 : goal.overflow_sub-result-2
 unfolding children_exchanged child_directories view_of
 overflow_sub-result-2 c =
     let wanted : ℕ =
-    children_exchanged (view_of c.args.h c.args.image.now) c.args.m c.args.d in
+    children_exchanged (view_of c.args.image.now.shape c.args.image.now.bytes.now) c.args.m c.args.d in
     let sum : wanted + (c.one_if-old.result + c.one_if-new.result) ≡ c.child_directories-stand.result + (c.one_if-second.result + c.one_if-first.result) =
     let m = c.args.m in
-    let v = view_of c.args.h c.args.image.now in
-    let e = recounted m c.args.h.entries c.requires.1 (holds_directory v c.args.d) (eqb m.from c.args.d && is_directory v m.replaced) (eqb m.into c.args.d && is_directory v m.moved) in
+    let v = view_of c.args.image.now.shape c.args.image.now.bytes.now in
+    let e = recounted m c.args.image.now.shape.entries c.requires (holds_directory v c.args.d) (eqb m.from c.args.d && is_directory v m.replaced) (eqb m.into c.args.d && is_directory v m.moved) in
     let other = c.one_if-second.ensures.0 ∙ ap bit (c.makes_child.ensures
     ∙ ap (λ (n : Move). eqb n.into c.args.d && is_directory v n.moved) c.back.ensures) in
     let made = c.one_if-first.ensures.0 ∙ ap bit c.makes_child-2.ensures in
@@ -51,17 +51,17 @@ pub returns : goal.returns
 unfolding children_exchanged child_directories view_of
 returns c =
     let wanted : ℕ =
-    children_exchanged (view_of c.args.h c.args.image.now) c.args.m c.args.d in
+    children_exchanged (view_of c.args.image.now.shape c.args.image.now.bytes.now) c.args.m c.args.d in
     let sum : wanted + (c.one_if-old.result + c.one_if-new.result) ≡ c.child_directories-stand.result + (c.one_if-second.result + c.one_if-first.result) =
     let m = c.args.m in
-    let v = view_of c.args.h c.args.image.now in
-    let e = recounted m c.args.h.entries c.requires.1 (holds_directory v c.args.d) (eqb m.from c.args.d && is_directory v m.replaced) (eqb m.into c.args.d && is_directory v m.moved) in
+    let v = view_of c.args.image.now.shape c.args.image.now.bytes.now in
+    let e = recounted m c.args.image.now.shape.entries c.requires (holds_directory v c.args.d) (eqb m.from c.args.d && is_directory v m.replaced) (eqb m.into c.args.d && is_directory v m.moved) in
     let other = c.one_if-second.ensures.0 ∙ ap bit (c.makes_child.ensures
     ∙ ap (λ (n : Move). eqb n.into c.args.d && is_directory v n.moved) c.back.ensures) in
     let made = c.one_if-first.ensures.0 ∙ ap bit c.makes_child-2.ensures in
     let old = c.one_if-old.ensures.0 ∙ ap bit c.entry_holds_directory.ensures in
     let new = c.one_if-new.ensures.0 ∙ ap bit c.entry_holds_directory-2.ensures in
     rw (old, new, other, made, c.child_directories-stand.ensures.0) e in
-    let few : wanted ≤ c.args.h.entries =
-    count_le (holds_exchanged (view_of c.args.h c.args.image.now) c.args.m c.args.d) c.args.h.entries in
-    (omega (arith, sum), omega (arith, sum, few, c.requires.0.entries_most))
+    let few : wanted ≤ c.args.image.now.shape.entries =
+    count_le (holds_exchanged (view_of c.args.image.now.shape c.args.image.now.bytes.now) c.args.m c.args.d) c.args.image.now.shape.entries in
+    (omega (arith, sum), omega (arith, sum, few, c.args.image.now.laid.entries_most))

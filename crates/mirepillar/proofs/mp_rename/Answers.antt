@@ -1,5 +1,5 @@
 -- `mirepillar::mp_rename` meets its contract. Assumes nothing.
-use mathlib.Core.Path.{ap, ◌∙◌}
+use Rattle.std.proofs.Common.{ap, ◌∙◌}
 use Rattle.rename.proofs.Bounds.{answers_small}
 use Rattle.mirepillar.specs.Result.{packed}
 use Rattle.mirepillar.proofs.mp_rename.Goals as goal

@@ -1,77 +1,18 @@
 -- `recounts::entries_after` meets its contract. Assumes nothing.
-use mathlib.Core.Path.{◌≡◌, ◌∙◌, ap}
-use Prim.Native.Nat.{◌+◌, ◌≤◌}
-use native.Mathlib.Omega.{arith}
-use lib.Dec.{eqb}
-use Rattle.seq.specs.Count.{bit}
-use Rattle.seq.proofs.SearchLaws.{count_le}
-use Rattle.seq.specs.Truth.{holds}
+use Rattle.std.proofs.Common.{rules}
+use borrow.Author.Tests.{tests}
 use Rattle.layout.specs.View.{view_of}
 use Rattle.tree.specs.Tree.{targets, entries_of}
-use Rattle.recounts.specs.Recount.{targets_after, entries_after}
-use Rattle.recounts.specs.RecountLaws.{two_is}
-use Rattle.recounts.proofs.RecountCleared.{recounted_cleared}
+use Rattle.recounts.specs.Recount.{entries_after}
 use Rattle.recounts.proofs.entries_after.Goals as goal
 
-pub returns-then-not-edits_two : goal.returns-then-not-edits_two
-returns-then-not-edits_two c = c.entries_edited.ensures
-
-pub entry_targets-requires : goal.entry_targets-requires
-entry_targets-requires c =
-    let two = two_is c.args.m c.args.h.entries (holds c.edits_two.ensures c.if-not-edits_two.false-raw) in
-    (c.requires, two.old)
-
-pub entry_targets-requires-2 : goal.entry_targets-requires-2
-entry_targets-requires-2 c =
-    let two = two_is c.args.m c.args.h.entries (holds c.edits_two.ensures c.if-not-edits_two.false-raw) in
-    (c.requires, two.new)
-
-pub overflow_add-result : goal.overflow_add-result
-unfolding entries_after entries_of view_of
-overflow_add-result c =
-    let sum : entries_after (view_of c.args.h c.args.image.now) c.args.m c.args.i + (c.one_if-old.result + c.one_if-new.result) ≡ c.entries_of-stand.result + c.one_if-made.result = let args = c.args in
-    let v = view_of args.h args.image.now in
-    let two = two_is args.m args.h.entries (holds c.edits_two.ensures c.if-not-edits_two.false-raw) in
-    let e = recounted_cleared args.m args.h.entries two (targets v args.i) (eqb args.m.moved args.i) in
-    let old = c.one_if-old.ensures.0 ∙ ap bit c.entry_targets.ensures in
-    let new = c.one_if-new.ensures.0 ∙ ap bit c.entry_targets-2.ensures in
-    rw (old, new, c.one_if-made.ensures.0, c.entries_of-stand.ensures) e in
-    let few : entries_after (view_of c.args.h c.args.image.now) c.args.m c.args.i ≤ c.args.h.entries = count_le (targets_after (view_of c.args.h c.args.image.now) c.args.m c.args.i) c.args.h.entries in
-    omega (arith, sum, few, c.requires.entries_most, c.one_if-old.ensures.1, c.one_if-new.ensures.1)
-
-pub overflow_sub-result : goal.overflow_sub-result
-unfolding entries_after entries_of view_of
-overflow_sub-result c =
-    let sum : entries_after (view_of c.args.h c.args.image.now) c.args.m c.args.i + (c.one_if-old.result + c.one_if-new.result) ≡ c.entries_of-stand.result + c.one_if-made.result = let args = c.args in
-    let v = view_of args.h args.image.now in
-    let two = two_is args.m args.h.entries (holds c.edits_two.ensures c.if-not-edits_two.false-raw) in
-    let e = recounted_cleared args.m args.h.entries two (targets v args.i) (eqb args.m.moved args.i) in
-    let old = c.one_if-old.ensures.0 ∙ ap bit c.entry_targets.ensures in
-    let new = c.one_if-new.ensures.0 ∙ ap bit c.entry_targets-2.ensures in
-    rw (old, new, c.one_if-made.ensures.0, c.entries_of-stand.ensures) e in
-    omega (arith, sum)
-
-pub overflow_sub-result-2 : goal.overflow_sub-result-2
-unfolding entries_after entries_of view_of
-overflow_sub-result-2 c =
-    let sum : entries_after (view_of c.args.h c.args.image.now) c.args.m c.args.i + (c.one_if-old.result + c.one_if-new.result) ≡ c.entries_of-stand.result + c.one_if-made.result = let args = c.args in
-    let v = view_of args.h args.image.now in
-    let two = two_is args.m args.h.entries (holds c.edits_two.ensures c.if-not-edits_two.false-raw) in
-    let e = recounted_cleared args.m args.h.entries two (targets v args.i) (eqb args.m.moved args.i) in
-    let old = c.one_if-old.ensures.0 ∙ ap bit c.entry_targets.ensures in
-    let new = c.one_if-new.ensures.0 ∙ ap bit c.entry_targets-2.ensures in
-    rw (old, new, c.one_if-made.ensures.0, c.entries_of-stand.ensures) e in
-    omega (arith, sum)
+pub count_edited-requires-clause-stands : goal.count_edited-requires-clause-stands
+unfolding entries_of view_of
+count_edited-requires-clause-stands c =
+    (targets (view_of c.args.image.now.shape c.args.image.now.bytes.now) c.args.i, record { each = λ j b l e. search (rules, tests); counted = c.entries_of-stand.ensures })
 
 pub returns : goal.returns
-unfolding entries_after entries_of view_of
+unfolding entries_of entries_after view_of
 returns c =
-    let sum : entries_after (view_of c.args.h c.args.image.now) c.args.m c.args.i + (c.one_if-old.result + c.one_if-new.result) ≡ c.entries_of-stand.result + c.one_if-made.result = let args = c.args in
-    let v = view_of args.h args.image.now in
-    let two = two_is args.m args.h.entries (holds c.edits_two.ensures c.if-not-edits_two.false-raw) in
-    let e = recounted_cleared args.m args.h.entries two (targets v args.i) (eqb args.m.moved args.i) in
-    let old = c.one_if-old.ensures.0 ∙ ap bit c.entry_targets.ensures in
-    let new = c.one_if-new.ensures.0 ∙ ap bit c.entry_targets-2.ensures in
-    rw (old, new, c.one_if-made.ensures.0, c.entries_of-stand.ensures) e in
-    let few : entries_after (view_of c.args.h c.args.image.now) c.args.m c.args.i ≤ c.args.h.entries = count_le (targets_after (view_of c.args.h c.args.image.now) c.args.m c.args.i) c.args.h.entries in
-    (omega (arith, sum), omega (arith, sum, few, c.requires.entries_most))
+    c.count_edited.ensures (targets (view_of c.args.image.now.shape c.args.image.now.bytes.now) c.args.i)
+    (record { each = λ j b l e. search (rules, tests); counted = c.entries_of-stand.ensures })

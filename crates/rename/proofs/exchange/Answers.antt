@@ -9,11 +9,11 @@ use Rattle.rename.proofs.exchange.Goals as goal
 
 pub fill-requires : goal.fill-requires
 fill-requires c =
-    (search rules, c.requires.1, subst (BothInImage c.args.h) (sym c.exchange_of.ensures) c.requires.2)
+    (search rules, subst (BothInImage c.args.image.now.shape) (sym c.exchange_of.ensures) c.requires.1)
 
 pub returns : goal.returns
 returns c =
     let args = c.args in
-    subst (λ (m : Move). (c.fill.new.plan ≡ exchange_planned args.h args.image.now m args.plan.now)
-    × (c.fill.result ≡ length (exchange_rows args.h args.image.now m)))
+    subst (λ (m : Move). (c.fill.new.plan ≡ exchange_planned args.image.now.shape args.image.now.bytes.now m args.plan.now)
+    × (c.fill.result ≡ length (exchange_rows args.image.now.shape args.image.now.bytes.now m)))
     c.exchange_of.ensures c.fill.ensures

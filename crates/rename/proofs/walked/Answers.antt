@@ -1,75 +1,68 @@
 -- `rename::walked` meets its contract: a walk refuses, or the steps answer. Assumes nothing.
-use Rattle.rename.proofs.WalkedLaws.{image_readable, refused_walk, walked_case, steps_refuse, case_same, walked_move, planned_name, steps_plan, walked_exchange, steps_exchange}
-use Rattle.rename.specs.Answers.{WalksBegin}
+use Rattle.std.proofs.Common.{Ok, refl, sym, ap, subst, ◌∙◌}
+use Rattle.layout.specs.Code.{code}
+use Rattle.layout.proofs.CodeLaws.{refusal_numbered}
+use Rattle.layout.specs.Seen.{seen}
+use Rattle.walk.specs.Answer.{RangedIn}
+use Rattle.refusals.specs.Answered.{answered}
+use Rattle.rename.proofs.Outs.{answers_as}
+use Rattle.rename.proofs.WalkedLaws.{found_case, image_readable, refused_walk, old_found, walked_case, steps_refuse, case_same, walked_move, found_name, steps_planned, walked_exchange, steps_exchange}
 use Rattle.rename.proofs.walked.Goals as goal
 
-pub both-w-requires : goal.both-w-requires
-both-w-requires c =
-    let given : WalksBegin c.args.image.now c.args.plan.now c.args.q c.args.old.now c.args.new.now c.args.h = record { long = c.requires.0; read = c.requires.1; fine = c.requires.2; good = c.requires.3; flags = c.requires.4 } in
-    (image_readable given, c.requires.3)
+pub invariant_of-tree : goal.invariant_of-tree
+invariant_of-tree c = record { readable = image_readable c.requires }
 
-pub returns-then-r-ne0 : goal.returns-then-r-ne0
-returns-then-r-ne0 c =
-    let given : WalksBegin c.args.image.now c.args.plan.now c.args.q c.args.old.now c.args.new.now c.args.h = record { long = c.requires.0; read = c.requires.1; fine = c.requires.2; good = c.requires.3; flags = c.requires.4 } in
-    refused_walk given c.both-w.ensures c.if-r-ne0.true
+pub both-walks-requires : goal.both-walks-requires
+both-walks-requires c = c.requires.good
 
-pub judge-answer-requires : goal.judge-answer-requires
-judge-answer-requires c =
-    let given : WalksBegin c.args.image.now c.args.plan.now c.args.q c.args.old.now c.args.new.now c.args.h = record { long = c.requires.0; read = c.requires.1; fine = c.requires.2; good = c.requires.3; flags = c.requires.4 } in
-    let known = given in
-    (image_readable known, walked_case known c.both-w.ensures c.if-r-ne0.false c.case_of-c.ensures)
+pub returns-in-Err : goal.returns-in-Err
+returns-in-Err c = answers_as (refused_walk c.requires c.both-walks.ensures _ c.in-Err.is) c.counted.ensures
 
-pub write-requires : goal.write-requires
-write-requires c =
-    let given : WalksBegin c.args.image.now c.args.plan.now c.args.q c.args.old.now c.args.new.now c.args.h = record { long = c.requires.0; read = c.requires.1; fine = c.requires.2; good = c.requires.3; flags = c.requires.4 } in
-    let both = c.both-w.ensures in
-    let none = c.if-r-ne0.false in
-    let is = c.case_of-c.ensures in
-    let judged = c.judge-answer.ensures in
-    let planned = c.in-Planned.is in
-    (c.requires.0, c.requires.1.laid, both.new.range, walked_move given both none is judged planned, planned_name given both none is judged planned)
+pub returns-in-Err-found : goal.returns-in-Err-found
+returns-in-Err-found c =
+    absurd (refusal_numbered _ (sym (ap code c.in-Err-found.is) ∙ old_found c.requires c.both-walks.ensures (ap code c.in-Ok.is)))
 
-pub exchange-requires : goal.exchange-requires
-exchange-requires c =
-    let given : WalksBegin c.args.image.now c.args.plan.now c.args.q c.args.old.now c.args.new.now c.args.h = record { long = c.requires.0; read = c.requires.1; fine = c.requires.2; good = c.requires.3; flags = c.requires.4 } in
-    let both = c.both-w.ensures in
-    let none = c.if-r-ne0.false in
-    let is = c.case_of-c.ensures in
-    let judged = c.judge-answer.ensures in
-    (c.requires.0, c.requires.1.laid, walked_exchange given both none is judged c.in-Exchanged.is)
+pub judge-requires : goal.judge-requires
+judge-requires c =
+    let case = found_case (seen c.args.image.now) c.args.q c.both-walks.result c.in-Ok-found.is c.in-Ok.is c.case_of-c.ensures in
+    (walked_case c.requires c.both-walks.ensures (ap code c.in-Ok.is) case)
 
-pub returns-in-Refused : goal.returns-in-Refused
-returns-in-Refused c =
-    let given : WalksBegin c.args.image.now c.args.plan.now c.args.q c.args.old.now c.args.new.now c.args.h = record { long = c.requires.0; read = c.requires.1; fine = c.requires.2; good = c.requires.3; flags = c.requires.4 } in
-    let both = c.both-w.ensures in
-    let none = c.if-r-ne0.false in
-    let is = c.case_of-c.ensures in
-    let judged = c.judge-answer.ensures in
-    steps_refuse given both none is judged _ c.in-Refused.is
+pub returns-in-Err-judge : goal.returns-in-Err-judge
+returns-in-Err-judge c =
+    let case = found_case (seen c.args.image.now) c.args.q c.both-walks.result c.in-Ok-found.is c.in-Ok.is c.case_of-c.ensures in
+    answers_as (steps_refuse c.requires c.both-walks.ensures (ap code c.in-Ok.is) case c.in-Err-judge.ensures _ refl) c.counted-in-Err-judge.ensures
 
-pub returns-in-Same : goal.returns-in-Same
-returns-in-Same c =
-    let given : WalksBegin c.args.image.now c.args.plan.now c.args.q c.args.old.now c.args.new.now c.args.h = record { long = c.requires.0; read = c.requires.1; fine = c.requires.2; good = c.requires.3; flags = c.requires.4 } in
-    let both = c.both-w.ensures in
-    let none = c.if-r-ne0.false in
-    let is = c.case_of-c.ensures in
-    let judged = c.judge-answer.ensures in
-    case_same given both none is judged c.in-Same.is _ c.clear.ensures
+pub write-rows-requires : goal.write-rows-requires
+write-rows-requires c =
+    let both = c.both-walks.ensures in
+    let none = ap code c.in-Ok.is in
+    let case = found_case (seen c.args.image.now) c.args.q c.both-walks.result c.in-Ok-found.is c.in-Ok.is c.case_of-c.ensures in
+    let judged = c.in-Ok-Planned.ensures in
+    let planned = ap (λ v. answered (Ok v)) c.in-Ok-Planned.field-0-is in (
+      c.requires.long,
+      subst (λ f. RangedIn c.both-walks.result.new.path f) c.in-Ok.is both.new.range,
+      walked_move c.requires both none case judged planned,
+      found_name c.requires both none case judged planned c.in-Ok.is,
+    )
 
-pub returns-in-Planned : goal.returns-in-Planned
-returns-in-Planned c =
-    let given : WalksBegin c.args.image.now c.args.plan.now c.args.q c.args.old.now c.args.new.now c.args.h = record { long = c.requires.0; read = c.requires.1; fine = c.requires.2; good = c.requires.3; flags = c.requires.4 } in
-    let both = c.both-w.ensures in
-    let none = c.if-r-ne0.false in
-    let is = c.case_of-c.ensures in
-    let judged = c.judge-answer.ensures in
-    steps_plan given both none is judged c.in-Planned.is _ _ c.write.ensures
+pub exchange-rows-requires : goal.exchange-rows-requires
+exchange-rows-requires c =
+    let case = found_case (seen c.args.image.now) c.args.q c.both-walks.result c.in-Ok-found.is c.in-Ok.is c.case_of-c.ensures in
+    (c.requires.long, walked_exchange c.requires c.both-walks.ensures (ap code c.in-Ok.is) case c.in-Ok-Exchanged.ensures (ap (λ v. answered (Ok v)) c.in-Ok-Exchanged.field-0-is))
 
-pub returns-in-Exchanged : goal.returns-in-Exchanged
-returns-in-Exchanged c =
-    let given : WalksBegin c.args.image.now c.args.plan.now c.args.q c.args.old.now c.args.new.now c.args.h = record { long = c.requires.0; read = c.requires.1; fine = c.requires.2; good = c.requires.3; flags = c.requires.4 } in
-    let both = c.both-w.ensures in
-    let none = c.if-r-ne0.false in
-    let is = c.case_of-c.ensures in
-    let judged = c.judge-answer.ensures in
-    steps_exchange given both none is judged c.in-Exchanged.is _ _ c.exchange.ensures
+pub returns-in-Ok-Same : goal.returns-in-Ok-Same
+returns-in-Ok-Same c =
+    let case = found_case (seen c.args.image.now) c.args.q c.both-walks.result c.in-Ok-found.is c.in-Ok.is c.case_of-c.ensures in
+    answers_as (case_same c.requires c.both-walks.ensures (ap code c.in-Ok.is) case c.in-Ok-Same.ensures (ap (λ v. answered (Ok v)) c.in-Ok-Same.field-0-is) _ c.clear.ensures) c.counted-in-Ok-Same.ensures
+
+pub returns-in-Ok-Planned : goal.returns-in-Ok-Planned
+returns-in-Ok-Planned c =
+    let case = found_case (seen c.args.image.now) c.args.q c.both-walks.result c.in-Ok-found.is c.in-Ok.is c.case_of-c.ensures in
+    answers_as (steps_planned c.requires c.both-walks.ensures (ap code c.in-Ok.is) case c.in-Ok-Planned.ensures (ap (λ v. answered (Ok v)) c.in-Ok-Planned.field-0-is) c.in-Ok.is _ _ c.write-rows.ensures)
+    c.counted-in-Ok-Planned.ensures
+
+pub returns-in-Ok-Exchanged : goal.returns-in-Ok-Exchanged
+returns-in-Ok-Exchanged c =
+    let case = found_case (seen c.args.image.now) c.args.q c.both-walks.result c.in-Ok-found.is c.in-Ok.is c.case_of-c.ensures in
+    answers_as (steps_exchange c.requires c.both-walks.ensures (ap code c.in-Ok.is) case c.in-Ok-Exchanged.ensures (ap (λ v. answered (Ok v)) c.in-Ok-Exchanged.field-0-is) _ _ c.exchange-rows.ensures)
+    c.counted-in-Ok-Exchanged.ensures

@@ -1,24 +1,14 @@
 -- `rename::write` meets its contract: the name is a range of the path, or there is none. Assumes nothing.
-use mathlib.Core.Path.{◌≡◌, sym, ap, subst}
-use mathlib.Core.List.{List}
-use Prim.Native.Nat.{ℕ, ◌+◌, ◌≤◌}
-use native.Mathlib.Omega.{arith}
-use lib.ListN.{length}
+use Rattle.std.proofs.Common.{◌≡◌, List, ℕ, ◌+◌, ◌≤◌, length, sym, ap, subst, arith}
 use Rattle.seq.specs.Bytes.{part}
 use Rattle.layout.specs.declared.Shape.{Shape}
-use Rattle.component.specs.declared.state.Found.{Found}
-use Rattle.component.specs.State.{finding_of}
+use Rattle.component.specs.State.{finding_by}
 use Rattle.component.proofs.StateLaws.{missing_range}
 use Rattle.recounts.specs.declared.Move.{Move}
 use Rattle.results.specs.InImage.{InImage}
 use Rattle.rename.specs.Order.{name_of}
 use Rattle.moves.specs.Filled.{planned_as}
-use borrow.Author.Rules.{rules}
 use Rattle.rename.proofs.write.Goals as goal
-
--- the name that an answer of the walk gives, said of an answer that is the same
-called : {x y : Found} (path : List ℕ) → x ≡ y → name_of (finding_of path y) ≡ name_of (finding_of path x)
-called path e = sym (ap (λ z. name_of (finding_of path z)) e)
 
 -- what a plan needs of a move and of a name, said of those that are the same
 needed : {h : Shape} {m o : Move} {x y : List ℕ} → m ≡ o → x ≡ y → InImage h o → 8 + length y ≤ h.width → InImage h m × (8 + length x ≤ h.width)
@@ -26,47 +16,18 @@ needed {h} e f inside fits = (subst (InImage h) (sym e) inside, rw f fits)
 
 pub slice_bounds-put-count : goal.slice_bounds-put-count
 slice_bounds-put-count c =
-    let args = c.args in
-    let r = missing_range args.new.path args.new.found _ _ _ _ c.requires.2 c.in-Missing.is in
+    let r = missing_range c.args.path.now c.args.to.name _ _ c.requires.1 c.in-Missing.is in
     omega (arith, r.0, r.1)
 
 pub put-requires : goal.put-requires
 unfolding part
 put-requires c =
-    let args = c.args in
-    let pre = c.requires in
-    let same = needed c.move_of-m.ensures (called args.new.path c.in-Missing.is) pre.3 pre.4 in
-    (search rules, pre.1, same.0, same.1)
-
-pub put-requires-in-Existing : goal.put-requires-in-Existing
-put-requires-in-Existing c =
-    let args = c.args in
-    let pre = c.requires in
-    let same = needed c.move_of-m.ensures (called args.new.path c.in-Existing.is) pre.3 pre.4 in
-    (search rules, pre.1, same.0, same.1)
-
-pub put-requires-in-Nothing : goal.put-requires-in-Nothing
-put-requires-in-Nothing c =
-    let args = c.args in
-    let pre = c.requires in
-    let same = needed c.move_of-m.ensures (called args.new.path c.in-Nothing.is) pre.3 pre.4 in
-    (search rules, pre.1, same.0, same.1)
+    let name = ap (λ n. name_of (finding_by c.args.path.now c.args.to.directory c.args.to.slash n)) c.in-Missing.is in
+    let same = needed c.move_of-m.ensures (sym name) c.requires.2 c.requires.3 in
+    (c.requires.0, same.0, same.1)
 
 pub returns-in-Missing : goal.returns-in-Missing
 unfolding part
 returns-in-Missing c =
-    let args = c.args in
-    let name = called args.new.path c.in-Missing.is in
-    planned_as args.h args.image.now args.plan.now _ _ c.move_of-m.ensures name c.put.ensures
-
-pub returns-in-Existing : goal.returns-in-Existing
-returns-in-Existing c =
-    let args = c.args in
-    let name = called args.new.path c.in-Existing.is in
-    planned_as args.h args.image.now args.plan.now _ _ c.move_of-m.ensures name c.put-in-Existing.ensures
-
-pub returns-in-Nothing : goal.returns-in-Nothing
-returns-in-Nothing c =
-    let args = c.args in
-    let name = called args.new.path c.in-Nothing.is in
-    planned_as args.h args.image.now args.plan.now _ _ c.move_of-m.ensures name c.put-in-Nothing.ensures
+    let name = ap (λ n. name_of (finding_by c.args.path.now c.args.to.directory c.args.to.slash n)) c.in-Missing.is in
+    planned_as c.args.image.now.shape c.args.image.now.bytes.now c.args.plan.now _ _ c.move_of-m.ensures (sym name) c.put.ensures

@@ -9,14 +9,16 @@ use Rattle.tree.proofs.entry_targets.Goals as goal
 
 pub returns-then-target-i : goal.returns-then-target-i
 unfolding view_of
-returns-then-target-i c = simp (and-false, ne_eqb _ _ (λ e. c.if-target-i.true (field_of entry_target c.entry-e.ensures c.target.ensures.0 ∙ e)))
-
-pub returns : goal.returns
-unfolding view_of
-returns c =
+returns-then-target-i c =
     let entry = c.entry-e in
     simp (
-      eq-eqb _ _ (sym (field_of entry_target entry.ensures c.target.ensures.0) ∙ c.if-target-i.false),
+      eq-eqb _ _ (sym (field_of entry_target entry.ensures c.target.ensures.0) ∙ c.if-target-i.true),
       and-true,
       field_of entry_name_length entry.ensures c.name_length.ensures.0,
     )
+
+pub returns-else-target-i : goal.returns-else-target-i
+unfolding view_of
+returns-else-target-i c =
+    let t = field_of entry_target c.entry-e.ensures c.target.ensures.0 in
+    simp (and-false, t, rw t at (ne_eqb _ _ c.if-target-i.false))

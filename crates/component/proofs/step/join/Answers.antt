@@ -6,7 +6,5 @@ use Rattle.component.proofs.step.join.Goals as goal
 pub returns : goal.returns
 unfolding part
 returns c =
-    let args = c.args in
     let pre = c.requires in
-    let splice = c.splice-path in
-    joins args.w args.text.now _ args.e _ _ pre.0 pre.1 pre.2 pre.3 splice.ensures c.start-directory.ensures
+    joins c.args.w c.args.text.now _ c.args.e _ _ pre.0 pre.1 pre.2 pre.3 c.splice-path.ensures c.start-directory.ensures

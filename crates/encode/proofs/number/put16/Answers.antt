@@ -1,14 +1,8 @@
 -- `encode::number::put16` meets its contract. Assumes nothing.
-use native.Mathlib.Numerals.{add-one}
-use native.Mathlib.Omega.{arith}
-use lib.ListN.{length-set}
+use Rattle.std.proofs.Common.{ap, ◌∙◌, take}
 use Rattle.seq.specs.Bytes.{put}
-use Rattle.seq.specs.Number.{bytes_of}
+use Rattle.seq.proofs.SliceLaws.{write_two}
 use Rattle.encode.proofs.number.put16.Goals as goal
 
-pub bounds-d-at-2 : goal.bounds-d-at-2
-bounds-d-at-2 c = simp length-set (omega arith)
-
 pub returns : goal.returns
-unfolding put bytes_of
-returns c = rw add-one
+returns c = c.copy.ensures ∙ ap (put c.args.d.now c.args.at) (ap (take 2) c.to_le_bytes.ensures ∙ write_two c.args.v)

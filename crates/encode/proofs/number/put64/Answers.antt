@@ -1,8 +1,8 @@
 -- `encode::number::put64` meets its contract. Assumes nothing.
-use Rattle.seq.proofs.NumberLaws.{put_four}
+use Rattle.std.proofs.Common.{ap, ◌∙◌}
+use Rattle.seq.specs.Bytes.{put}
+use Rattle.seq.proofs.SliceLaws.{write_eight}
 use Rattle.encode.proofs.number.put64.Goals as goal
 
 pub returns : goal.returns
-returns c =
-    let args = c.args in
-    cc (put_four args.d.now args.at args.v)
+returns c = c.copy.ensures ∙ ap (put c.args.d.now c.args.at) (c.to_le_bytes.ensures ∙ write_eight c.args.v)

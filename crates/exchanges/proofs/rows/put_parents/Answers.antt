@@ -4,10 +4,9 @@ use Rattle.exchanges.proofs.rows.put_parents.Goals as goal
 
 pub returns-then-m : goal.returns-then-m
 returns-then-m c =
-    let args = c.args in
-    parents_one args.h args.image.now args.m c.if-m.true c.put_parent.ensures
+    parents_one c.args.image.now.shape c.args.image.now.bytes.now c.args.m c.if-m.true (rw c.parent.ensures at c.put_inode.ensures)
 
 pub returns : goal.returns
 returns c =
-    let args = c.args in
-    parents_two args.h args.image.now args.m c.if-m.false c.put_parent.ensures c.put_parent-2.ensures
+    parents_two c.args.image.now.shape c.args.image.now.bytes.now c.args.m c.if-m.false (rw c.parent.ensures at c.put_inode.ensures)
+    (rw c.parent-2.ensures at c.put_inode-2.ensures)

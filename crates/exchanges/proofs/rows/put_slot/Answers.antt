@@ -1,17 +1,7 @@
 -- `exchanges::rows::put_slot` meets its contract. Assumes nothing.
-use mathlib.Core.Path.{sym}
-use Prim.Native.Nat.{ℕ}
-use native.Mathlib.Omega.{arith}
-use lib.ListN.{replicate}
-use lib.Seq.{length-take-le}
-use borrow.Author.Rules.{rules}
+use Rattle.plan.proofs.AddedLaws.{added_one}
+use Rattle.exchanges.specs.Exchange.{slot_row}
 use Rattle.exchanges.proofs.rows.put_slot.Goals as goal
 
-pub slice_bounds-put_taken-end : goal.slice_bounds-put_taken-end
-slice_bounds-put_taken-end c = sym (length-take-le _ _ (omega (arith, c.requires.2.width_most)))
-
-pub put_taken-requires : goal.put_taken-requires
-put_taken-requires c =
-    let args = c.args in
-    let laid = c.requires.2 in
-    (search rules, search rules, search rules, search rules, length-take-le args.h.width (replicate {A = ℕ} 64 0) (omega (arith, laid.width_most)))
+pub returns : goal.returns
+returns c = added_one _ (slot_row c.args.image.now.shape c.args.image.now.bytes.now c.args.m) c.push.ensures c.entry_place.ensures c.retarget.ensures

@@ -1,26 +1,21 @@
 -- `layout::bytes::all_zero` meets its contract. Assumes nothing.
-use mathlib.Core.Path.{◌≡◌, sym, ◌∙◌, ap}
-use mathlib.Core.Bool.{◌&&◌}
-use mathlib.Core.List.{List}
-use Prim.Native.Nat.{ℕ, ◌+◌, ◌*◌, ◌-◌, ◌/◌}
-use native.Mathlib.Omega.{arith}
-use Rattle.seq.specs.Bytes.{zeros}
-use Rattle.seq.specs.Truth.{fails, holds}
-use Rattle.seq.proofs.ZeroLaws.{zeros_split}
+use Rattle.std.proofs.Common.{rules, ◌∙◌}
+use Rattle.std.proofs.lemmas.Iterator.{YieldsList-from_slice}
+use Rattle.std.proofs.lemmas.Iterator.Search.{all_from_yields_List}
+use borrow.Author.Tests.{tests}
+use Rattle.seq.proofs.SliceLaws.{zero_piece, zero_byte, zeros_then, zeros_else}
 use Rattle.layout.proofs.bytes.all_zero.Goals as goal
 
--- whole pieces, and the bytes behind them
-pieces-and-rest : (xs : List ℕ) (at n : ℕ) → zeros xs at n ≡ (zeros xs at (8 * (n / 8)) && zeros xs (at + 8 * (n / 8)) (n - 8 * (n / 8)))
-pieces-and-rest xs at n =
-    let e : 8 * (n / 8) + (n - 8 * (n / 8)) ≡ n = omega arith in
-    ap (λ m. zeros xs at m) (sym e) ∙ zeros_split xs at (8 * (n / 8)) (n - 8 * (n / 8))
+pub returns-then-all : goal.returns-then-all
+returns-then-all c =
+    let chunks = c.as_chunks.ensures in
+    zeros_then _ _ _ c.requires
+    (all_from_yields_List zero_piece _ _ _ c.all.ensures.ran (YieldsList-from_slice _ (c.iter.ensures.rest ∙ chunks.front)) (search (rules, tests)))
+    c.if-all.true
+    (all_from_yields_List zero_byte _ _ _ c.all-then-all.ensures.ran (YieldsList-from_slice _ (c.iter-then-all.ensures.rest ∙ chunks.back)) (search (rules, tests)))
 
-pub returns-then-not-pieces_zero : goal.returns-then-not-pieces_zero
-returns-then-not-pieces_zero c =
-    let args = c.args in
-    sym (pieces-and-rest args.s.now args.at args.n ∙ rw (fails c.pieces_zero.ensures c.if-not-pieces_zero.true-raw))
-
-pub returns : goal.returns
-returns c =
-    let args = c.args in
-    c.bytes_zero.ensures ∙ sym (pieces-and-rest args.s.now args.at args.n ∙ rw (holds c.pieces_zero.ensures c.if-not-pieces_zero.false-raw))
+pub returns-else-all : goal.returns-else-all
+returns-else-all c =
+    zeros_else _ _ _ c.requires
+    (all_from_yields_List zero_piece _ _ _ c.all.ensures.ran (YieldsList-from_slice _ (c.iter.ensures.rest ∙ c.as_chunks.ensures.front)) (search (rules, tests)))
+    c.if-all.false

@@ -1,25 +1,7 @@
 -- `layout::number::get16` meets its contract. Assumes nothing.
-use Prim.Native.Nat.{◌+◌}
-use native.Mathlib.Omega.{arith}
-use Rattle.seq.specs.Number.{number_at}
+use Rattle.std.proofs.Common.{◌∙◌}
+use Rattle.seq.proofs.SliceLaws.{read_two}
 use Rattle.layout.proofs.number.get16.Goals as goal
 
-pub overflow_cast-result : goal.overflow_cast-result
-overflow_cast-result c = omega (arith, c.type_inv.s c.args.at)
-
-pub overflow_cast-result-2 : goal.overflow_cast-result-2
-overflow_cast-result-2 c = omega (arith, c.type_inv.s (c.args.at + 1))
-
-pub overflow_mul-result : goal.overflow_mul-result
-overflow_mul-result c = omega (arith, c.type_inv.s (c.args.at + 1))
-
-pub overflow_add-result-2 : goal.overflow_add-result-2
-overflow_add-result-2 c =
-    let args = c.args in
-    omega (arith, c.type_inv.s args.at, c.type_inv.s (args.at + 1))
-
 pub returns : goal.returns
-unfolding number_at
-returns c =
-    let args = c.args in
-    omega (arith, c.type_inv.s args.at, c.type_inv.s (args.at + 1))
+returns c = (rw c.bytes.ensures at c.from_le_bytes.ensures ∙ read_two _ _, c.from_le_bytes.type_inv)

@@ -1,7 +1,7 @@
 -- `layout::number::get32` meets its contract. Assumes nothing.
-use native.Mathlib.Omega.{arith}
-use Rattle.seq.proofs.NumberLaws.{number_two}
+use Rattle.std.proofs.Common.{◌∙◌}
+use Rattle.seq.proofs.SliceLaws.{read_four}
 use Rattle.layout.proofs.number.get32.Goals as goal
 
 pub returns : goal.returns
-returns c = omega (arith, number_two c.args.s.now c.args.at)
+returns c = rw c.bytes.ensures at c.from_le_bytes.ensures ∙ read_four _ _

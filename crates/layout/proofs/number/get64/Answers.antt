@@ -1,7 +1,7 @@
 -- `layout::number::get64` meets its contract. Assumes nothing.
-use native.Mathlib.Omega.{arith}
-use Rattle.seq.proofs.NumberLaws.{number_four}
+use Rattle.std.proofs.Common.{◌∙◌}
+use Rattle.seq.proofs.SliceLaws.{read_eight}
 use Rattle.layout.proofs.number.get64.Goals as goal
 
 pub returns : goal.returns
-returns c = omega (arith, number_four c.args.s.now c.args.at)
+returns c = rw c.bytes.ensures at c.from_le_bytes.ensures ∙ read_eight _ _

@@ -9,7 +9,7 @@ use Rattle.paths.specs.Lookup.{is_named}
 use Rattle.paths.proofs.find.find.Given as goal
 
 abbrev pub invariant-loop-j : goal.invariant-loop-j
-invariant-loop-j l = (l.j ≤ l.n) × (any (is_named (view_of l.h l.image) l.d l.name) l.j ≡ false)
+invariant-loop-j l = (l.j ≤ l.n) × (any (is_named (view_of l.tree.image.shape l.tree.image.bytes.now) l.d l.name) l.j ≡ false)
 
 abbrev pub decreases-loop-j : goal.decreases-loop-j
 decreases-loop-j l = l.n - l.j

@@ -1,21 +1,15 @@
 -- `paths::find::one_of_four` meets its contract. Assumes nothing.
-use mathlib.Core.Path.{sym, ◌∙◌}
-use mathlib.Core.Bool.{false≢true}
+use Rattle.std.proofs.Common.{rules}
 use Rattle.paths.proofs.LookupLaws.{skip_four}
+use Rattle.paths.proofs.find.one_of_four.Goals.{then-lies_in, else-lies_in, then-lies_in-2, else-lies_in-2}
 use Rattle.paths.proofs.find.one_of_four.Goals as goal
 
-pub returns-then-lies_in : goal.returns-then-lies_in
-returns-then-lies_in c = λ e. absurd (false≢true (sym e))
-
-pub returns-then-lies_in-2 : goal.returns-then-lies_in-2
-returns-then-lies_in-2 c = λ e. absurd (false≢true (sym e))
-
-pub returns-then-lies_in-3 : goal.returns-then-lies_in-3
-returns-then-lies_in-3 c = λ e. absurd (false≢true (sym e))
-
-pub returns : goal.returns
-returns c = λ e.
-    skip_four _ _ _ (sym c.lies_in.ensures ∙ c.if-lies_in.false)
-    (sym c.lies_in-2.ensures ∙ c.if-lies_in-2.false)
-    (sym c.lies_in-3.ensures ∙ c.if-lies_in-3.false)
-    (sym c.lies_in-4.ensures ∙ e)
+pub returns-else-lies_in-3 : goal.returns-else-lies_in-3
+returns-else-lies_in-3 c = λ e.
+    elim c.if-lies_in-2.branch [
+      | then-lies_in-2 w ↦ search rules
+      | else-lies_in-2 w ↦ elim c.if-lies_in.branch [
+        | then-lies_in v ↦ search rules
+        | else-lies_in v ↦ skip_four _ _ _ (search rules) (search rules) (search rules) (search rules)
+      ]
+    ]

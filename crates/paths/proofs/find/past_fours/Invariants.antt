@@ -6,7 +6,7 @@ use Rattle.paths.specs.LookupFacts.{Skips}
 use Rattle.paths.proofs.find.past_fours.Given as goal
 
 abbrev pub invariant-loop-j : goal.invariant-loop-j
-invariant-loop-j l = (l.from ≤ l.j) × (l.j ≤ l.n) × Skips (view_of l.h l.image) l.d l.from l.j
+invariant-loop-j l = (l.from ≤ l.j) × (l.j ≤ l.image.shape.entries) × Skips (view_of l.image.shape l.image.bytes.now) l.d l.from l.j
 
 abbrev pub decreases-loop-j : goal.decreases-loop-j
-decreases-loop-j l = l.n - l.j
+decreases-loop-j l = l.image.shape.entries - l.j

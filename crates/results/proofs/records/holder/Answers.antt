@@ -8,4 +8,4 @@ use Rattle.results.proofs.records.holder.Goals as goal
 pub returns : goal.returns
 returns c =
     let args = c.args in
-    c.counted.ensures ∙ ap (λ (n : ℕ). holder_bytes n args.m.now (inode_at args.h args.image.now args.i)) c.links_after-links.ensures.0
+    c.counted.ensures ∙ ap (λ (n : ℕ). holder_bytes n args.m.now (inode_at args.image.now.shape args.image.now.bytes.now args.i)) c.links_after-links.ensures.0

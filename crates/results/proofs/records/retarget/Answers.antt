@@ -7,5 +7,5 @@ use Rattle.results.proofs.records.retarget.Goals as goal
 pub returns : goal.returns
 returns c =
     let entry = c.entry in
-    let copied = c.copy.ensures ∙ put_whole c.args.r.now _ (c.requires.2 ∙ sym entry.ensures.long) ∙ entry.ensures.is in
+    let copied = c.copy.ensures ∙ put_whole c.args.r.now _ (c.requires.1 ∙ sym entry.ensures.long) ∙ entry.ensures.is in
     c.set_target.ensures ∙ ap (retargeted c.args.target) copied

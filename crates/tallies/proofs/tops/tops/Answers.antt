@@ -11,19 +11,19 @@ loop-size-init c = (search rules, table_climbed _ _ _ c.all_above.ensures)
 pub climb-requires : goal.climb-requires
 climb-requires c =
     let args = c.args in
-    (search rules, climbed_within _ _ (above_in args.h args.image.now) _ _ c.loop-size.invariant.1)
+    (search rules, climbed_within _ _ (above_in args.image.now.shape args.image.now.bytes.now) _ _ c.loop-size.invariant.1)
 
 pub returns-then-climb-eq0 : goal.returns-then-climb-eq0
 returns-then-climb-eq0 c =
     let args = c.args in
     let climb = c.climb in
     tops_rooted _ _ _ _ (climb.ensures.1 c.if-climb-eq0.true)
-    (round_climbed _ _ (above_in args.h args.image.now) _ _ _ climb.ensures.0 c.loop-size.invariant.1)
+    (round_climbed _ _ (above_in args.image.now.shape args.image.now.bytes.now) _ _ _ climb.ensures.0 c.loop-size.invariant.1)
 
 pub loop-size-preserved : goal.loop-size-preserved
 loop-size-preserved c =
     let args = c.args in
-    (search rules, round_climbed _ _ (above_in args.h args.image.now) _ _ _ c.climb.ensures.0 c.loop-size.invariant.1)
+    (search rules, round_climbed _ _ (above_in args.image.now.shape args.image.now.bytes.now) _ _ _ c.climb.ensures.0 c.loop-size.invariant.1)
 
 pub returns : goal.returns
 returns c = tops_far _ _ _ _ (omega arith) c.loop-size.invariant.1

@@ -7,7 +7,7 @@ use Rattle.tallies.specs.Tallies.{above}
 use Rattle.tallies.proofs.tops.tops.Given as goal
 
 abbrev pub invariant-loop-size : goal.invariant-loop-size
-invariant-loop-size l = (1 ≤ l.size) × Climbed (above (view_of l.h l.image)) l.size l.h.inodes l.to
+invariant-loop-size l = (1 ≤ l.size) × Climbed (above (view_of l.image.shape l.image.bytes.now)) l.size l.image.shape.inodes l.to
 
 abbrev pub decreases-loop-size : goal.decreases-loop-size
-decreases-loop-size l = l.h.inodes - l.size
+decreases-loop-size l = l.image.shape.inodes - l.size

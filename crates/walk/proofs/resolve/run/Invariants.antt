@@ -10,7 +10,7 @@ use Rattle.walk.proofs.resolve.run.Given as goal
 
 abbrev pub invariant-loop-w : goal.invariant-loop-w
 invariant-loop-w l =
-    Fit l.w × Ready (position_of l.w) × (walk_from (view_of l.h l.image) l.who l.last step_limit (position_of l.w) ≡ walk_from (view_of l.h l.image) l.who l.last step_limit (position_of l.initial.w))
+    Fit l.w × Ready (position_of l.w) × (walk_from (view_of l.tree.image.shape l.tree.image.bytes.now) l.who l.last step_limit (position_of l.w) ≡ walk_from (view_of l.tree.image.shape l.tree.image.bytes.now) l.who l.last step_limit (position_of l.initial.w))
 
 abbrev pub decreases-loop-w : goal.decreases-loop-w
 decreases-loop-w l = budget (position_of l.w)

@@ -8,5 +8,5 @@ pub returns : goal.returns
 returns c =
     let args = c.args in
     let pre = c.requires in
-    walk_answered (view_of args.h args.image.now) args.who args.last args.current args.start args.path.now c.resolve.result
-    (readable_text args.h args.image.now pre.0) pre.1 c.resolve.ensures
+    walk_answered (view_of args.tree.now.image.shape args.tree.now.image.bytes.now) args.who args.last args.current args.start args.path.now c.resolve.result
+    (readable_text args.tree.now.image.shape args.tree.now.image.bytes.now c.args.tree.now.readable) pre c.resolve.ensures

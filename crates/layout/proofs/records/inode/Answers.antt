@@ -1,9 +1,0 @@
--- `layout::records::inode` meets its contract. Assumes nothing.
-use mathlib.Core.Path.{refl}
-use lib.Dec.{lit<}
-use Rattle.layout.proofs.RecordLaws.{reads_record}
-use Rattle.layout.proofs.records.inode.Goals as goal
-
-pub returns : goal.returns
-returns c =
-    reads_record c.args.h c.args.image.now 0 c.args.i _ _ c.requires.0.long (lit< tt) c.requires.1 c.inode-at.ensures refl

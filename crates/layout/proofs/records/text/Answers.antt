@@ -1,9 +1,0 @@
--- `layout::records::text` meets its contract. Assumes nothing.
-use mathlib.Core.Path.{refl}
-use lib.Dec.{lit<}
-use Rattle.layout.proofs.RecordLaws.{reads_record}
-use Rattle.layout.proofs.records.text.Goals as goal
-
-pub returns : goal.returns
-returns c =
-    reads_record c.args.h c.args.image.now 2 c.args.t _ _ c.requires.0.long (lit< tt) c.requires.1 c.text-at.ensures refl
