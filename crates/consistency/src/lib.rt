@@ -9,7 +9,6 @@ ghost use Rattle.consistency.specs.Consistent.{records_number, check_number};
 use layout::errno::Errno;
 use layout::image::Image;
 use layout::limits;
-use tallies::Tallies;
 
 pub mod entries;
 pub mod handles;
@@ -23,11 +22,11 @@ pub fn bodies_good(image: &Image<'_>) -> bool
     if !image.is_directory(0) {
         return false;
     }
-    let tallies = Tallies::of(image);
-    inodes::all_good(&tallies)
+    let owners = tallies::text_owners(image);
+    inodes::all_good(image, &owners)
         && entries::all_good(image)
         && !duplicates::has_duplicate(image)
-        && texts::all_good(&tallies)
+        && texts::all_good(image, &owners)
         && handles::all_good(image)
 }
 

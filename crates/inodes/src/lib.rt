@@ -5,6 +5,7 @@ ghost use Rattle.std.specs.Prelude.{◌≡◌, true, ◌<◌};
 ghost use Rattle.seq.specs.Search.{all};
 ghost use Rattle.layout.specs.Seen.{seen};
 ghost use Rattle.layout.specs.View.{is_directory, text_used};
+ghost use Rattle.tallies.specs.Tallies.{TextOwners};
 ghost use Rattle.tree.specs.Inode.{leaf_good, file_good, directory_placed, directory_good, symlink_good, inode_good};
 
 use layout::image::Image;
@@ -98,9 +99,22 @@ fn good(tallies: &Tallies<'_>, i: usize) -> bool
     }
 }
 
-// Whether every inode is consistent.
-pub fn all_good(tallies: &Tallies<'_>) -> bool
-    ensures { result ≡ all (inode_good tallies.now.image.shape tallies.now.image.bytes.now) tallies.now.image.shape.inodes }
+// Whether every inode is consistent. The owners of the texts are handed in, since the texts are tested by them too.
+pub fn all_good(image: &Image<'_>, owners: &[u16; 65]) -> bool
+    requires { TextOwners image.now.shape image.now.bytes.now owners.now }
+    ensures { result ≡ all (inode_good image.now.shape image.now.bytes.now) image.now.shape.inodes }
 {
-    (0..tallies.image.shape.inodes).all(|i| good(tallies, i))
+    let mut entries = [0; 513];
+    let mut children = [0; 513];
+    tallies::counts(image, &mut entries, &mut children);
+    let mut tops = [0; 512];
+    tallies::tops::tops(image, &mut tops);
+    let tallies = Tallies {
+        image: *image,
+        entries: &entries,
+        children: &children,
+        tops: &tops,
+        owners,
+    };
+    (0..image.shape.inodes).all(|i| good(&tallies, i))
 }

@@ -13,45 +13,27 @@ ghost use Rattle.tallies.specs.Tallies.{target_slot, holder_slot, text_slot, Bla
 use layout::image::Image;
 use layout::limits;
 
-mod tops;
+pub mod tops;
 
-// An image with what check counts and looks for of every inode, which one function fills for all of them.
-#[derive(Drop)]
+// An image with what check counts and looks for of every inode. The tables are lent, so that none is copied.
+#[derive(Clone, Copy)]
 pub struct Tallies<'a> {
     pub image: Image<'a>,
     // How many entries target each inode.
-    entries: [u16; 513],
+    pub entries: &'a [u16; 513],
     // How many child directories each directory has.
-    children: [u16; 513],
+    pub children: &'a [u16; 513],
     // Where the way up from each directory leads.
-    tops: [u16; 512],
+    pub tops: &'a [u16; 512],
     // The first symlink that has each text.
-    owners: [u16; 65],
-    ghost counted: { EntryCounts image.shape image.bytes.now entries },
-    ghost held: { ChildCounts image.shape image.bytes.now children },
-    ghost climbed: { Tops image.shape image.bytes.now tops },
-    ghost owned: { TextOwners image.shape image.bytes.now owners },
+    pub owners: &'a [u16; 65],
+    ghost counted: { EntryCounts image.shape image.bytes.now entries.now },
+    ghost held: { ChildCounts image.shape image.bytes.now children.now },
+    ghost climbed: { Tops image.shape image.bytes.now tops.now },
+    ghost owned: { TextOwners image.shape image.bytes.now owners.now },
 }
 
-impl<'a> Tallies<'a> {
-    pub fn of(image: &Image<'a>) -> Tallies<'a>
-        ensures { result.image ≡ image.now }
-    {
-        let mut entries = [0; 513];
-        let mut children = [0; 513];
-        counts(image, &mut entries, &mut children);
-        let mut tops = [0; 512];
-        tops::tops(image, &mut tops);
-        let owners = text_owners(image);
-        Tallies {
-            image: *image,
-            entries,
-            children,
-            tops,
-            owners,
-        }
-    }
-
+impl Tallies<'_> {
     // How many entries target inode i.
     pub fn entries(&self, i: usize) -> usize
         requires { i < self.now.image.shape.inodes }
@@ -114,7 +96,7 @@ fn holder_slot(image: &Image<'_>, j: usize) -> usize
 }
 
 // How many entries target each inode, and how many child directories each directory has. Both tables are the caller's, so that none is copied.
-fn counts(image: &Image<'_>, entries: &mut [u16; 513], children: &mut [u16; 513])
+pub fn counts(image: &Image<'_>, entries: &mut [u16; 513], children: &mut [u16; 513])
     requires { Blank 513 entries.old × Blank 513 children.old }
     ensures { EntryCounts image.now.shape image.now.bytes.now entries.new × ChildCounts image.now.shape image.now.bytes.now children.new }
 {
@@ -139,7 +121,7 @@ fn text_slot(image: &Image<'_>, i: usize) -> usize
 }
 
 // The first symlink that has each text; the number of inodes where none has it. It is filled from the last inode down, so that the first stays.
-fn text_owners(image: &Image<'_>) -> [u16; 65]
+pub fn text_owners(image: &Image<'_>) -> [u16; 65]
     ensures { TextOwners image.now.shape image.now.bytes.now result }
 {
     let n = image.shape.inodes;
