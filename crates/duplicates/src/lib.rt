@@ -2,6 +2,7 @@
 #![tactic(auto)]
 
 ghost use Rattle.std.specs.Prelude.{◌≡◌, ◌<◌, ◌≤◌, length};
+ghost use Rattle.std.specs.Option.{IfSome};
 ghost use Rattle.layout.specs.Seen.{seen};
 ghost use Rattle.names.specs.NameTests.{has_duplicate, Named};
 ghost use Rattle.duplicates.specs.Bucket.{mixed_of, bucket_at, buckets};
@@ -46,20 +47,20 @@ fn bucket(image: &Image<'_>, j: usize) -> usize
     }
 }
 
-// Whether two entries share parent and name: a search over the pairs of each bucket, left at the first. `heads` has one more than the last entry of each
-// bucket so far, `nexts` the same for the one before each entry. After as many pairs as there may be entries it turns to their order, so that names
-// chosen to crowd into one bucket cost no search over all pairs.
-pub fn has_duplicate(image: &Image<'_>) -> bool
+// The search by buckets: over the pairs of each, left at the first that clash. `heads` has one more than the last entry of each bucket so
+// far, `nexts` the same for the one before each entry. After as many pairs as there may be entries it gives up, and answers nothing.
+fn by_bucket(image: &Image<'_>) -> Option<bool>
     requires { Named image.now.shape image.now.bytes.now }
-    ensures { result ≡ has_duplicate (seen image.now) }
+    ensures { IfSome result (λ found. found ≡ has_duplicate (seen image.now)) }
 {
     let mut heads = [0u16; BUCKETS];
     let mut nexts = [0u16; limits::ENTRY_LIMIT];
     let mut left = limits::ENTRY_LIMIT;
-    for j in 0..image.shape.entries {
+    let mut found = Some(false);
+    'pairs: for j in 0..image.shape.entries {
         let b = bucket(image, j);
         if b == BUCKETS {
-            continue;
+            continue 'pairs;
         }
         let head = heads[b];
         nexts[j] = head;
@@ -67,15 +68,29 @@ pub fn has_duplicate(image: &Image<'_>) -> bool
         let mut at = usize::from(head);
         while 0 < at {
             if left == 0 {
-                return order::has_duplicate(image);
+                found = None;
+                break 'pairs;
             }
             left -= 1;
             let i = at - 1;
             if names::pairs::entries_clash(image, i, j) {
-                return true;
+                found = Some(true);
+                break 'pairs;
             }
             at = usize::from(nexts[i]);
         }
     }
-    false
+    found
+}
+
+// Whether two entries share parent and name: by buckets, and where that gives up by the entries' order, so that names chosen to crowd into
+// one bucket cost no search over all pairs. The tables of buckets are gone by then: the stack never holds them beside those of the order.
+pub fn has_duplicate(image: &Image<'_>) -> bool
+    requires { Named image.now.shape image.now.bytes.now }
+    ensures { result ≡ has_duplicate (seen image.now) }
+{
+    match by_bucket(image) {
+        Some(found) => found,
+        None => order::has_duplicate(image),
+    }
 }
