@@ -21,11 +21,14 @@ pub fn covers(h: Shape, at: usize, n: usize) -> bool
     ensures { result ≡ covers h at n }
 {
     let entries = limits::CONTENTS_BYTES + limits::INODE_BYTES * h.inodes;
-    let texts = entries + h.width * h.entries;
-    let handles = texts + limits::TEXT_BYTES * h.texts;
-    let journal = handles + limits::HANDLE_BYTES * h.handles;
     one_of(limits::CONTENTS_BYTES, limits::INODE_BYTES, h.inodes, at, n)
         || one_of(entries, h.width, h.entries, at, n)
-        || one_of(texts, limits::TEXT_BYTES, h.texts, at, n)
-        || one_of(journal, limits::JOURNAL_BYTES, 1, at, n)
+        || {
+            // only here, so that a landing has no more on its stack than it needs
+            let texts = entries + h.width * h.entries;
+            let handles = texts + limits::TEXT_BYTES * h.texts;
+            let journal = handles + limits::HANDLE_BYTES * h.handles;
+            one_of(texts, limits::TEXT_BYTES, h.texts, at, n)
+                || one_of(journal, limits::JOURNAL_BYTES, 1, at, n)
+        }
 }
