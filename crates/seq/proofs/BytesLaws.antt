@@ -1,8 +1,8 @@
 -- Laws of ranges of bytes: what is read back from a part that was written, and what stays. Assumes nothing.
 use Rattle.std.specs.Prelude.{◌≡◌, refl, ◌⊎◌, true, List, [], ◌∷◌, ◌++◌, ℕ, zero, suc, ◌+◌, ◌-◌, ◌<◌, ◌≤◌, eqb, length, get_or, take, drop, set, replicate}
-use Rattle.std.proofs.Common.{sym, ap, ◌∙◌, ⊎_elim, append-nil, add-zero, zero-add, not-suc-le-zero, le_of_suc-le-suc, lt_irrefl, arith, length-set, length-take, length-drop, length-append, drop_of_length-le, get_or-set_same, get_or-set_other, ext_get_or, get_or-take, get_or-drop, take-take, eqb-true, eq-eqb}
+use Rattle.std.proofs.Common.{sym, ap, ◌∙◌, ⊎_elim, append-nil, add-zero, zero-add, not-suc-le-zero, le_of_suc-le-suc, lt_irrefl, add-one, arith, length-set, length-take, length-drop, length-append, drop_of_length-le, get_or-set_same, get_or-set_other, take-suc, length-take-le, ext_get_or, get_or-take, get_or-drop, take-take, eqb-true, eq-eqb}
 use Rattle.std.proofs.Math.Nat.{add-sub_cancel_left}
-use Rattle.std.proofs.lemmas.List.{length-replicate, get_or-replicate}
+use Rattle.std.proofs.lemmas.List.{length-replicate, get_or-replicate, replicate-append-replicate}
 use Rattle.std.proofs.lemmas.List.Edits.{sets-eq}
 use Rattle.std.proofs.Math.Seq.{length-sets}
 use Rattle.seq.specs.Bytes.{part, put, equal_bytes, zeros}
@@ -89,6 +89,12 @@ put_inside (y ∷ ys) xs at (suc k) h l =
     let e : at + suc k ≡ suc at + k = omega arith in
     rw e (put_inside ys (set xs at y) (suc at) k (rw length-set (omega arith)) (le_of_suc-le-suc l))
 
+-- a turn of a loop that copies s over xs from index at on
+pub put_more : (xs : List ℕ) (at : ℕ) (s : List ℕ) (k : ℕ) → k < length s → set (put xs at (take k s)) (at + k) (get_or s k 0) ≡ put xs at (take (k + 1) s)
+put_more xs at s k h =
+    let l : length (take k s) ≡ k = length-take-le k s (omega arith) in
+    rw (add-one, take-suc s k 0 h, ← put_join, l, put_one)
+
 -- the part that was written is what was put there; a part elsewhere is as before
 pub put_part : (xs : List ℕ) (at : ℕ) (ys : List ℕ) → at + length ys ≤ length xs → part (put xs at ys) at (length ys) ≡ ys
 put_part xs at ys h =
@@ -147,6 +153,13 @@ put_within xs ys at us l h =
     let e : length (put ys at us) ≡ length ys = put_length ys at us in
     ap (λ (zs : List ℕ). put zs at us) (put_eq xs 0 ys (omega arith)) ∙ put_front us ys (drop (0 + length ys) xs) at h
     ∙ ap (λ (n : ℕ). put ys at us ++ drop (0 + n) xs) (sym e) ∙ sym (put_eq xs 0 (put ys at us) (omega arith))
+
+-- a turn of a loop that clears xs from the front
+pub put_zero : (xs : List ℕ) (k : ℕ) → set (put xs 0 (replicate k 0)) k 0 ≡ put xs 0 (replicate (k + 1) 0)
+put_zero xs k =
+    let e : 0 + length (replicate {A = ℕ} k 0) ≡ k = zero-add _ ∙ length-replicate k 0 in
+    sym (put_one _ k 0) ∙ ap (λ (n : ℕ). put (put xs 0 (replicate k 0)) n (0 ∷ [])) (sym e)
+    ∙ put_join (replicate k 0) xs 0 (0 ∷ []) ∙ ap (λ (zs : List ℕ). put xs 0 zs) (replicate-append-replicate k 1 0)
 
 pub take_zeros : (n m : ℕ) → n ≤ m → take {A = ℕ} n (replicate m 0) ≡ replicate n 0
 take_zeros zero m l = refl
