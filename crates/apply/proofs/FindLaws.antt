@@ -1,7 +1,7 @@
 -- How the record that a row covers is found: by division within a section, section by section. Assumes nothing.
-use Rattle.std.specs.Prelude.{◌≡◌, refl, Bool, true, false, ◌&&◌, ◌||◌, List, ℕ, ◌+◌, ◌-◌, ◌*◌, ◌/◌, ◌%◌, ◌≤◌, ◌<◌, eqb, leb}
+use Rattle.std.specs.Prelude.{◌≡◌, refl, Bool, true, false, ◌&&◌, ◌||◌, List, ℕ, zero, suc, ◌+◌, ◌-◌, ◌*◌, ◌/◌, ◌%◌, ◌≤◌, ◌<◌, eqb, leb}
 use Rattle.std.proofs.Math.Path.{ap}
-use Rattle.std.proofs.Common.{◌∙◌, mul-le-mul, arith}
+use Rattle.std.proofs.Common.{◌∙◌, mul-le-mul, add-one, arith}
 use Rattle.std.proofs.Math.Nat.{add-sub_cancel_left, mul-mod_right, mul-div_right, div-add-mod}
 use Rattle.std.proofs.Math.Dec.{ltb}
 use Rattle.std.proofs.Math.Decide.{ℕ_discrete, dec_le}
@@ -11,9 +11,9 @@ use Rattle.seq.specs.Truth.{refuted, and_left, and_right, and_both, same_truth}
 use Rattle.seq.proofs.SearchLaws.{any_hit, any_at}
 use Rattle.layout.specs.declared.Shape.{Shape}
 use Rattle.layout.specs.Limits.{widest_entry, entry_limit}
-use Rattle.layout.specs.Place.{image_bytes}
+use Rattle.layout.specs.Place.{record_bytes, records, base, image_bytes}
 use Rattle.layout.specs.Facts.{Laid}
-use Rattle.plan.specs.Fit.{covers_record, covers_section, covers}
+use Rattle.plan.specs.Fit.{coverable, covers_record, covers_section, covers}
 use Rattle.apply.specs.Find.{one_of, Bounded}
 
 -- the ways out of finding it
@@ -71,6 +71,49 @@ laid_image h s l =
 
 pub laid_bounded : (h : Shape) (s : List ℕ) → Laid h s → Bounded h
 laid_bounded h s l = record { width_least = omega (arith, l.width_least); image_most = laid_image h s l }
+
+-- each section ends in the image
+section_ends : (h : Shape) (k : ℕ) → k < 5 → base h k + record_bytes h k * records h k ≤ image_bytes h
+section_ends h zero l = omega arith
+section_ends h (suc zero) l = omega arith
+section_ends h (suc (suc zero)) l = omega arith
+section_ends h (suc (suc (suc zero))) l = omega arith
+section_ends h (suc (suc (suc (suc zero)))) l = omega arith
+section_ends h (suc (suc (suc (suc (suc k))))) l = absurd (omega arith)
+
+-- one turn of the search through the sections, where start, width and count are section k's
+module _ (h : Shape) (k start width count : ℕ) (a : start ≡ base h k) (b : width ≡ record_bytes h k) (c : count ≡ records h k) where
+  pub section_is : (at n : ℕ) → (coverable k && one_of start width count at n) ≡ covers_section h at n k
+  unfolding one_of covers_section
+  section_is at n = rw (a, b, c)
+
+  pub section_next : start + width * count ≡ base h (k + 1)
+  section_next = rw (a, b, c, add-one)
+
+  pub section_room : Bounded h → k < 5 → start + width * count ≤ 131072
+  section_room bounded l = rw (a, b, c) (let e = section_ends h k l in omega (arith, bounded.image_most))
+
+-- the last section, and the sections that are not the handles'
+pub bytes_last : (h : Shape) (k : ℕ) → 4 ≤ k → record_bytes h k ≡ 32
+bytes_last h zero l = absurd (omega arith)
+bytes_last h (suc zero) l = absurd (omega arith)
+bytes_last h (suc (suc zero)) l = absurd (omega arith)
+bytes_last h (suc (suc (suc zero))) l = absurd (omega arith)
+bytes_last h (suc (suc (suc (suc k)))) l = refl
+
+pub records_last : (h : Shape) (k : ℕ) → 4 ≤ k → records h k ≡ 1
+records_last h zero l = absurd (omega arith)
+records_last h (suc zero) l = absurd (omega arith)
+records_last h (suc (suc zero)) l = absurd (omega arith)
+records_last h (suc (suc (suc zero))) l = absurd (omega arith)
+records_last h (suc (suc (suc (suc k)))) l = refl
+
+pub coverable_else : (k : ℕ) → (k ≡ 3 → ⊥) → coverable k ≡ true
+coverable_else zero ne = refl
+coverable_else (suc zero) ne = refl
+coverable_else (suc (suc zero)) ne = refl
+coverable_else (suc (suc (suc zero))) ne = absurd (ne refl)
+coverable_else (suc (suc (suc (suc k)))) ne = refl
 
 -- the sections, one after another
 pub covers_is : (h : Shape) (at n : ℕ) → covers h at n

@@ -1,6 +1,7 @@
 -- What the code asks of the bodies, by type and state, is the rules one by one. Assumes nothing.
 use Rattle.std.specs.Prelude.{◌≡◌, refl, Bool, true, false, ◌&&◌, not, List, [], ◌∷◌, ℕ, ◌<◌}
-use Rattle.std.proofs.Common.{sym}
+use Rattle.std.proofs.Common.{sym, ◌∙◌}
+use Rattle.std.proofs.Math.Bool.{and-false}
 use Rattle.std.proofs.lemmas.Bool.{not-true}
 use Rattle.seq.specs.Search.{all, all_pass}
 use Rattle.seq.specs.Truth.{one_truth, and_left, and_right}
@@ -74,3 +75,33 @@ module _ (h : Shape) (s : List ℕ) where
       && all (text_good h s) h.texts && all (handle_good h s) h.handles)
   unfolding bodies_checked
   bodies_asked = sym bodies_same
+
+  -- ---- the ways out of the code, one test after another
+
+  answer_by : {b : Bool} → b ≡ bodies_checked h s → b ≡ bodies_good h s
+  answer_by e = e ∙ bodies_same
+
+  pub out_root : is_directory (view_of h s) 0 ≡ false → false ≡ bodies_good h s
+  unfolding bodies_checked
+  out_root e = answer_by (rw e)
+
+  pub out_inodes : all (inode_good h s) h.inodes ≡ false → false ≡ bodies_good h s
+  unfolding bodies_checked
+  out_inodes e = answer_by (simp (and-false, e))
+
+  pub out_entries : all (entry_good h s) h.entries ≡ false → false ≡ bodies_good h s
+  unfolding bodies_checked
+  out_entries e = answer_by (simp (and-false, e))
+
+  pub out_names : has_duplicate (view_of h s) ≡ true → false ≡ bodies_good h s
+  unfolding bodies_checked
+  out_names e = answer_by (simp (and-false, e))
+
+  pub out_texts : all (text_good h s) h.texts ≡ false → false ≡ bodies_good h s
+  unfolding bodies_checked
+  out_texts e = answer_by (simp (and-false, e))
+
+  pub out_handles : is_directory (view_of h s) 0 ≡ true → all (inode_good h s) h.inodes ≡ true → all (entry_good h s) h.entries ≡ true
+      → has_duplicate (view_of h s) ≡ false → all (text_good h s) h.texts ≡ true → (b : Bool) → b ≡ all (handle_good h s) h.handles → b ≡ bodies_good h s
+  unfolding bodies_checked
+  out_handles root inodes entries names texts b e = answer_by (rw (root, inodes, entries, names, texts) e)

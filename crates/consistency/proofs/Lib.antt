@@ -1,5 +1,7 @@
+pub mod EntryLaws
 pub mod EntryFits
 pub mod StateTests
+pub mod TextLaws
 pub mod ConsistentLaws
 pub mod Bench
 pub mod RecordFactLaws

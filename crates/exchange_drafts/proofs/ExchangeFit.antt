@@ -1,13 +1,13 @@
--- A pending exchange that fits: the numbers' ranges, and one law for each way out of its draft (rules 106a and 108a). Assumes nothing.
+-- A pending exchange that fits: the tests' last ways out, the numbers' ranges, and one law for each way out of its draft (rules 106a and 108a). Assumes nothing.
 use Rattle.std.specs.Prelude.{◌≡◌, ◌≢◌, true, false, ◌&&◌, List, ℕ, ◌<◌, ltb}
 use Rattle.std.proofs.Math.Option.{none, some}
 use Rattle.std.proofs.Math.Dec.{eqb}
 use Rattle.std.proofs.lemmas.Bool.{eqb-false, not-true}
-use Rattle.std.proofs.Common.{ltb-true}
+use Rattle.std.proofs.Common.{ltb-true, lt-ltb, eq-eqb}
 use Rattle.seq.specs.Truth.{and_left, and_right}
 use Rattle.layout.specs.declared.Shape.{Shape}
 use Rattle.layout.specs.Limits.{absent}
-use Rattle.layout.specs.View.{view_of, is_directory}
+use Rattle.layout.specs.View.{View, view_of, is_directory}
 use Rattle.layout.proofs.ViewLaws.{is_kind_below}
 use Rattle.encode.specs.declared.journal.Journal.{Journal}
 use Rattle.recounts.specs.declared.Move.{Move}
@@ -15,6 +15,17 @@ use Rattle.exchanges.specs.InImage.{BothInImage}
 use Rattle.rename_drafts.specs.PendingRename.{different, move_from, into_good}
 use Rattle.exchange_drafts.specs.PendingExchange.{both_in_range, both_different, slot_stands, slots_stand, exchange_fits, finishing_exchange, exchange_draft}
 use Rattle.rename_drafts.proofs.Fit.{five}
+
+-- ---- the tests' last ways out
+
+pub both_range_last : (h : Shape) (j : Journal) → j.old < h.entries → j.new < h.entries → j.moved < h.inodes → j.replaced < h.inodes
+    → both_in_range h j ≡ eqb j.text absent
+both_range_last h j old new moved replaced = rw (lt-ltb _ _ old, lt-ltb _ _ new, lt-ltb _ _ moved, lt-ltb _ _ replaced)
+
+pub slots_last : (v : View) (j : Journal) → slot_stands v j j.old ≡ true → slot_stands v j j.new ≡ true → v.parent j.old ≡ j.parent
+    → slots_stand v j ≡ into_good v (move_from v j)
+unfolding slots_stand
+slots_last v j old new parent = rw (old, new, eq-eqb _ _ parent)
 
 -- ---- numbers in range
 

@@ -1,6 +1,6 @@
 -- The rows of an exchange in a plan: all of them in order, how many they are, and what an operation owes for each (rule 84). Assumes nothing.
-use Rattle.std.specs.Prelude.{◌≡◌, refl, ◌≢◌, not, List, [], ◌∷◌, ℕ, ◌≤◌, ◌<◌, eqb, length}
-use Rattle.std.proofs.Common.{◌∙◌, arith, lit<, lit≤, eq-eqb, ne_eqb}
+use Rattle.std.specs.Prelude.{◌≡◌, refl, ◌≢◌, not, List, [], ◌∷◌, ℕ, ◌+◌, ◌≤◌, ◌<◌, eqb, length}
+use Rattle.std.proofs.Common.{ap, ◌∙◌, arith, lit<, lit≤, eq-eqb, ne_eqb}
 use Rattle.std.proofs.Math.ListN.{length-append}
 use Rattle.seq.specs.Bytes.{put}
 use Rattle.seq.proofs.BytesLaws.{put_length}
@@ -10,12 +10,12 @@ use Rattle.layout.proofs.RecordLaws.{record_length}
 use Rattle.layout.specs.View.{inode_at}
 use Rattle.encode.specs.Journal.{exchange_kind}
 use Rattle.plan.specs.declared.rows.Rows.{Rows}
-use Rattle.plan.specs.Form.{plan_bytes, entry_group, result_group}
+use Rattle.plan.specs.Form.{plan_rows, plan_bytes, row_stored, entry_group, result_group}
 use Rattle.plan.specs.FitFacts.{Writes}
-use Rattle.plan.specs.Write.{inode_key}
-use Rattle.plan.specs.Filled.{AllWrites}
+use Rattle.plan.specs.Write.{inode_key, row_from}
+use Rattle.plan.specs.Filled.{AllWrites, Filled}
 use Rattle.plan.specs.Added.{no_rows, Added}
-use Rattle.plan.proofs.WriteLaws.{writes_join}
+use Rattle.plan.proofs.WriteLaws.{filled_one, filled_join, writes_join}
 use Rattle.plan.proofs.AddedLaws.{added_join, rows_stored}
 use Rattle.recounts.specs.declared.Move.{Move}
 use Rattle.results.specs.Results.{moved_after, moved_row, clear_row}
@@ -45,9 +45,28 @@ module _ (h : Shape) (s : List ℕ) (m : Move) where
       → Added h p (parent_rows h s m) r
   parents_two n a b = added_join h a (when_one h (parent_row h s m m.into) (not (eqb m.into m.from)) (rw (ne_eqb _ _ n)) b)
 
+  -- the other side as the code has it
+  module _ (o : Move) (is : o ≡ back m) where
+    pub slots_filled : {p a b : List ℕ} {i : ℕ} → a ≡ row_stored p i (row_from h (slot_row h s o)) → b ≡ row_stored a (i + 1) (row_from h (slot_row h s m))
+        → Filled h p i (slot_rows h s m) b (i + 2)
+    slots_filled {p} {a} {b} {i} first second =
+        let two : i + 1 + 1 ≡ i + 2 = omega arith in
+        rw (← two) (filled_join h (filled_one h (slot_row h s (back m)) (first ∙ ap (λ (x : Move). row_stored p i (row_from h (slot_row h s x))) is))
+        (filled_one h (slot_row h s m) second))
+
+    pub inodes_filled : {p a b c : List ℕ} {i n : ℕ} → a ≡ row_stored p i (row_from h (moved_row h s m)) → Filled h a (i + 1) (parent_rows h s m) b n
+        → c ≡ row_stored b n (row_from h (moved_row h s o)) → Filled h p i (inode_rows h s m) c (n + 1)
+    inodes_filled {p} {a} {b} {c} {i} {n} first rest last =
+        filled_join h (filled_one h (moved_row h s m) first)
+        (filled_join h rest (filled_one h (moved_row h s (back m)) (last ∙ ap (λ (x : Move). row_stored b n (row_from h (moved_row h s x))) is)))
+
   pub exchange_added : {p q r : Rows} → Added h p (slot_rows h s m) q → Added h q (inode_rows h s m) r → Added h p (exchange_results h s m) r
   unfolding exchange_results
   exchange_added slots inodes = added_join h slots inodes
+
+  -- there is a place behind them
+  pub exchange_below : {p q : List ℕ} {n : ℕ} → Filled h p 1 (exchange_results h s m) q n → n < plan_rows
+  exchange_below f = omega (arith, f.next, exchange_le)
 
   -- all rows, copied over a plan's buffer
   pub exchange_stored : (buffer : List ℕ) {a b q : Rows} → plan_bytes ≤ length buffer → Added h no_rows (start_row exchange_kind m ∷ []) a

@@ -56,6 +56,12 @@ module _ (s : List ℕ) (h : Shape) (long : contents_bytes ≤ length s) (shape 
       picked true = refl
       picked false = refl
 
+  pub contents_right : rows_good s h ≡ true → contents_of s ≡ Some h
+  contents_right e = rw e at contents_from_rows
+
+  pub contents_wrong : rows_good s h ≡ false → contents_of s ≡ None
+  contents_wrong e = rw e at contents_from_rows
+
 -- the shape, field by field
 pub shape_is : (s : List ℕ) (a b c d w : ℕ) → a ≡ number_at 2 s 6 → b ≡ number_at 2 s 14 → c ≡ number_at 2 s 22 → d ≡ number_at 2 s 30 → w ≡ width_of s
     → ◌≡◌ {A = Shape} (record { inodes = a; entries = b; texts = c; handles = d; width = w }) (shape_of s)

@@ -1,8 +1,8 @@
 -- The further groups as the code searches and copies them, and a caller without any. Assumes nothing.
 use Rattle.std.specs.Prelude.{◌≡◌, Bool, true, List, ℕ, ◌≤◌, ◌<◌, eqb, ltb, min, length, get_or, take, replicate}
 use Rattle.std.proofs.Math.Path.{sym, ap}
-use Rattle.std.proofs.Common.{◌∙◌, arith, eq-eqb, lt-ltb, le-ltb, le-leb, eqb-true, ltb-true, length-take, get_or-take}
-use Rattle.std.proofs.Math.Bool.{false, cond, or-false}
+use Rattle.std.proofs.Common.{◌∙◌, arith, eq-eqb, ne_eqb, lt-ltb, le-ltb, le-leb, eqb-true, ltb-true, length-take, get_or-take}
+use Rattle.std.proofs.Math.Bool.{false, cond, or-false, and-false}
 use Rattle.std.proofs.Math.Decide.{dec_lt}
 use Rattle.std.proofs.lemmas.Bool.{lt-leb}
 use Rattle.seq.specs.Search.{any}
@@ -19,6 +19,9 @@ module _ (who : Credentials) (g : ℕ) where
   -- what a place says
   pub further_is : (k : ℕ) → k < who.count → get_or who.groups k 0 ≡ g → is_further who g k ≡ true
   further_is k l e = rw (lt-ltb _ _ l, eq-eqb _ _ e)
+
+  pub further_other : (k : ℕ) → (get_or who.groups k 0 ≡ g → ⊥) → is_further who g k ≡ false
+  further_other k n = rw (ne_eqb _ _ n, and-false)
 
   past : (k : ℕ) → who.count ≤ k → is_further who g k ≡ false
   past k l = rw (le-ltb _ _ l)

@@ -38,7 +38,7 @@ pub lookup_misses : (v : View) (d : ℕ) (name : List ℕ) → lookup v d name �
 unfolding lookup
 lookup_misses v d name e = any_false (is_named v d name) v.entries (λ k l. first_before (is_named v d name) v.entries k (rw e l))
 
--- slots skipped: none, one more whose entry lies elsewhere, and four such
+-- slots skipped: none, one more whose entry lies elsewhere, four such, and as many as two skips together
 module _ (v : View) (d : ℕ) where
   pub skip_none : (a : ℕ) → Skips v d a a
   skip_none a = record { onward = λ name none. none }
@@ -53,3 +53,6 @@ module _ (v : View) (d : ℕ) where
   skip_four j other other₁ other₂ other₃ =
       let two : Skips v d j (j + 2) = skip_more (j + 1) (j + 2) (skip_more j (j + 1) (skip_none j) other refl) other₁ (omega arith) in
       skip_more (j + 3) (j + 4) (skip_more (j + 2) (j + 3) two other₂ (omega arith)) other₃ (omega arith)
+
+  pub skip_join : {a b c : ℕ} → Skips v d a b → Skips v d b c → Skips v d a c
+  skip_join front back = record { onward = λ name none. back.onward name (front.onward name none) }

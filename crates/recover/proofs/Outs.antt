@@ -4,9 +4,9 @@ use Rattle.std.specs.Result.{result_unwrap_or}
 use Rattle.std.proofs.Math.Path.{refl, sym, ap}
 use Rattle.std.proofs.Common.{◌∙◌, subst, zero-add, arith, length-take-le}
 use Rattle.std.proofs.Math.Bool.{true, false, cond}
-use mathlib.Core.List.{List, [], ◌++◌}
+use mathlib.Core.List.{List, [], ◌∷◌, ◌++◌}
 use Rattle.std.proofs.Math.Option.{Option, none, some}
-use Rattle.std.proofs.Math.ListN.{length, replicate}
+use Rattle.std.proofs.Math.ListN.{length, replicate, length-map}
 use Rattle.std.proofs.lemmas.List.{length-replicate}
 use Rattle.seq.specs.Bytes.{put}
 use Rattle.seq.specs.Truth.{refuted}
@@ -14,16 +14,20 @@ use Rattle.seq.proofs.BytesLaws.{put_eq, put_whole}
 use Rattle.layout.specs.declared.Shape.{Shape}
 use Rattle.layout.specs.declared.errno.Errno.{Errno}
 use Rattle.layout.specs.declared.errno.Errno.TheVariants.{Inconsistent, NotRecoverable}
-use Rattle.layout.specs.Code.{number}
+use Rattle.layout.specs.Code.{number, code}
 use Rattle.layout.specs.Facts.{Read}
 use Rattle.consistency.specs.Sound.{journal_clear, bodies_good}
 use Rattle.consistency.specs.Consistent.{consistent, check_number}
 use Rattle.consistency.proofs.ConsistentLaws.{checked_consistent, consistent_checked}
-use Rattle.plan.specs.Form.{plan_rows, plan_bytes, rows_put, cleared}
+use Rattle.plan.specs.Form.{Row, plan_rows, plan_bytes, rows_put, cleared}
 use Rattle.plan.specs.declared.rows.Rows.{Rows}
-use Rattle.plan.specs.Added.{no_rows, Added}
+use Rattle.plan.specs.Added.{no_rows, BodyFits, Added}
+use Rattle.plan.specs.Stands.{RowFormed, Each}
+use Rattle.plan.proofs.Many.{rows_length}
+use Rattle.plan.proofs.Copied.{rows_copied}
 use Rattle.plan.proofs.AddedLaws.{rows_stored}
-use Rattle.plan.specs.Write.{Write, store_all}
+use Rattle.plan.specs.Write.{Write, store_all, rows_from}
+use Rattle.plan.specs.Filled.{AllWrites, Filled}
 use Rattle.drafts.specs.Draft.{draft}
 use Rattle.rename_drafts.specs.Drafted.{Drafted}
 use Rattle.drafts.proofs.DraftLaws.{draft_writes}
@@ -31,7 +35,7 @@ use Rattle.recover.specs.Recover.{if_consistent, pending_rows}
 use Rattle.recover.specs.Job.{Recovered, outcome_of, refused, done, by_rows, by_journal, recovered}
 use Rattle.recover.proofs.Bounds.{draft_rows, recovered_few}
 use Rattle.recover.specs.Outcome.{applied_from}
-use Rattle.recover.proofs.OutcomeLaws.{stored_length, rows_applied}
+use Rattle.recover.proofs.OutcomeLaws.{stored_length, rows_formed, rows_applied}
 use Rattle.recover.specs.Answers.{RecoverAnswers, DraftReady}
 
 pub recovered_as : {o p : Recovered} {r : Result ℕ Errno} {plan scratch : List ℕ} → RecoverAnswers o r plan scratch → o ≡ p → RecoverAnswers p r plan scratch
@@ -44,6 +48,25 @@ answers_few plan scratch x a = subst (λ (n : ℕ). n ≤ plan_rows) (sym a.rows
 -- a refusal leaves both buffers as they were
 pub answers_refused : (plan scratch x : List ℕ) (e : Errno) {o : Recovered} → o ≡ refused plan scratch x (number e) → RecoverAnswers o (Err e) plan scratch
 answers_refused plan scratch x e is = recovered_as (record { number = refl; rows = refl; plan_is = refl; scratch_is = refl }) (sym is)
+
+-- so it does whatever number it has, and an answer of that number and no rows says so
+pub refused_whole : (plan scratch x : List ℕ) (n : ℕ) {o : Recovered} → o ≡ refused plan scratch x n
+    → (n ≡ o.number) × (0 ≡ o.rows) × (plan ≡ o.plan) × (scratch ≡ o.scratch)
+refused_whole plan scratch x n is =
+    subst (λ (p : Recovered). (n ≡ p.number) × (0 ≡ p.rows) × (plan ≡ p.plan) × (scratch ≡ p.scratch)) (sym is) (refl, refl, refl, refl)
+
+pub refused_as : (plan scratch x : List ℕ) (n : ℕ) {o : Recovered} {r : Result ℕ Errno} → o ≡ refused plan scratch x n → code r ≡ n → result_unwrap_or r 0 ≡ 0
+    → RecoverAnswers o r plan scratch
+refused_as plan scratch x n is numbered empty =
+    recovered_as {o = refused plan scratch x n} (record { number = numbered; rows = empty; plan_is = refl; scratch_is = refl }) (sym is)
+
+-- it is exactly a plan
+pub ready_exact : {x : List ℕ} {h : Shape} {d : Rows} → DraftReady x h d → length d.bytes ≡ plan_bytes
+ready_exact {x} {h} {d} ready = go (draft h x) ready.drafted
+  where
+    go : (o : Option (List Write)) → Drafted h o (Some d) → length d.bytes ≡ plan_bytes
+    go none f = absurd f
+    go (some ws) f = ap (λ (xs : List ℕ). length xs) f.filled.plan ∙ rows_length (rows_from h ws) (replicate plan_bytes 0) 0 ∙ length-replicate {A = ℕ} plan_bytes 0
 
 -- what scratch shows is as long as the image
 pub outcome_length : (h : Shape) (x : List ℕ) (o : Option (List Write)) → length (outcome_of h x o) ≡ length x
@@ -70,6 +93,11 @@ unfit_none h x f = ap (if_consistent h x) (go (draft h x) f)
     go : (o : Option (List Write)) → Drafted h o None → o ≡ none
     go none f = refl
     go (some ws) f = absurd f
+
+-- rows that are formed have bodies that fit
+bodies_fit : (rs : List Row) → Each RowFormed rs → Each BodyFits rs
+bodies_fit [] formed = tt
+bodies_fit (r ∷ rs) formed = (omega (arith, formed.0.whole, formed.0.body_fits), bodies_fit rs formed.1)
 
 -- settled: the rows of the draft, by their outcome
 module _ (plan scratch x : List ℕ) (h : Shape) (whole : length scratch ≡ length x) (long : plan_bytes ≤ length plan) (read : Read x h) where
@@ -108,6 +136,23 @@ module _ (plan scratch x : List ℕ) (h : Shape) (whole : length scratch ≡ len
             plan_is = e ∙ copied.0;
             scratch_is = stored ∙ sym (put_whole scratch (store_all h x ws) (whole ∙ sym (stored_length h ws x)));
           }) (ap (by_rows plan scratch x h) (sym (ap (if_consistent h x) is ∙ ap (λ (b : Bool). cond b (some ws) none) good)))
+
+  -- put from any plan of zeros on, they are what an operation owes, and copied over the buffer they are in the cleared plan
+  module _ (ws : List Write) (is : draft h x ≡ some ws) (base : List ℕ) (blank : base ≡ replicate plan_bytes 0) (d : List ℕ) (n : ℕ) (f : Filled h base 0 ws d n) where
+    abbrev owed : AllWrites h ws
+    owed = draft_writes h x read.laid ws is
+
+    exact : length base ≡ plan_bytes
+    exact = ap (λ (xs : List ℕ). length xs) blank ∙ length-replicate {A = ℕ} plan_bytes 0
+
+    copied : put plan 0 d ≡ rows_put (cleared plan) 0 (rows_from h ws)
+    unfolding cleared
+    copied =
+        let m : length (rows_from h ws) ≡ length ws = length-map ws _ in
+        let few : length ws ≤ plan_rows = draft_rows h x ws is in
+        ap (λ (xs : List ℕ). put plan 0 xs) f.plan
+        ∙ sym (rows_copied plan long (rows_from h ws) base 0 exact (omega (arith, few)) (bodies_fit (rows_from h ws) (rows_formed h x read ws owed)))
+        ∙ ap (λ (xs : List ℕ). rows_put (put plan 0 xs) 0 (rows_from h ws)) blank
 
   module _ (d : Rows) (ready : DraftReady x h d) (y : List ℕ) (outcome : y ≡ applied_from (put scratch 0 x) d.bytes 0 d.count) where
     pub settle_refused : check_number y ≢ 0 → (z : List ℕ) → z ≡ replicate (length y) 0

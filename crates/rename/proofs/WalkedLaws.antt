@@ -106,7 +106,7 @@ module _ {s plan : List ℕ} {q : Request} {old new : List ℕ} {h : Shape} (giv
               (move_in h s image_readable q (both_ends_of w) both.old.facts both.new.facts old_whole none q.now
               (subst (λ (x : Case). no_slot v x ≡ false) is slot))
 
-          planned_name : 8 + length (name_of (end_of w.new).found) ≤ h.width
+          pub planned_name : 8 + length (name_of (end_of w.new).found) ≤ h.width
           planned_name = called_fits h s image_readable q (both_ends_of w) both.old.facts both.new.facts old_whole none
 
           -- the name that the plan is made under, of what new's walk has found
@@ -124,7 +124,7 @@ module _ {s plan : List ℕ} {q : Request} {old new : List ℕ} {h : Shape} (giv
           abbrev plan_in : Shape → Ends → List ℕ
           plan_in x y = planned x s (move_of (view_of x s) (case_of (view_of x s) q y) q.now) (name_of y.new.found) plan
 
-          steps_plan : (after : List ℕ) (n : ℕ)
+          pub steps_plan : (after : List ℕ) (n : ℕ)
               → (after ≡ planned h s (move_of v c q.now) (name_of (end_of w.new).found) plan)
               × (n ≡ length (rename_rows h s (move_of v c q.now) (name_of (end_of w.new).found)))
               → RenameAnswers s plan q old new (answer 0 n) after

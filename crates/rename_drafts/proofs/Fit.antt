@@ -1,8 +1,8 @@
--- A pending rename that fits: the numbers' ranges, and one law for each way out of its draft (rules 105 to 108). Assumes nothing.
-use Rattle.std.specs.Prelude.{◌≡◌, ◌≢◌, Bool, true, false, ◌&&◌, List, ℕ, ◌<◌, ltb}
+-- A pending rename that fits: the tests' last ways out, the numbers' ranges, and one law for each way out of its draft (rules 105 to 108). Assumes nothing.
+use Rattle.std.specs.Prelude.{◌≡◌, ◌≢◌, Bool, true, false, ◌&&◌, not, List, ℕ, ◌<◌, eqb, ltb}
 use Rattle.std.proofs.Common.{◌∙◌}
 use Rattle.std.proofs.Math.Option.{none, some}
-use borrow.Author.Tests.{ltb-true, ne_eqb}
+use borrow.Author.Tests.{ltb-true, lt-ltb, ne_eqb}
 use Rattle.seq.specs.Truth.{and_left, and_right, implies_at}
 use Rattle.layout.specs.declared.Shape.{Shape}
 use Rattle.layout.specs.Limits.{absent}
@@ -13,6 +13,16 @@ use Rattle.recounts.specs.declared.Move.{Move}
 use Rattle.results.specs.Results.{present}
 use Rattle.results.specs.InImage.{InImage}
 use Rattle.rename_drafts.specs.PendingRename.{below_or_absent, numbers_in_range, different, rename_fits, move_from, entry_stands, into_good, undoing, finishing, move_draft, rename_draft}
+
+-- ---- the tests' last ways out
+
+pub range_last : (h : Shape) (j : Journal) → j.old < h.entries → j.new < h.entries → j.moved < h.inodes
+    → below_or_absent j.replaced h.inodes ≡ true → numbers_in_range h j ≡ below_or_absent j.text h.texts
+range_last h j old new moved replaced = rw (lt-ltb _ _ old, lt-ltb _ _ new, lt-ltb _ _ moved, replaced)
+
+pub different_last : (j : Journal) → j.old ≢ j.new → j.moved ≢ 0 → j.moved ≢ j.parent → j.replaced ≢ j.moved
+    → different j ≡ not (eqb j.replaced j.parent)
+different_last j slots root parent replaced = rw (ne_eqb _ _ slots, ne_eqb _ _ root, ne_eqb _ _ parent, ne_eqb _ _ replaced)
 
 -- ---- a record that fits
 
@@ -71,26 +81,33 @@ module _ (h : Shape) (x : List ℕ) (j : Journal) (fit : rename_fits h x j ≡ t
 
 -- ---- the ways out of its draft
 
-module _ (h : Shape) (x : List ℕ) (m : Move) where
-  pub move_undone : entry_stands (view_of h x) m ≡ false → move_draft h x m ≡ some (undoing h x)
-  unfolding move_draft
-  move_undone undecided = rw undecided
+module _ (h : Shape) (x : List ℕ) where
+  pub rename_unfit : (j : Journal) → rename_fits h x j ≡ false → rename_draft h x j ≡ none
+  unfolding rename_draft
+  rename_unfit j unfit = rw unfit
 
-  pub move_finished : entry_stands (view_of h x) m ≡ true → into_good (view_of h x) m ≡ true → move_draft h x m ≡ some (finishing h x m)
-  unfolding move_draft
-  move_finished done good = rw (done, good)
+  module _ (m : Move) where
+    pub move_undone : entry_stands (view_of h x) m ≡ false → move_draft h x m ≡ some (undoing h x)
+    unfolding move_draft
+    move_undone undecided = rw undecided
+
+    pub move_unfit : entry_stands (view_of h x) m ≡ true → into_good (view_of h x) m ≡ false → move_draft h x m ≡ none
+    unfolding move_draft
+    move_unfit done bad = rw (done, bad)
+
+    pub move_finished : entry_stands (view_of h x) m ≡ true → into_good (view_of h x) m ≡ true → move_draft h x m ≡ some (finishing h x m)
+    unfolding move_draft
+    move_finished done good = rw (done, good)
 
 pub draft_unfit : (h : Shape) (x : List ℕ) (j : Journal) → rename_fits h x j ≡ false → rename_draft h x j ≡ none
-unfolding rename_draft
-draft_unfit h x j unfit = rw unfit
+draft_unfit = rename_unfit
 
 module _ (h : Shape) (x : List ℕ) (j : Journal) (fit : rename_fits h x j ≡ true) (m : Move) (is : m ≡ move_from (view_of h x) j) where
   pub draft_undone : entry_stands (view_of h x) m ≡ false → rename_draft h x j ≡ some (undoing h x)
   draft_undone undecided = rename_move h x j fit m is ∙ move_undone h x m undecided
 
   pub draft_bad : entry_stands (view_of h x) m ≡ true → into_good (view_of h x) m ≡ false → rename_draft h x j ≡ none
-  unfolding move_draft
-  draft_bad done bad = rename_move h x j fit m is ∙ rw (done, bad)
+  draft_bad done bad = rename_move h x j fit m is ∙ move_unfit h x m done bad
 
   pub draft_finished : entry_stands (view_of h x) m ≡ true → into_good (view_of h x) m ≡ true → rename_draft h x j ≡ some (finishing h x m)
   draft_finished done good = rename_move h x j fit m is ∙ move_finished h x m done good

@@ -1,9 +1,9 @@
 -- Laws of little-endian numbers: read back as written, in parts and in halves. Assumes nothing.
-use Rattle.std.specs.Prelude.{◌≡◌, refl, ◌⊎◌, List, ◌∷◌, ℕ, zero, suc, ◌+◌, ◌/◌, ◌%◌, ◌<◌, ◌≤◌, length, get_or}
+use Rattle.std.specs.Prelude.{◌≡◌, refl, ◌⊎◌, List, ◌∷◌, ℕ, zero, suc, ◌+◌, ◌*◌, ◌/◌, ◌%◌, ◌<◌, ◌≤◌, length, get_or}
 use Rattle.std.proofs.Common.{ap, ◌∙◌, ⊎_elim, add-zero, zero-add, arith}
 use Rattle.seq.specs.Bytes.{part, put}
 use Rattle.seq.specs.Number.{bytes_of, number_at, span}
-use Rattle.seq.proofs.BytesLaws.{part_byte, put_inside, put_before, put_after}
+use Rattle.seq.proofs.BytesLaws.{part_byte, put_join, put_inside, put_before, put_after}
 
 pub bytes_of_length : (k v : ℕ) → length (bytes_of k v) ≡ k
 unfolding bytes_of
@@ -29,6 +29,32 @@ number_part k xs at n i h =
     number_same k (part xs at n) xs i (at + i) (λ m l.
     let a : at + i + m ≡ at + (i + m) = omega arith in
     rw a (part_byte xs at n (i + m) (omega arith)))
+
+-- four bytes are two and two, and eight are four and four
+pub number_two : (xs : List ℕ) (i : ℕ) → number_at 4 xs i ≡ number_at 2 xs i + 65536 * number_at 2 xs (i + 2)
+unfolding number_at
+number_two xs i =
+    let a : i + 1 + 1 ≡ i + 2 = omega arith in
+    rw a (omega arith)
+
+pub number_four : (xs : List ℕ) (i : ℕ) → number_at 8 xs i ≡ number_at 4 xs i + 4294967296 * number_at 4 xs (i + 4)
+unfolding number_at
+number_four xs i =
+    let a : i + 1 + 1 + 1 + 1 ≡ i + 4 = omega arith in
+    rw a (omega arith)
+
+-- written in halves
+pub put_two : (xs : List ℕ) (at v : ℕ) → put (put xs at (bytes_of 2 v)) (at + 2) (bytes_of 2 (v / 65536)) ≡ put xs at (bytes_of 4 v)
+unfolding bytes_of
+put_two xs at v =
+    let a : v / 65536 ≡ v / 256 / 256 = omega arith in
+    rw a (put_join (bytes_of 2 v) xs at (bytes_of 2 (v / 256 / 256)))
+
+pub put_four : (xs : List ℕ) (at v : ℕ) → put (put xs at (bytes_of 4 v)) (at + 4) (bytes_of 4 (v / 4294967296)) ≡ put xs at (bytes_of 8 v)
+unfolding bytes_of
+put_four xs at v =
+    let a : v / 4294967296 ≡ v / 256 / 256 / 256 / 256 = omega arith in
+    rw a (put_join (bytes_of 4 v) xs at (bytes_of 4 (v / 256 / 256 / 256 / 256)))
 
 -- what was written is read again
 pub number_bytes : (k v : ℕ) → v < span k → number_at k (bytes_of k v) 0 ≡ v

@@ -1,6 +1,7 @@
 -- Laws of zero bytes: ranges of them, and the number that they are read as. Assumes nothing.
-use Rattle.std.specs.Prelude.{◌≡◌, refl, Bool, true, ◌&&◌, List, ℕ, zero, suc, ◌+◌, ◌*◌, ◌-◌, ◌<◌, eqb, get_or}
+use Rattle.std.specs.Prelude.{◌≡◌, refl, Bool, true, false, ◌&&◌, List, ℕ, zero, suc, ◌+◌, ◌*◌, ◌-◌, ◌<◌, eqb, get_or}
 use Rattle.std.proofs.Common.{sym, ap, ◌∙◌, arith, eq-eqb, ne_eqb}
+use Rattle.std.proofs.Math.Bool.{and-false}
 use Rattle.std.proofs.Math.Decide.{ℕ_discrete, dec_lt}
 use Rattle.seq.specs.Bytes.{zeros}
 use Rattle.seq.specs.Number.{number_at}
@@ -46,3 +47,18 @@ number_zero (suc k) xs i =
     let e : 1 + k ≡ suc k = omega arith in
     let o : i + 0 ≡ i = omega arith in
     sum_zero (get_or xs i 0) (number_at k xs (i + 1)) ∙ ap (λ x. eqb (get_or xs i 0) 0 && x) (number_zero k xs (i + 1)) ∙ sym (rw (e, o) at (zeros_split xs i 1 k))
+
+-- a loop over pieces of eight bytes: one more that is 0, and one that is not
+module _ (xs : List ℕ) (at k : ℕ) where
+  next : zeros xs at (8 * (k + 1)) ≡ (zeros xs at (8 * k) && eqb (number_at 8 xs (at + 8 * k)) 0)
+  next =
+      let e : 8 * (k + 1) ≡ 8 * k + 8 = omega arith in
+      rw e (zeros_split xs at (8 * k) 8 ∙ ap (λ x. zeros xs at (8 * k) && x) (sym (number_zero 8 xs (at + 8 * k))))
+
+  pub piece_zero : zeros xs at (8 * k) ≡ true → number_at 8 xs (at + 8 * k) ≡ 0 → zeros xs at (8 * (k + 1)) ≡ true
+  piece_zero e z = next ∙ rw (e, eq-eqb _ _ z)
+
+  pub piece_other : (n : ℕ) → k < n → (number_at 8 xs (at + 8 * k) ≡ 0 → ⊥) → false ≡ zeros xs at (8 * n)
+  piece_other n l z =
+      let e : 8 * n ≡ 8 * (k + 1) + (8 * n - 8 * (k + 1)) = omega arith in
+      rw e (sym (zeros_split xs at (8 * (k + 1)) _ ∙ simp (next, ne_eqb _ _ z, and-false)))
