@@ -1,2 +1,4 @@
+pub mod KindsLaws
+pub mod KindLaws
 pub mod StepsLaws
 pub mod PassedLaws
