@@ -68,7 +68,7 @@ pub fn fill(plan: &mut [u8], image: &Image<'_>, m: Move) -> usize
     ensures { (plan.new ≡ exchange_planned image.now.shape image.now.bytes.now m plan.old) × (result ≡ length (exchange_rows image.now.shape image.now.bytes.now m)) }
 {
     let mut rows = Rows::none();
-    put_start(&mut rows, Operation::Exchange, image, m);
+    put_start(&mut rows, u8::from(Operation::Exchange), image, m);
     put(&mut rows, image, m);
     put_clear(&mut rows, image);
     layout::bytes::copy(plan, 0, &rows.bytes);

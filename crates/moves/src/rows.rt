@@ -41,7 +41,7 @@ pub fn put(plan: &mut [u8], image: &Image<'_>, m: Move, called: &[u8]) -> usize
     ensures { (plan.new ≡ planned image.now.shape image.now.bytes.now m called.now plan.old) × (result ≡ length (rename_rows image.now.shape image.now.bytes.now m called.now)) }
 {
     let mut rows = Rows::none();
-    put_start(&mut rows, Operation::Rename, image, m);
+    put_start(&mut rows, u8::from(Operation::Rename), image, m);
     put_entry(&mut rows, image, m, called);
     results::rows::put(&mut rows, image, m);
     put_clear(&mut rows, image);

@@ -1,9 +1,9 @@
-// The plan's rows: put one behind the other, and read field by field.
+// The plan's rows: written one at a time, and read field by field.
 #![tactic(auto)]
 
-ghost use Rattle.std.specs.Prelude.{◌≡◌, ◌<◌, ◌≤◌, length};
+ghost use Rattle.std.specs.Prelude.{◌≡◌, ◌<◌, ◌≤◌, length, replicate};
 ghost use Rattle.layout.specs.Facts.{Reads};
-ghost use Rattle.plan.specs.Form.{plan_bytes, plan_rows, body_bytes, row_group, row_blank, row_length, row_offset, row_position, row_at, cleared};
+ghost use Rattle.plan.specs.Form.{plan_bytes, plan_rows, body_bytes, row_of, row_stored, row_group, row_blank, row_length, row_offset, row_position, row_at, cleared};
 
 pub mod rows;
 
@@ -27,6 +27,36 @@ pub fn clear(plan: &mut [u8])
 {
     let zeros = [0u8; BYTES];
     layout::bytes::copy(plan, 0, &zeros);
+}
+
+// Puts a row in place i: its header, and a body of the bytes it replaces.
+pub fn put_row(plan: &mut [u8], i: usize, group: u8, offset: usize, body: &[u8])
+    requires { (plan_bytes ≤ length plan.old) × (i < plan_rows) × (length body.now ≤ body_bytes) }
+    ensures { plan.new ≡ row_stored plan.old i (row_of group offset body.now) }
+{
+    let n = body.len();
+    let position = BODIES_AT + BODY_BYTES * i;
+    let header = [
+        group,
+        0,
+        (n % 256) as u8,
+        (n / 256 % 256) as u8,
+        (offset % 256) as u8,
+        (offset / 256 % 256) as u8,
+        (position % 256) as u8,
+        (position / 256 % 256) as u8,
+    ];
+    layout::bytes::copy(plan, HEADER_BYTES * i, &header);
+    layout::bytes::copy(plan, position, body);
+}
+
+// Puts a row in place i that clears a record of n bytes.
+pub fn put_clearing(plan: &mut [u8], i: usize, group: u8, offset: usize, n: usize)
+    requires { (plan_bytes ≤ length plan.old) × (i < plan_rows) × (n ≤ body_bytes) }
+    ensures { plan.new ≡ row_stored plan.old i (row_of group offset (replicate n 0)) }
+{
+    let zeros = [0u8; BODY_BYTES];
+    put_row(plan, i, group, offset, &zeros[..n]);
 }
 
 // The ordering group of row i.

@@ -3,7 +3,7 @@ ghost use Rattle.std.specs.Prelude.{◌≡◌, ◌<◌, ◌≤◌, length, repli
 ghost use Rattle.plan.specs.Form.{plan_rows, body_bytes, row_of};
 ghost use Rattle.plan.specs.Added.{group_number, no_rows, Pushed};
 
-use crate::{BODIES_AT, BODY_BYTES, BYTES, HEADER_BYTES};
+use crate::BYTES;
 
 // The ordering groups: the journal record is set, the deciding entry stored, the results stored, the journal record cleared.
 #[derive(Clone, Copy)]
@@ -44,20 +44,7 @@ impl Rows {
         requires { (self.old.count < plan_rows) × (length body.now ≤ body_bytes) }
         ensures { Pushed self.old (row_of (group_number group) offset body.now) self.new }
     {
-        let n = body.len();
-        let position = BODIES_AT + BODY_BYTES * self.count;
-        let header = [
-            u8::from(group),
-            0,
-            (n % 256) as u8,
-            (n / 256 % 256) as u8,
-            (offset % 256) as u8,
-            (offset / 256 % 256) as u8,
-            (position % 256) as u8,
-            (position / 256 % 256) as u8,
-        ];
-        layout::bytes::copy(&mut self.bytes, HEADER_BYTES * self.count, &header);
-        layout::bytes::copy(&mut self.bytes, position, body);
+        crate::put_row(&mut self.bytes, self.count, u8::from(group), offset, body);
         self.count += 1;
     }
 
@@ -66,7 +53,7 @@ impl Rows {
         requires { (self.old.count < plan_rows) × (n ≤ body_bytes) }
         ensures { Pushed self.old (row_of (group_number group) offset (replicate n 0)) self.new }
     {
-        let zeros = [0u8; BODY_BYTES];
-        self.push(group, offset, &zeros[..n]);
+        crate::put_clearing(&mut self.bytes, self.count, u8::from(group), offset, n);
+        self.count += 1;
     }
 }

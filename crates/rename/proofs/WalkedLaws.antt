@@ -39,11 +39,6 @@ use Rattle.rename.specs.Answers.{RenameAnswers, both_ends_of, WalksBegin}
 use Rattle.rename.proofs.Outs.{answers_as, walked_old, answers_walk, answers_case}
 use Rattle.rename.proofs.Known.{case_in, called_fits, move_in, exchange_in}
 
--- the case of what the code's walks have found
-pub found_case : (v : View) (q : Request) {c : Case} (w : Walks) {from to : Found} → w.old.found ≡ Ok from → w.new.found ≡ Ok to
-    → ((e : Ends) (p r : List ℕ) → e.old.found ≡ finding_of p from → e.new.found ≡ finding_of r to → c ≡ case_of v q e) → c ≡ case_of v q (both_ends_of w)
-found_case v q w old new says = says (both_ends_of w) w.old.path w.new.path (ap (λ f. found_in w.old.path f) old) (ap (λ f. found_in w.new.path f) new)
-
 module _ {s plan : List ℕ} {q : Request} {old new : List ℕ} {h : Shape} (given : WalksBegin s plan q old new h) where
   abbrev v : View
   v = view_of h s

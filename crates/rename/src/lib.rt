@@ -88,11 +88,7 @@ fn walked(image: &Image<'_>, q: Request, old: &[u8], new: &[u8], plan: &mut [u8]
         Err(why) => return counted(Err(why), &walks),
         Ok(to) => to,
     };
-    let from = match walks.old.found {
-        Err(why) => return counted(Err(why), &walks),
-        Ok(from) => from,
-    };
-    let c = found::case_of(image, q, from, to);
+    let c = found::case_of(image, q, &walks.old, &walks.new);
     match flagged::judge(image, q, c) {
         Err(why) => counted(Err(why), &walks),
         Ok(Verdict::Same) => {

@@ -1,7 +1,6 @@
 // The rows of a rename that another operation or a recovery shares, put into a plan: all but the new entry.
 ghost use Rattle.std.specs.Prelude.{◌≡◌, [], ◌∷◌, ◌+◌, ◌<◌, ◌≤◌};
 ghost use Rattle.encode.specs.Journal.{journal_bytes};
-ghost use Rattle.encode.specs.Operation.{kind_of};
 ghost use Rattle.plan.specs.Form.{plan_rows};
 ghost use Rattle.plan.specs.Write.{inode_key};
 ghost use Rattle.plan.specs.Added.{Added};
@@ -10,18 +9,18 @@ ghost use Rattle.results.specs.InImage.{InImage};
 ghost use Rattle.results.specs.Start.{journal_for, start_row};
 
 use crate::records;
-use encode::journal::{Journal, Operation};
+use encode::journal::Journal;
 use layout::image::Image;
 use layout::limits;
 use plan::rows::{Group, Rows};
 use recounts::Move;
 
-// The journal record of the move, of this operation.
-fn journal(operation: Operation, m: Move) -> [u8; 32]
-    ensures { result ≡ journal_bytes (journal_for (kind_of operation) m) }
+// The journal record of the move, of an operation of this kind.
+fn journal(kind: u8, m: Move) -> [u8; 32]
+    ensures { result ≡ journal_bytes (journal_for kind m) }
 {
     let j = Journal {
-        kind: u8::from(operation),
+        kind,
         old: m.old,
         new: m.new,
         moved: m.moved,
@@ -36,11 +35,11 @@ fn journal(operation: Operation, m: Move) -> [u8; 32]
 }
 
 // The row that sets it.
-pub fn put_start(rows: &mut Rows, operation: Operation, image: &Image<'_>, m: Move)
+pub fn put_start(rows: &mut Rows, kind: u8, image: &Image<'_>, m: Move)
     requires { rows.old.count < plan_rows }
-    ensures { Added image.now.shape rows.old (start_row (kind_of operation) m ∷ []) rows.new }
+    ensures { Added image.now.shape rows.old (start_row kind m ∷ []) rows.new }
 {
-    let r = journal(operation, m);
+    let r = journal(kind, m);
     rows.push(Group::Journal, image.shape.journal_place(), &r);
 }
 

@@ -17,6 +17,6 @@ put_clear-requires c =
 
 pub returns : goal.returns
 returns c =
-    let first = rw c.none-rows.ensures at c.put_start.ensures in
+    let first = rw (c.none-rows.ensures, c.from.ensures) at c.put_start.ensures in
     let all = rename_stored _ _ _ _ c.args.plan.now c.requires.0 first c.put_entry.ensures c.put.ensures c.put_clear.ensures in
     (c.copy.ensures ∙ all.0, all.1)
