@@ -2,3 +2,4 @@ pub mod JobLaws
 pub mod Bounds
 pub mod OutcomeLaws
 pub mod Outs
+pub mod FilledOuts

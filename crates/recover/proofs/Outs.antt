@@ -95,7 +95,7 @@ unfit_none h x f = ap (if_consistent h x) (go (draft h x) f)
     go (some ws) f = absurd f
 
 -- rows that are formed have bodies that fit
-bodies_fit : (rs : List Row) → Each RowFormed rs → Each BodyFits rs
+pub bodies_fit : (rs : List Row) → Each RowFormed rs → Each BodyFits rs
 bodies_fit [] formed = tt
 bodies_fit (r ∷ rs) formed = (omega (arith, formed.0.whole, formed.0.body_fits), bodies_fit rs formed.1)
 
