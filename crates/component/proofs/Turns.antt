@@ -5,6 +5,7 @@ use Rattle.std.proofs.lemmas.Bool.{lt-leb}
 use Rattle.seq.specs.Bytes.{part}
 use Rattle.seq.proofs.BytesLaws.{part_take, part_drop}
 use Rattle.layout.specs.Limits.{symlink_limit, path_limit}
+use Rattle.layout.specs.declared.errno.Errno.{Errno}
 use Rattle.layout.specs.Errno.{ELOOP, ENAMETOOLONG, ENOTDIR}
 use Rattle.layout.specs.View.{View, is_directory}
 use Rattle.paths.specs.declared.request.Credentials.{Credentials}
@@ -18,7 +19,7 @@ use Rattle.component.proofs.DecisionLaws.{step_decides}
 use Rattle.component.specs.State.{Turned}
 
 -- a symlink ahead of others
-module _ (r : Turn) (w : Position) (text rest : List ℕ) where
+module _ (r : Turn Errno) (w : Position) (text rest : List ℕ) where
   pub follows_many : symlink_limit ≤ w.links → Turned r (refused_by ELOOP w) → Turned r (follow w text rest)
   follows_many many turned = rw (le-leb _ _ many) turned
 
@@ -29,7 +30,7 @@ module _ (r : Turn) (w : Position) (text rest : List ℕ) where
     pub follows_short : n ≤ path_limit → Turned r (splice w text rest) → Turned r (follow w text rest)
     follows_short short turned = rw (lt-leb _ _ few, ← is, le-ltb _ _ short) turned
 
-module _ (v : View) (who : Credentials) (last : Final) (r : Turn) (w : Position) where
+module _ (v : View) (who : Credentials) (last : Final) (r : Turn Errno) (w : Position) where
   pub inside_reads : (name rest : List ℕ) → (w.waived || allows v who w.directory search_bit) ≡ true → name ≡ component w.rest → rest ≡ behind w.rest
       → Turned r (read v last w name rest) → Turned r (inside v who last w)
   inside_reads name rest a e f turned = rw (a, ← e, ← f) turned

@@ -2,6 +2,7 @@
 use Rattle.std.specs.Prelude.{◌≡◌, Bool, false, List, ℕ, ◌-◌, ◌≤◌, ◌<◌, length}
 use Rattle.seq.specs.Bytes.{part}
 use Rattle.layout.specs.Limits.{path_limit, step_limit, path_bytes}
+use Rattle.layout.specs.declared.errno.Errno.{Errno}
 use Rattle.layout.specs.Code.{number}
 use Rattle.paths.specs.Path.{bare}
 use Rattle.paths.specs.WorkingPath.{working_path}
@@ -33,14 +34,21 @@ finding_by path d slash (Missing a e) = missing d (part path a (e - a)) slash
 abbrev pub finding_of : List ℕ → Found → Finding
 finding_of path f = finding_by path f.directory f.slash f.name
 
--- how a component leaves the walk
-abbrev pub leave_of : Walk → Leave → Step
-leave_of w Goes = goes (position_of w)
-leave_of w (Refuses e) = ends (record { number = number e; steps = w.steps; found = nothing })
-leave_of w (Finds f) = ends (record { number = 0; steps = w.steps; found = finding_of w.path f })
+-- how a component leaves the walk, however refusals are numbered
+abbrev pub leave_by : {R : Type 0} → (R → ℕ) → Walk → Leave R → Step
+leave_by n w Goes = goes (position_of w)
+leave_by n w (Refuses e) = ends (record { number = n e; steps = w.steps; found = nothing })
+leave_by n w (Finds f) = ends (record { number = 0; steps = w.steps; found = finding_of w.path f })
 
-abbrev pub step_of : Turn → Step
-step_of r = leave_of r.walk r.leave
+abbrev pub step_by : {R : Type 0} → (R → ℕ) → Turn R → Step
+step_by n r = leave_by n r.walk r.leave
+
+-- the same where they are numbered as on Linux
+abbrev pub leave_of : Walk → Leave Errno → Step
+leave_of w l = leave_by number w l
+
+abbrev pub step_of : Turn Errno → Step
+step_of r = step_by number r
 
 -- a missing name lies inside the working path
 abbrev pub NameRanged : List ℕ → Name → Type 0
@@ -58,15 +66,19 @@ pub record Fit (w : Walk) : Type 0 where
   pub more : bare (rest_from w w.at) ≡ false
 
 -- what is known of a state that a component leaves so
-abbrev pub Left : Walk → Leave → Type 0
+abbrev pub Left : {R : Type 0} → Walk → Leave R → Type 0
 Left w Goes = Fit w
 Left w (Refuses e) = Unit {0}
 Left w (Finds f) = Ranged w.path f
 
 -- A component's answer: what it stands for, and that the walk can go on from it, or a missing name be read from it.
-pub record Turned (r : Turn) (x : Step) : Type 0 where
-  pub is : step_of r ≡ x
+pub record TurnedBy {R : Type 0} (n : R → ℕ) (r : Turn R) (x : Step) : Type 0 where
+  pub is : step_by n r ≡ x
   pub left : Left r.walk r.leave
+
+-- The same where refusals are numbered as on Linux.
+abbrev pub Turned : Turn Errno → Step → Type 0
+Turned r x = TurnedBy number r x
 
 -- What is known where a component has been read up to index e.
 pub record ReadUpTo (w : Walk) (e : ℕ) : Type 0 where

@@ -1,10 +1,9 @@
 // The state of a walk, what a path names, and the ways in which one component leaves the walk.
-ghost use Rattle.std.specs.Prelude.{◌≡◌, false, ◌+◌, ◌≤◌, ◌<◌};
+ghost use Rattle.std.specs.Prelude.{◌≡◌, false, ℕ, ◌+◌, ◌≤◌, ◌<◌};
 ghost use Rattle.paths.specs.Path.{bare};
-ghost use Rattle.layout.specs.Code.{number};
 ghost use Rattle.component.specs.Step.{existing, missing, refused_by, names, go_to};
 ghost use Rattle.layout.specs.Limits.{step_limit};
-ghost use Rattle.component.specs.State.{position_of, name_in, rest_from, ReadUpTo, Turned};
+ghost use Rattle.component.specs.State.{position_of, name_in, rest_from, step_by, Left, ReadUpTo, Turned};
 
 use layout::errno::Errno;
 use layout::limits;
@@ -44,25 +43,25 @@ pub enum Name {
     Missing { from: usize, to: usize },
 }
 
-// How one component leaves the walk: with more to read, refused, or with what the path names.
+// How one component leaves the walk: with more to read, refused for a reason, or with what the path names.
 #[derive(Clone, Copy)]
-pub enum Leave {
+pub enum Leave<R = Errno> {
     Goes,
-    Refuses(Errno),
+    Refuses(R),
     Finds(Found),
 }
 
 // The walk behind one component, and how that left it.
 #[derive(Clone, Copy)]
-pub struct Turn {
+pub struct Turn<R = Errno> {
     pub walk: Walk,
-    pub leave: Leave,
+    pub leave: Leave<R>,
 }
 
-// The component in hand is refused.
-pub fn refuse(w: Walk, why: Errno) -> Turn
+// The component in hand is refused for this reason, however reasons are numbered.
+pub fn refuse<R>(w: Walk, why: R) -> Turn<R>
     requires { w.steps < step_limit }
-    ensures { Turned result (refused_by (number why) (position_of w)) }
+    ensures { ((n : R → ℕ) → step_by n result ≡ refused_by (n why) (position_of w)) × Left result.walk result.leave }
 {
     let mut next = w;
     next.steps = w.steps + 1;

@@ -5,7 +5,9 @@ use Rattle.layout.proofs.KindLaws.{number_of_kind}
 use native.Mathlib.Omega.{arith}
 use Rattle.layout.specs.Seen.{seen}
 use Rattle.layout.proofs.ViewLaws.{is_kind_below, kind_of_lem, other_kind}
+use Rattle.layout.specs.Code.{number}
 use Rattle.component.specs.State.{position_of}
+use Rattle.component.proofs.StateLaws.{refused_turned}
 use Rattle.component.proofs.Turns.{steps_nowhere, steps_inside}
 use Rattle.component.proofs.step.step.Goals as goal
 
@@ -22,4 +24,4 @@ returns-in-Directory c =
 pub returns-in_default : goal.returns-in_default
 returns-in_default c =
     let k = other_kind (seen c.args.tree.now.image) c.args.w.directory 2 (λ e. c.in_default.not-Directory (c.kind.ensures ∙ ap kind_named e)) in
-    steps_nowhere _ c.args.who c.args.last _ (position_of c.args.w) k c.refuse.ensures
+    steps_nowhere _ c.args.who c.args.last _ (position_of c.args.w) k (refused_turned _ _ (position_of c.args.w) c.refuse.ensures number)
