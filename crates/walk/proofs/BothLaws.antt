@@ -6,13 +6,14 @@ use Rattle.layout.specs.View.{View}
 use Rattle.paths.specs.declared.request.Request.{Request}
 use Rattle.component.specs.Step.{End}
 use Rattle.walk.specs.declared.resolve.Walked.{Walked}
+use Rattle.layout.specs.declared.errno.Errno.{Errno}
 use Rattle.layout.specs.Code.{code}
 use Rattle.walk.specs.Walk.{halt}
 use Rattle.walk.specs.Ends.{Facts}
 use Rattle.walk.specs.Both.{old_final, new_final, old_walk, new_walk, new_after, walks_of}
 use Rattle.walk.specs.Answer.{Ended, Answered, BothAnswered}
 
-module _ (v : View) (q : Request) (old new : List ℕ) (first second : Walked) (walked : Answered v old_final first (old_walk v q old)) where
+module _ (v : View) (q : Request) (old new : List ℕ) (first second : Walked Errno) (walked : Answered v old_final first (old_walk v q old)) where
   pub both_refused : code first.found ≢ 0 → Ended second (halt (code first.found)) → BothAnswered v (record { old = first; new = second }) (walks_of v q old new)
   unfolding walks_of
   both_refused some e =

@@ -1,14 +1,13 @@
 // The walk of a whole path: where it begins, component after component, how it ends.
-ghost use Rattle.std.specs.Prelude.{◌≡◌, true, ◌≤◌, length};
+ghost use Rattle.std.specs.Prelude.{◌≡◌, true, ℕ, ◌≤◌, length};
 ghost use Rattle.seq.specs.Bytes.{no_zero};
-ghost use Rattle.layout.specs.Code.{number};
 ghost use Rattle.layout.specs.Seen.{seen};
 ghost use Rattle.paths.specs.WorkingPath.{working_path};
 ghost use Rattle.layout.specs.Limits.{path_limit, step_limit};
 ghost use Rattle.component.specs.State.{position_of, beginning, Fit};
 ghost use Rattle.walk.specs.Walk.{halt, walk_from, begun, walk};
 ghost use Rattle.walk.specs.Start.{begins};
-ghost use Rattle.walk.specs.Answer.{answer_of, Ended, Answered};
+ghost use Rattle.walk.specs.Answer.{answer_of, EndedBy, Ended, Answered};
 
 use crate::start::Start;
 use component::state;
@@ -22,9 +21,9 @@ use paths::request::Credentials;
 // How a walk ended: the component checks begun; what the path names, unless the walk was refused; and the working path, which a missing
 // name is a range of.
 #[derive(Clone, Copy)]
-pub struct Walked {
+pub struct Walked<R = Errno> {
     pub steps: usize,
-    pub found: Result<Found, Errno>,
+    pub found: Result<Found, R>,
     pub path: [u8; limits::PATH_BYTES],
 }
 
@@ -83,9 +82,9 @@ fn begin(path: &[u8], directory: usize, waived: bool) -> Walk
     }
 }
 
-// A walk that does not begin.
-pub fn stop(why: Errno) -> Walked
-    ensures { Ended result (halt (number why)) }
+// A walk that does not begin, for this reason, however reasons are numbered.
+pub fn stop<R>(why: R) -> Walked<R>
+    ensures { (n : R → ℕ) → EndedBy n result (halt (n why)) }
 {
     Walked {
         steps: 0,

@@ -1,6 +1,6 @@
 -- `walk::both::both` meets its contract. Assumes nothing.
 use Rattle.std.proofs.Common.{sym, ap, subst, ◌∙◌}
-use Rattle.layout.specs.Code.{code}
+use Rattle.layout.specs.Code.{number, code}
 use Rattle.layout.specs.View.{view_of}
 use Rattle.layout.proofs.CodeLaws.{refusal_numbered}
 use Rattle.walk.specs.Walk.{halt}
@@ -20,7 +20,7 @@ returns-in-Err c =
     let args = c.args in
     both_refused (view_of args.tree.now.image.shape args.tree.now.image.bytes.now) args.q args.old.now args.new.now _ c.stop.result c.walk-first.ensures
     (λ none. refusal_numbered _ (sym (ap code c.in-Err.is) ∙ none))
-    (subst (λ n. Ended c.stop.result (halt n)) (sym (ap code c.in-Err.is)) c.stop.ensures)
+    (subst (λ n. Ended c.stop.result (halt n)) (sym (ap code c.in-Err.is)) (c.stop.ensures number))
 
 pub walk-second-requires : goal.walk-second-requires
 walk-second-requires c =

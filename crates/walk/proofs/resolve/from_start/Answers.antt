@@ -1,5 +1,6 @@
 -- `walk::resolve::from_start` meets its contract. Assumes nothing.
 use mathlib.Core.Path.{sym, ◌∙◌, ap, subst}
+use Rattle.layout.specs.Code.{number}
 use Rattle.layout.specs.View.{view_of}
 use Rattle.layout.specs.Limits.{step_limit}
 use Rattle.component.specs.State.{position_of, Fit}
@@ -14,7 +15,7 @@ pub returns-then-is_bare : goal.returns-then-is_bare
 returns-then-is_bare c =
     let args = c.args in
     let v = view_of args.tree.now.image.shape args.tree.now.image.bytes.now in
-    ended_as _ _ _ c.stop-then-is_bare.ensures
+    ended_as _ _ _ (c.stop-then-is_bare.ensures number)
     (begun_bare v args.who args.last (begins args.start) _ _ args.path.now (ap begins c.in-Some.is) (sym c.is_bare.ensures ∙ c.if-is_bare.true))
 
 pub run-requires : goal.run-requires
@@ -28,7 +29,7 @@ run-requires c =
 pub returns-in-None : goal.returns-in-None
 returns-in-None c =
     let args = c.args in
-    ended_as _ _ _ c.stop.ensures
+    ended_as _ _ _ (c.stop.ensures number)
     (ap (λ x. begun (view_of args.tree.now.image.shape args.tree.now.image.bytes.now) args.who args.last (begins x) args.path.now) c.in-None.is)
 
 pub returns-else-is_bare : goal.returns-else-is_bare
