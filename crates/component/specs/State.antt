@@ -34,7 +34,7 @@ finding_by path d slash (Missing a e) = missing d (part path a (e - a)) slash
 abbrev pub finding_of : List ℕ → Found → Finding
 finding_of path f = finding_by path f.directory f.slash f.name
 
--- how a component leaves the walk, by the number of what refuses it
+-- how a component leaves the walk, however refusals are numbered
 abbrev pub leave_by : {R : Type 0} → (R → ℕ) → Walk → Leave R → Step
 leave_by n w Goes = goes (position_of w)
 leave_by n w (Refuses e) = ends (record { number = n e; steps = w.steps; found = nothing })
@@ -43,7 +43,7 @@ leave_by n w (Finds f) = ends (record { number = 0; steps = w.steps; found = fin
 abbrev pub step_by : {R : Type 0} → (R → ℕ) → Turn R → Step
 step_by n r = leave_by n r.walk r.leave
 
--- by the numbers of Linux
+-- the same where they are numbered as on Linux
 abbrev pub leave_of : Walk → Leave Errno → Step
 leave_of w l = leave_by number w l
 
@@ -76,6 +76,7 @@ pub record TurnedBy {R : Type 0} (n : R → ℕ) (r : Turn R) (x : Step) : Type 
   pub is : step_by n r ≡ x
   pub left : Left r.walk r.leave
 
+-- The same where refusals are numbered as on Linux.
 abbrev pub Turned : Turn Errno → Step → Type 0
 Turned r x = TurnedBy number r x
 

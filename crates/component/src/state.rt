@@ -58,7 +58,7 @@ pub struct Turn<R = Errno> {
     pub leave: Leave<R>,
 }
 
-// The component in hand is refused, for a reason that may be numbered in any way.
+// The component in hand is refused for this reason, however reasons are numbered.
 pub fn refuse<R>(w: Walk, why: R) -> Turn<R>
     requires { w.steps < step_limit }
     ensures { ((n : R → ℕ) → step_by n result ≡ refused_by (n why) (position_of w)) × Left result.walk result.leave }

@@ -20,7 +20,7 @@ use Rattle.walk.specs.Ends.{Facts}
 use Rattle.walk.proofs.EndLaws.{walk_facts}
 use Rattle.walk.specs.Answer.{answer_of, found_in, end_of, EndedBy, Ended, Closes, Answered}
 
--- the end of an answer has the number that the answer is given out with
+-- the number of an end is the one that the answer is given out with
 pub end_coded : (r : Walked Errno) → end_of r ≡ record { number = code r.found; steps = r.steps; found = found_in r.path r.found }
 end_coded r = refl
 

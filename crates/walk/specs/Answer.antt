@@ -27,7 +27,7 @@ abbrev pub RangedIn : {R : Type 0} → List ℕ → Result Found R → Type 0
 RangedIn path (Ok f) = Ranged path f
 RangedIn path (Err e) = Unit {0}
 
--- the end, by the number of what refuses the walk
+-- the number of an answer, 0 unless the walk was refused, and the end that it stands for, however refusals are numbered
 abbrev pub code_by : {R : Type 0} → (R → ℕ) → Result Found R → ℕ
 code_by n (Ok f) = 0
 code_by n (Err e) = n e
@@ -35,7 +35,7 @@ code_by n (Err e) = n e
 abbrev pub end_by : {R : Type 0} → (R → ℕ) → Walked R → End
 end_by n r = record { number = code_by n r.found; steps = r.steps; found = found_in r.path r.found }
 
--- by the numbers of Linux
+-- the same where they are numbered as on Linux
 abbrev pub end_of : Walked Errno → End
 end_of r = end_by number r
 
@@ -44,6 +44,7 @@ pub record EndedBy {R : Type 0} (n : R → ℕ) (r : Walked R) (e : End) : Type 
   pub is : end_by n r ≡ e
   pub range : RangedIn r.path r.found
 
+-- The same where refusals are numbered as on Linux.
 abbrev pub Ended : Walked Errno → End → Type 0
 Ended r e = EndedBy number r e
 

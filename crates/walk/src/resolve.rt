@@ -82,7 +82,7 @@ fn begin(path: &[u8], directory: usize, waived: bool) -> Walk
     }
 }
 
-// A walk that does not begin, for a reason that may be numbered in any way.
+// A walk that does not begin, for this reason, however reasons are numbered.
 pub fn stop<R>(why: R) -> Walked<R>
     ensures { (n : R → ℕ) → EndedBy n result (halt (n why)) }
 {
