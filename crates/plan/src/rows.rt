@@ -23,7 +23,7 @@ impl From<Group> for u8 {
 }
 
 // A plan's bytes, and how many rows stand in it.
-#[derive(Drop)]
+#[derive(Clone, Copy)]
 pub struct Rows {
     pub bytes: [u8; BYTES],
     pub count: usize,
