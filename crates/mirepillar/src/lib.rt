@@ -21,14 +21,20 @@ pub fn mp_check(image: &[u8]) -> u64
     u64::from(errno::number(&consistency::check(image)))
 }
 
-// The result of a plan: each part in bits of its own.
+// A result: each part in bits of its own.
+fn joined(number: u8, rows: usize, old: usize, new: usize) -> u64
+    requires { Small (record { number = number; rows = rows; old = old; new = new }) }
+    ensures { result ≡ packed (record { number = number; rows = rows; old = old; new = new }) }
+{
+    u64::from(number) + 256 * (rows as u64) + 65536 * (old as u64) + 4294967296 * (new as u64)
+}
+
+// The result of a plan.
 fn pack(r: Renamed) -> u64
     requires { Small (told r) }
     ensures { result ≡ packed (told r) }
 {
-    let number = errno::number(&r.rows);
-    let rows = r.rows.unwrap_or(0);
-    u64::from(number) + 256 * (rows as u64) + 65536 * (r.old as u64) + 4294967296 * (r.new as u64)
+    joined(errno::number(&r.rows), r.rows.unwrap_or(0), r.old, r.new)
 }
 
 // The job rename, or with its flag the exchange. The groups are those beside the effective one; of a list that is too long none is read. The starts of old and new are from and into.
@@ -75,10 +81,5 @@ pub fn mp_repair(image: &[u8], plan: &mut [u8], scratch: &mut [u8]) -> u64
     ensures { (result ≡ packed (without_walks (recovered plan.old scratch.old image.now))) × (plan.new ≡ (recovered plan.old scratch.old image.now).plan) × (scratch.new ≡ (recovered plan.old scratch.old image.now).scratch) }
 {
     let rows = recover::recover(image, plan, scratch);
-    let r = Renamed {
-        rows,
-        old: 0,
-        new: 0,
-    };
-    pack(r)
+    joined(errno::number(&rows), rows.unwrap_or(0), 0, 0)
 }

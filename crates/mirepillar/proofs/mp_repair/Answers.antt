@@ -4,13 +4,13 @@ use Rattle.recover.proofs.Outs.{answers_few}
 use Rattle.mirepillar.specs.Result.{packed}
 use Rattle.mirepillar.proofs.mp_repair.Goals as goal
 
-pub pack-requires : goal.pack-requires
-pack-requires c =
+pub joined-requires : goal.joined-requires
+joined-requires c =
     let few = answers_few c.args.plan.now c.args.scratch.now c.args.image.now c.recover-rows.ensures in
-    record { rows = few; old = omega arith; new = omega arith }
+    record { rows = rw c.unwrap_or.ensures few; old = omega arith; new = omega arith }
 
 pub returns : goal.returns
 returns c =
     let a = c.recover-rows.ensures in
-    let parts = ap₂ (λ (n rows : ℕ). packed (record { number = n; rows = rows; old = 0; new = 0 })) a.number a.rows in
-    (c.pack.ensures ∙ parts, a.plan_is, a.scratch_is)
+    let parts = ap₂ (λ (n k : ℕ). packed (record { number = n; rows = k; old = 0; new = 0 })) (c.number.ensures ∙ a.number) (c.unwrap_or.ensures ∙ a.rows) in
+    (c.joined.ensures ∙ parts, a.plan_is, a.scratch_is)
