@@ -80,6 +80,8 @@ pub fn mp_land(image: &mut [u8], plan: &[u8], row: u64) -> u64
 pub fn mp_repair(image: &[u8], plan: &mut [u8], scratch: &mut [u8]) -> u64
     ensures { (result ≡ packed (without_walks (recovered plan.old scratch.old image.now))) × (plan.new ≡ (recovered plan.old scratch.old image.now).plan) × (scratch.new ≡ (recovered plan.old scratch.old image.now).scratch) }
 {
-    let rows = recover::recover(image, plan, scratch);
-    joined(errno::number(&rows), rows.unwrap_or(0), 0, 0)
+    let answer = recover::recover(image, plan, scratch);
+    let number = errno::number(&answer);
+    let rows = answer.unwrap_or(0);
+    joined(number, rows, 0, 0)
 }

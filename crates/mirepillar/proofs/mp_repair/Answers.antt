@@ -6,11 +6,11 @@ use Rattle.mirepillar.proofs.mp_repair.Goals as goal
 
 pub joined-requires : goal.joined-requires
 joined-requires c =
-    let few = answers_few c.args.plan.now c.args.scratch.now c.args.image.now c.recover-rows.ensures in
-    record { rows = rw c.unwrap_or.ensures few; old = omega arith; new = omega arith }
+    let few = answers_few c.args.plan.now c.args.scratch.now c.args.image.now c.recover-answer.ensures in
+    record { rows = rw c.unwrap_or-rows.ensures few; old = omega arith; new = omega arith }
 
 pub returns : goal.returns
 returns c =
-    let a = c.recover-rows.ensures in
-    let parts = ap₂ (λ (n k : ℕ). packed (record { number = n; rows = k; old = 0; new = 0 })) (c.number.ensures ∙ a.number) (c.unwrap_or.ensures ∙ a.rows) in
+    let a = c.recover-answer.ensures in
+    let parts = ap₂ (λ (n k : ℕ). packed (record { number = n; rows = k; old = 0; new = 0 })) (c.number-number.ensures ∙ a.number) (c.unwrap_or-rows.ensures ∙ a.rows) in
     (c.joined.ensures ∙ parts, a.plan_is, a.scratch_is)
