@@ -8,8 +8,8 @@
  *
  * The functions keep nothing between calls: any threads may call them at once, as long as no buffer
  * that one call writes is given to another. They take no memory from the heap, open no file and do
- * not sleep. The stack that they need beside their buffers, on x86-64 and at most: mp_check 12,920 bytes,
- * mp_rename 14,424, mp_repair 13,816, mp_land 176 (tests/stack/run reads it from the compiled code).
+ * not sleep. The stack that they need beside their buffers, on x86-64 and at most: mp_check 8,808 bytes,
+ * mp_rename 11,384, mp_repair 10,936, mp_land 176 (tests/stack/run reads it from the compiled code).
  */
 #ifndef MIREPILLAR_H
 #define MIREPILLAR_H
