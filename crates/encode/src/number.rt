@@ -4,6 +4,7 @@ ghost use Rattle.seq.specs.Bytes.{put};
 ghost use Rattle.seq.specs.Number.{bytes_of};
 
 // Two bytes. Of a number that needs more, the low ones.
+#[tactic(auto, using(seq::proofs::SliceLaws::write_two))]
 pub fn put16(d: &mut [u8], at: usize, v: usize)
     requires { at + 2 ≤ length d.old }
     ensures { d.new ≡ put d.old at (bytes_of 2 v) }
