@@ -29,7 +29,7 @@ module _ (v : View) (q : Request) where
     by_names (Missing a b) (Existing k l) = refl
     by_names (Missing a b) (Missing g h) = refl
 
-  -- the case of any walks that have found so is that of any ends that found the same, by whatever path
+  -- the case of two walks that were both not refused is that of any ends that found the same, by whatever paths
   pub case_found : {c : Case} (first second : Walked Errno) {from into : Found} → first.found ≡ Ok from → second.found ≡ Ok into
       → c ≡ case_of v q (record { old = end_of first; new = end_of second })
       → (e : Ends) (p r : List ℕ) → e.old.found ≡ finding_of p from → e.new.found ≡ finding_of r into → c ≡ case_of v q e
