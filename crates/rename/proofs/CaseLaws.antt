@@ -21,9 +21,10 @@ module _ (v : View) (q : Request) where
   of_findings f g =
       case_of v q (record { old = record { number = 0; steps = 0; found = f }; new = record { number = 0; steps = 0; found = g } })
 
-  -- no part of it is read from a path
+  -- no part of it is read from a path: x and y are those of the one case, p and r those of the other
   module _ (p r x y : List ℕ) (d c : ℕ) (s t : Bool) where
-    by_names : (n m : Name) → of_findings (finding_by x d s n) (finding_by y c t m) ≡ of_findings (finding_by p d s n) (finding_by r c t m)
+    by_names : (n m : Name)
+        → of_findings (finding_by x d s n) (finding_by y c t m) ≡ of_findings (finding_by p d s n) (finding_by r c t m)
     by_names (Existing j i) (Existing k l) = refl
     by_names (Existing j i) (Missing a b) = refl
     by_names (Missing a b) (Existing k l) = refl
